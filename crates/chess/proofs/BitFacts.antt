@@ -1,6 +1,11 @@
--- Twelve words as a board: the man on a square, a man that is put, and the words of a man and of the empty squares.
-use Rattle.std.proofs.Common.{◌≡◌, ◌↔◌, ◌⊎◌, ◌<◌, ◌≤◌, ◌+◌, ◌-◌, ◌^◌, bit_or, bit_and, w64, length, slice_set, ◌&&◌, ◌||◌, ℕ, zero, suc, Bool, true, false, not, nat_eq, inl, inr, ap, refl, sym, subst, ◌∙◌, arith, if◌then◌else◌, List, Option, Some, None}
-use Rattle.std.proofs.lemmas.Bool.{agree_below, agree_below_at, cases_eq, eqb-true, eq-eqb, ne_eqb, not-true, or_cases, or_left, or_right, cases_Bool}
+-- Twelve words as a board: the man on a square, a man that is put, and the words of a man and of
+-- the empty squares.
+use Rattle.std.proofs.Common.{◌≡◌, ◌↔◌, ◌⊎◌, ◌<◌, ◌≤◌, ◌+◌, ◌-◌, ◌^◌, bit_or, bit_and, w64, length}
+use Rattle.std.proofs.Common.{slice_set, ◌&&◌, ◌||◌, ℕ, zero, suc, Bool, true, false, not, nat_eq}
+use Rattle.std.proofs.Common.{inl, inr, ap, refl, sym, subst, ◌∙◌, arith, if◌then◌else◌, List}
+use Rattle.std.proofs.Common.{Option, Some, None}
+use Rattle.std.proofs.lemmas.Bool.{agree_below, agree_below_at, cases_eq, eqb-true, eq-eqb, ne_eqb}
+use Rattle.std.proofs.lemmas.Bool.{not-true, or_cases, or_left, or_right, cases_Bool}
 use Rattle.std.specs.Int.{bit_at, bit_not}
 use Rattle.std.proofs.lemmas.Nat.Bits.{bit_at-lt, bit_at_not, bit_at-pow_same, bit_at-pow_other}
 use Rattle.std.specs.Prelude.{replicate}
@@ -12,7 +17,9 @@ use Rattle.chess.specs.Public.Placements.{Placement, no_men, man_at, with_man, I
 use Rattle.chess.specs.Shared.SetWords.{has_bit}
 use Rattle.chess.specs.Shared.SetFacts.{index_of-below, false_of}
 use Rattle.chess.specs.Shared.CellFacts.{man_at-men_of, men_of-put, men_of-none}
-use Rattle.chess.specs.Private.BitWords.{IsWordOf, AreApart, man_below, man_in, words_men, word_at, square_word, row_of, man_of_row, is_row, IsCleared, IsBitSet, number_of_side, number_of_kind}
+use Rattle.chess.specs.Private.BitWords.{IsWordOf, AreApart, man_below, man_in, words_men, word_at}
+use Rattle.chess.specs.Private.BitWords.{square_word, row_of, man_of_row, is_row, IsCleared}
+use Rattle.chess.specs.Private.BitWords.{IsBitSet, number_of_side, number_of_kind}
 use Rattle.chess.specs.declared.board.man.Man.{Man}
 use Rattle.chess.specs.declared.board.man.Side.{Side}
 use Rattle.chess.specs.declared.board.man.Kind.{Kind}
@@ -23,7 +30,8 @@ use Rattle.chess.proofs.FillFacts.{bit_of_either, bit_of_both, no_bit, common_no
 
 -- ---- the words of men
 
-men_back : (side : Side) (other : Kind) → man_of_row (number_of_side side + number_of_kind other) ≡ record { side = side; kind = other }
+men_back : (side : Side) (other : Kind)
+    → man_of_row (number_of_side side + number_of_kind other) ≡ record { side = side; kind = other }
 men_back White King = refl
 men_back White Queen = refl
 men_back White Rook = refl
@@ -68,54 +76,67 @@ row_of-below man = let a = side_below man.side in let b = kind_below man.kind in
 
 -- ---- the man on a square
 
-pub has_man : (words : List ℕ) (n k i : ℕ) → AreApart words → n ≤ 12 → k < n → i < 64 → has_bit (word_at words k) i ≡ true
+pub has_man : (words : List ℕ) (n k i : ℕ) → AreApart words → n ≤ 12 → k < n → i < 64
+    → has_bit (word_at words k) i ≡ true
     → man_below words n i ≡ Some (man_of_row k)
 unfolding man_below
 has_man words zero k i apart within less on bit = absurd (omega arith)
 has_man words (suc n) k i apart within less on bit =
-    elim (has_bit (word_at words n) i) as (λ b. has_bit (word_at words n) i ≡ b → (if b then Some (man_of_row n) else man_below words n i) ≡ Some (man_of_row k)) [
+    elim (has_bit (word_at words n) i) as (λ b. has_bit (word_at words n) i ≡ b
+    → (if b then Some (man_of_row n) else man_below words n i) ≡ Some (man_of_row k)) [
       | true ↦ λ e. ap (λ m. Some (man_of_row m)) (apart n k i (omega arith) (omega arith) on e bit)
       | false ↦ λ e. elim (cases_eq k n) [
-        | inl same ↦ absurd (true_not_false _ (ap (λ m. has_bit (word_at words m) i) (sym same) ∙ bit) e)
+        | inl same ↦ absurd (true_not_false _ (ap (λ m. has_bit (word_at words m) i) (sym same)
+            ∙ bit) e)
         | inr other ↦ has_man words n k i apart (omega arith) (omega arith) on bit
       ]
     ] refl
 
-pub no_man : (words : List ℕ) (n i : ℕ) → ((k : ℕ) → k < n → has_bit (word_at words k) i ≡ false) → man_below words n i ≡ None
+pub no_man : (words : List ℕ) (n i : ℕ) → ((k : ℕ) → k < n → has_bit (word_at words k) i ≡ false)
+    → man_below words n i ≡ None
 unfolding man_below
 no_man words zero i none = refl
 no_man words (suc n) i none =
-    ap (λ b. if b then Some (man_of_row n) else man_below words n i) (none n (omega arith)) ∙ no_man words n i (λ k less. none k (omega arith))
+    ap (λ b. if b then Some (man_of_row n) else man_below words n i) (none n (omega arith))
+    ∙ no_man words n i (λ k less. none k (omega arith))
 
 pub found_man : (words : List ℕ) (n i : ℕ) (man : Man) → man_below words n i ≡ Some man
     → (k : ℕ) × (k < n) × (has_bit (word_at words k) i ≡ true) × (man ≡ man_of_row k)
 unfolding man_below
 found_man words zero i man e = let f : None ≡ Some man = e in absurd (cc)
 found_man words (suc n) i man e =
-    elim (has_bit (word_at words n) i) as (λ b. has_bit (word_at words n) i ≡ b → (if b then Some (man_of_row n) else man_below words n i) ≡ Some man
+    elim (has_bit (word_at words n) i) as (λ b. has_bit (word_at words n) i ≡ b
+    → (if b then Some (man_of_row n) else man_below words n i) ≡ Some man
     → (k : ℕ) × (k < suc n) × (has_bit (word_at words k) i ≡ true) × (man ≡ man_of_row k)) [
       | true ↦ λ bit f. (n, omega arith, bit, cc)
-      | false ↦ λ bit f. let h = found_man words n i man f in let less = h.1 in (h.0, omega arith, h.2, h.3)
+      | false ↦ λ bit f. let h = found_man words n i man f in let less = h.1 in
+          (h.0, omega arith, h.2, h.3)
     ] refl e
 
-pub man_at-words : (words : List ℕ) (s : Place) → IsOnBoard s → man_at (words_men words) s ≡ man_in words (index_of s)
+pub man_at-words : (words : List ℕ) (s : Place) → IsOnBoard s
+    → man_at (words_men words) s ≡ man_in words (index_of s)
 man_at-words words s on = man_at-men_of (man_in words) s on
 
 -- a man's word has the squares on which he stands
-pub word_of_man : (words : List ℕ) (man : Man) → AreApart words → IsWordOf (λ s. man_at (words_men words) s ≡ Some man) (word_at words (row_of man))
+pub word_of_man : (words : List ℕ) (man : Man) → AreApart words
+    → IsWordOf (λ s. man_at (words_men words) s ≡ Some man) (word_at words (row_of man))
 word_of_man words man apart s on =
     let at = man_at-words words s on in (
-      (λ e. at ∙ has_man words 12 (row_of man) (index_of s) apart (omega arith) (row_of-below man) (index_of-below s on) e ∙ ap Some (man_of_row-row_of man)),
+      (λ e. at
+          ∙ has_man words 12 (row_of man) (index_of s) apart (omega arith) (row_of-below man)
+          (index_of-below s on) e ∙ ap Some (man_of_row-row_of man)),
       (λ here.
           let f = found_man words 12 (index_of s) man (sym at ∙ here) in
-          subst (λ r. has_bit (word_at words r) (index_of s) ≡ true) (sym (ap row_of f.3 ∙ row_of-man_of_row f.0 f.1)) f.2),
+          subst (λ r. has_bit (word_at words r) (index_of s)
+          ≡ true) (sym (ap row_of f.3 ∙ row_of-man_of_row f.0 f.1)) f.2),
     )
 
 -- ---- the empty squares
 
 -- the bits of the first n words
 abbrev pub IsUnion : List ℕ → ℕ → ℕ → Type 0
-IsUnion words n all = (i : ℕ) → (has_bit all i ≡ true) ↔ ((k : ℕ) × (k < n) × (has_bit (word_at words k) i ≡ true))
+IsUnion words n all = (i : ℕ) → (has_bit all i ≡ true)
+    ↔ ((k : ℕ) × (k < n) × (has_bit (word_at words k) i ≡ true))
 
 pub union_none : (words : List ℕ) → IsUnion words 0 0
 union_none words i = (
@@ -123,7 +144,8 @@ union_none words i = (
   (λ h. let less = h.1 in absurd (omega arith)),
 )
 
-pub union_more : (words : List ℕ) (n all : ℕ) → IsUnion words n all → IsUnion words (n + 1) (bit_or all (word_at words n))
+pub union_more : (words : List ℕ) (n all : ℕ) → IsUnion words n all
+    → IsUnion words (n + 1) (bit_or all (word_at words n))
 union_more words n all so_far i =
     let bit = bit_of_either all (word_at words n) i in (
       (λ e. elim (or_cases _ _ (sym bit ∙ e)) [
@@ -143,7 +165,8 @@ pub no_man_or : (o : Option Man) → (o ≡ None) ⊎ (o ≡ None → ⊥)
 no_man_or None = inl refl
 no_man_or (Some man) = inr (λ e. cc)
 
-pub word_of_men : (words : List ℕ) (all : ℕ) → AreApart words → IsUnion words 12 all → IsWordOf (λ s. ¬ IsEmpty (words_men words) s) all
+pub word_of_men : (words : List ℕ) (all : ℕ) → AreApart words → IsUnion words 12 all
+    → IsWordOf (λ s. ¬ IsEmpty (words_men words) s) all
 word_of_men words all apart union s on =
     let at = man_at-words words s on in
     let i = index_of s in (
@@ -153,17 +176,24 @@ word_of_men words all apart union s on =
           let clash : None ≡ Some (man_of_row k.0) = sym here ∙ at ∙ man in cc),
       (λ some. elim (cases_Bool (has_bit all i)) [
         | inl bit ↦ bit
-        | inr none ↦ absurd (some (at ∙ no_man words 12 i (λ k less. false_of _ (λ one. true_not_false _ ((union i).1 (k, less, one)) none))))
+        | inr none ↦ absurd
+            (some (at
+            ∙ no_man words 12 i (λ k less.
+            false_of _ (λ one. true_not_false _ ((union i).1 (k, less, one)) none))))
       ]),
     )
 
-pub bit_of_rest : (word i : ℕ) → word < 2 ^ 64 → i < 64 → has_bit (bit_not w64 word) i ≡ not (has_bit word i)
-bit_of_rest word i fits on = ap (λ n. nat_eq n 1) (bit_at_not w64 word i fits on) ∙ not_one (bit_at word i) (bit_at-lt word i)
+pub bit_of_rest : (word i : ℕ) → word < 2 ^ 64 → i < 64
+    → has_bit (bit_not w64 word) i ≡ not (has_bit word i)
+bit_of_rest word i fits on = ap (λ n. nat_eq n 1) (bit_at_not w64 word i fits on)
+    ∙ not_one (bit_at word i) (bit_at-lt word i)
 
-pub word_of_empty : (p : Placement) (all : ℕ) → IsWordOf (λ s. ¬ IsEmpty p s) all → all < 2 ^ 64 → IsWordOf (IsEmpty p) (bit_not w64 all)
+pub word_of_empty : (p : Placement) (all : ℕ) → IsWordOf (λ s. ¬ IsEmpty p s) all → all < 2 ^ 64
+    → IsWordOf (IsEmpty p) (bit_not w64 all)
 word_of_empty p all men fits s on =
     let i = index_of s in
-    let bit : has_bit (bit_not w64 all) i ≡ not (has_bit all i) = bit_of_rest all i fits (index_of-below s on) in (
+    let bit : has_bit (bit_not w64 all) i ≡ not (has_bit all i) =
+    bit_of_rest all i fits (index_of-below s on) in (
       (λ e. elim (no_man_or (man_at p s)) [
         | inl none ↦ none
         | inr some ↦ absurd (true_not_false _ ((men s on).1 some) (not-true _ (sym bit ∙ e)))
@@ -171,14 +201,18 @@ word_of_empty p all men fits s on =
       (λ here. bit ∙ ap not (false_of (has_bit all i) (λ one. (men s on).0 one here))),
     )
 
-pub empty_by_word : (p : Placement) (all word : ℕ) (s : Place) → IsOnBoard s → word ≡ square_word s → IsWordOf (λ s. ¬ IsEmpty p s) all
+pub empty_by_word : (p : Placement) (all word : ℕ) (s : Place) → IsOnBoard s → word ≡ square_word s
+    → IsWordOf (λ s. ¬ IsEmpty p s) all
     → (nat_eq (bit_and all word) 0 ≡ true) ↔ IsEmpty p s
 empty_by_word p all word s on is men = (
   (λ e. elim (no_man_or (man_at p s)) [
     | inl none ↦ none
     | inr some ↦ absurd (common_some all word s is ((men s on).1 some) (eqb-true _ 0 e))
   ]),
-  (λ here. eq-eqb _ 0 (common_none all word s is (false_of (has_bit all (index_of s)) (λ one. (men s on).0 one here)))),
+  (λ here.
+      eq-eqb _ 0
+      (common_none all word s is
+      (false_of (has_bit all (index_of s)) (λ one. (men s on).0 one here)))),
 )
 
 -- ---- a man that is put
@@ -186,53 +220,72 @@ empty_by_word p all word s on is men = (
 -- the square has the man's bit alone, and all other squares have theirs as before
 abbrev pub IsPut : List ℕ → List ℕ → ℕ → Option Man → Type 0
 IsPut old new at man =
-    (k i : ℕ) → k < 12 → i < 64 → has_bit (word_at new k) i ≡ (if nat_eq i at then is_row man k else has_bit (word_at old k) i)
+    (k i : ℕ) → k < 12 → i < 64 → has_bit (word_at new k) i
+    ≡ (if nat_eq i at then is_row man k else has_bit (word_at old k) i)
 
-put_here : (old new : List ℕ) (at : ℕ) (man : Option Man) → IsPut old new at man → (k i : ℕ) → k < 12 → i < 64 → i ≡ at → has_bit (word_at new k) i ≡ is_row man k
+put_here : (old new : List ℕ) (at : ℕ) (man : Option Man) → IsPut old new at man → (k i : ℕ)
+    → k < 12 → i < 64 → i ≡ at → has_bit (word_at new k) i ≡ is_row man k
 put_here old new at man put k i within on e =
-    put k i within on ∙ ap (λ b. if b then is_row man k else has_bit (word_at old k) i) (eq-eqb i at e)
+    put k i within on
+    ∙ ap (λ b. if b then is_row man k else has_bit (word_at old k) i) (eq-eqb i at e)
 
-put_there : (old new : List ℕ) (at : ℕ) (man : Option Man) → IsPut old new at man → (k i : ℕ) → k < 12 → i < 64 → (i ≡ at → ⊥)
+put_there : (old new : List ℕ) (at : ℕ) (man : Option Man) → IsPut old new at man → (k i : ℕ)
+    → k < 12 → i < 64 → (i ≡ at → ⊥)
     → has_bit (word_at new k) i ≡ has_bit (word_at old k) i
 put_there old new at man put k i within on e =
-    put k i within on ∙ ap (λ b. if b then is_row man k else has_bit (word_at old k) i) (ne_eqb i at e)
+    put k i within on
+    ∙ ap (λ b. if b then is_row man k else has_bit (word_at old k) i) (ne_eqb i at e)
 
 one_row : (man : Option Man) (j k : ℕ) → is_row man j ≡ true → is_row man k ≡ true → j ≡ k
 one_row None j k a b = let f : false ≡ true = a in absurd (cc)
 one_row (Some man) j k a b = eqb-true j (row_of man) a ∙ sym (eqb-true k (row_of man) b)
 
-pub put_apart : (old new : List ℕ) (at : ℕ) (man : Option Man) → AreApart old → IsPut old new at man → AreApart new
+pub put_apart : (old new : List ℕ) (at : ℕ) (man : Option Man) → AreApart old → IsPut old new at man
+    → AreApart new
 put_apart old new at man apart put j k i in_j in_k on a b = elim (cases_eq i at) [
-  | inl same ↦ one_row man j k (sym (put_here old new at man put j i in_j on same) ∙ a) (sym (put_here old new at man put k i in_k on same) ∙ b)
+  | inl same ↦ one_row man j k (sym (put_here old new at man put j i in_j on same)
+      ∙ a) (sym (put_here old new at man put k i in_k on same) ∙ b)
   | inr other ↦
-      apart j k i in_j in_k on (sym (put_there old new at man put j i in_j on other) ∙ a) (sym (put_there old new at man put k i in_k on other) ∙ b)
+      apart j k i in_j in_k on (sym (put_there old new at man put j i in_j on other)
+      ∙ a) (sym (put_there old new at man put k i in_k on other) ∙ b)
 ]
 
-man_here : (old new : List ℕ) (at : ℕ) (man : Option Man) → at < 64 → AreApart new → IsPut old new at man → man_below new 12 at ≡ man
-man_here old new at None on apart put = no_man new 12 at (λ k less. put_here old new at None put k at less on refl)
+man_here : (old new : List ℕ) (at : ℕ) (man : Option Man) → at < 64 → AreApart new
+    → IsPut old new at man → man_below new 12 at ≡ man
+man_here old new at None on apart put =
+    no_man new 12 at (λ k less. put_here old new at None put k at less on refl)
 man_here old new at (Some man) on apart put =
     has_man new 12 (row_of man) at apart (omega arith) (row_of-below man) on
-    (put_here old new at (Some man) put (row_of man) at (row_of-below man) on refl ∙ eq-eqb (row_of man) (row_of man) refl)
+    (put_here old new at (Some man) put (row_of man) at (row_of-below man) on refl
+    ∙ eq-eqb (row_of man) (row_of man) refl)
     ∙ ap Some (man_of_row-row_of man)
 
-man_there : (old new : List ℕ) (n i : ℕ) → ((k : ℕ) → k < n → has_bit (word_at new k) i ≡ has_bit (word_at old k) i) → man_below new n i ≡ man_below old n i
+man_there : (old new : List ℕ) (n i : ℕ)
+    → ((k : ℕ) → k < n → has_bit (word_at new k) i ≡ has_bit (word_at old k) i)
+    → man_below new n i ≡ man_below old n i
 unfolding man_below
 man_there old new zero i same = refl
 man_there old new (suc n) i same =
     ap (λ b. if b then Some (man_of_row n) else man_below new n i) (same n (omega arith))
-    ∙ ap (λ (m : Option Man). if has_bit (word_at old n) i then Some (man_of_row n) else m) (man_there old new n i (λ k less. same k (omega arith)))
+    ∙ ap (λ (m : Option Man). if has_bit (word_at old n) i then Some (man_of_row n)
+    else m) (man_there old new n i (λ k less. same k (omega arith)))
 
-pub put_men : (old new : List ℕ) (s : Place) (man : Option Man) → IsOnBoard s → AreApart old → IsPut old new (index_of s) man
+pub put_men : (old new : List ℕ) (s : Place) (man : Option Man) → IsOnBoard s → AreApart old
+    → IsPut old new (index_of s) man
     → words_men new ≡ with_man (words_men old) s man
 put_men old new s man on apart put =
     men_of-put (man_in old) (man_in new) s man on
-    (man_here old new (index_of s) man (index_of-below s on) (put_apart old new (index_of s) man apart put) put)
-    (λ i within other. man_there old new 12 i (λ k less. put_there old new (index_of s) man put k i less within other))
+    (man_here old new (index_of s) man (index_of-below s on)
+    (put_apart old new (index_of s) man apart put) put)
+    (λ i within other.
+    man_there old new 12 i (λ k less.
+    put_there old new (index_of s) man put k i less within other))
 
 -- the code's two steps
 pub square_bit : (at i : ℕ) → has_bit (2 ^ at) i ≡ nat_eq i at
 square_bit at i = elim (cases_eq i at) [
-  | inl same ↦ ap (λ j. has_bit (2 ^ at) j) same ∙ eq-eqb _ 1 (bit_at-pow_same at) ∙ sym (eq-eqb i at same)
+  | inl same ↦ ap (λ j. has_bit (2 ^ at) j) same ∙ eq-eqb _ 1 (bit_at-pow_same at)
+      ∙ sym (eq-eqb i at same)
   | inr other ↦ ap (λ n. nat_eq n 1) (bit_at-pow_other at i other) ∙ sym (ne_eqb i at other)
 ]
 
@@ -254,47 +307,60 @@ set_put false false false = refl
 
 pub put_none : (old new : List ℕ) (at : ℕ) → IsCleared old new (2 ^ at) → IsPut old new at None
 put_none old new at cleared k i less on =
-    cleared k i less on ∙ ap (λ b. has_bit (word_at old k) i && not b) (square_bit at i) ∙ cleared_put (has_bit (word_at old k) i) (nat_eq i at)
+    cleared k i less on ∙ ap (λ b. has_bit (word_at old k) i && not b) (square_bit at i)
+    ∙ cleared_put (has_bit (word_at old k) i) (nat_eq i at)
 
-pub put_some : (old mid new : List ℕ) (at : ℕ) (man : Man) → IsCleared old mid (2 ^ at) → IsBitSet mid new (row_of man) at → IsPut old new at (Some man)
+pub put_some : (old mid new : List ℕ) (at : ℕ) (man : Man) → IsCleared old mid (2 ^ at)
+    → IsBitSet mid new (row_of man) at → IsPut old new at (Some man)
 put_some old mid new at man cleared set k i less on =
     set k i less on ∙ ap (λ b. (nat_eq k (row_of man) && nat_eq i at) || b) (cleared k i less on)
-    ∙ ap (λ b. (nat_eq k (row_of man) && nat_eq i at) || (has_bit (word_at old k) i && not b)) (square_bit at i)
+    ∙ ap (λ b. (nat_eq k (row_of man) && nat_eq i at)
+    || (has_bit (word_at old k) i && not b)) (square_bit at i)
     ∙ set_put (has_bit (word_at old k) i) (nat_eq i at) (nat_eq k (row_of man))
 
 -- the first n words are cleared
 pub record IsClearedTo (old new : List ℕ) (n squares : ℕ) : Type 0 where
   pub size : length new ≡ 12
-  pub before : (k i : ℕ) → k < n → i < 64 → has_bit (word_at new k) i ≡ (has_bit (word_at old k) i && not (has_bit squares i))
+  pub before : (k i : ℕ) → k < n → i < 64
+      → has_bit (word_at new k) i ≡ (has_bit (word_at old k) i && not (has_bit squares i))
   pub after : (k : ℕ) → n ≤ k → word_at new k ≡ word_at old k
 
 pub cleared_bit : (word squares i : ℕ) → squares < 2 ^ 64 → i < 64
     → has_bit (bit_and word (bit_not w64 squares)) i ≡ (has_bit word i && not (has_bit squares i))
-cleared_bit word squares i fits on = bit_of_both word (bit_not w64 squares) i ∙ ap (λ b. has_bit word i && b) (bit_of_rest squares i fits on)
+cleared_bit word squares i fits on = bit_of_both word (bit_not w64 squares) i
+    ∙ ap (λ b. has_bit word i && b) (bit_of_rest squares i fits on)
 
-pub cleared_more : (old new : List ℕ) (n squares : ℕ) → squares < 2 ^ 64 → n < 12 → IsClearedTo old new n squares
-    → IsClearedTo old (slice_set new n (bit_and (word_at new n) (bit_not w64 squares))) (n + 1) squares
+pub cleared_more : (old new : List ℕ) (n squares : ℕ) → squares < 2 ^ 64 → n < 12
+    → IsClearedTo old new n squares
+    → IsClearedTo old (slice_set new n (bit_and (word_at new n) (bit_not w64 squares))) (n
+    + 1) squares
 cleared_more old new n squares fits on so_far =
     let size = so_far.size in
     let word = bit_and (word_at new n) (bit_not w64 squares) in record {
       size = length-set new n word ∙ size;
       before = λ k i less in_word. elim (cases_eq k n) [
         | inl same ↦
-            ap (λ j. has_bit (word_at (slice_set new n word) j) i) same ∙ ap (λ w. has_bit w i) (get_or-set_same new n word 0 (omega arith))
+            ap (λ j. has_bit (word_at (slice_set new n word) j) i) same
+            ∙ ap (λ w. has_bit w i) (get_or-set_same new n word 0 (omega arith))
             ∙ cleared_bit (word_at new n) squares i fits in_word
             ∙ ap (λ w. has_bit w i && not (has_bit squares i)) (so_far.after n (omega arith))
             ∙ ap (λ j. has_bit (word_at old j) i && not (has_bit squares i)) (sym same)
-        | inr other ↦ ap (λ w. has_bit w i) (get_or-set_other new n k word 0 other) ∙ so_far.before k i (omega arith) in_word
+        | inr other ↦ ap (λ w. has_bit w i) (get_or-set_other new n k word 0 other)
+            ∙ so_far.before k i (omega arith) in_word
       ];
-      after = λ k more. get_or-set_other new n k word 0 (λ e. omega arith) ∙ so_far.after k (omega arith);
+      after = λ k more. get_or-set_other new n k word 0 (λ e. omega arith)
+          ∙ so_far.after k (omega arith);
     }
 
-pub set_one : (old : List ℕ) (row at : ℕ) → length old ≡ 12 → row < 12 → IsBitSet old (slice_set old row (bit_or (word_at old row) (2 ^ at))) row at
+pub set_one : (old : List ℕ) (row at : ℕ) → length old ≡ 12 → row < 12
+    → IsBitSet old (slice_set old row (bit_or (word_at old row) (2 ^ at))) row at
 set_one old row at size in_row k i less on =
     let word = bit_or (word_at old row) (2 ^ at) in elim (cases_eq k row) [
       | inl same ↦
-          ap (λ j. has_bit (word_at (slice_set old row word) j) i) same ∙ ap (λ w. has_bit w i) (get_or-set_same old row word 0 (omega arith))
-          ∙ bit_of_either (word_at old row) (2 ^ at) i ∙ or_comm (has_bit (word_at old row) i) (has_bit (2 ^ at) i)
+          ap (λ j. has_bit (word_at (slice_set old row word) j) i) same
+          ∙ ap (λ w. has_bit w i) (get_or-set_same old row word 0 (omega arith))
+          ∙ bit_of_either (word_at old row) (2 ^ at) i
+          ∙ or_comm (has_bit (word_at old row) i) (has_bit (2 ^ at) i)
           ∙ ap (λ b. b || has_bit (word_at old row) i) (square_bit at i)
           ∙ ap (λ j. nat_eq i at || has_bit (word_at old j) i) (sym same)
           ∙ sym (ap (λ b. (b && nat_eq i at) || has_bit (word_at old k) i) (eq-eqb k row same))
@@ -311,4 +377,6 @@ pub no_words_apart : AreApart (replicate 12 0)
 no_words_apart j k i in_j in_k on a b = absurd (true_not_false _ a (no_words j i in_j))
 
 pub no_words_men : words_men (replicate 12 0) ≡ no_men
-no_words_men = men_of-none (man_in (replicate 12 0)) (λ n. no_man (replicate 12 0) 12 n (λ k less. no_words k n less)) 64
+no_words_men =
+    men_of-none (man_in (replicate 12 0)) (λ n.
+    no_man (replicate 12 0) 12 n (λ k less. no_words k n less)) 64

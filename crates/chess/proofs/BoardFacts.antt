@@ -1,9 +1,11 @@
 -- Facts that boards rest on.
-use Rattle.std.proofs.Common.{◌≡◌, ◌↔◌, ◌<◌, ◌≤◌, ◌+◌, ◌&&◌, ◌||◌, ℕ, Bool, true, false, inl, inr, ap, refl, sym, subst, ◌∙◌, arith, IsTrue, Some, None}
+use Rattle.std.proofs.Common.{◌≡◌, ◌↔◌, ◌<◌, ◌≤◌, ◌+◌, ◌&&◌, ◌||◌, ℕ, Bool, true, false, inl, inr}
+use Rattle.std.proofs.Common.{ap, refl, sym, subst, ◌∙◌, arith, IsTrue, Some, None}
 use Rattle.std.proofs.lemmas.Bool.{cases_eq, or_cases, or_left, true≢false}
 use Rattle.chess.specs.Public.Squares.{Place, IsOnBoard, square_at, index_of, same_square}
 use Rattle.chess.specs.Shared.SquareFacts.{index_of-square_at}
-use Rattle.chess.specs.Shared.SetFacts.{square_at-index_of, on_board-square_at, same_squares, other_squares, is_in-empty}
+use Rattle.chess.specs.Shared.SetFacts.{square_at-index_of, on_board-square_at, same_squares}
+use Rattle.chess.specs.Shared.SetFacts.{other_squares, is_in-empty}
 use Rattle.chess.specs.Public.Placements.{Placement, man_at}
 use Rattle.chess.specs.Public.Sets.{Places, is_in, no_places, IsReachOf}
 use Rattle.chess.proofs.PlaceFacts.{same_square-then}
@@ -19,14 +21,18 @@ pub record IsGathered (fact : Place → Type 0) (n : ℕ) (set : Places) : Type 
 the_square : (s : Place) (n : ℕ) → IsOnBoard s → index_of s ≡ n → s ≡ square_at n
 the_square s n on_board e = sym (square_at-index_of s on_board) ∙ ap square_at e
 
-pub gathered_more : (fact : Place → Type 0) (n : ℕ) (old new : Places) → n < 64 → IsGathered fact n old → fact (square_at n)
-    → ((s : Place) → is_in new s ≡ (same_square (square_at n) s || is_in old s)) → IsGathered fact (n + 1) new
+pub gathered_more : (fact : Place → Type 0) (n : ℕ) (old new : Places) → n < 64
+    → IsGathered fact n old → fact (square_at n)
+    → ((s : Place) → is_in new s ≡ (same_square (square_at n) s || is_in old s))
+    → IsGathered fact (n + 1) new
 gathered_more fact n old new h so_far holds put = record {
   there = λ s on_board less. elim (cases_eq (index_of s) n) [
     | inl same ↦
         let here = the_square s n on_board same in
         let in_set : is_in new s ≡ true =
-        put s ∙ or_left _ (is_in old s) (same_squares (square_at n) s (on_board-square_at n h) on_board (ap index_of (sym here))) in
+        put s ∙ or_left _ (is_in old s)
+        (same_squares (square_at n) s (on_board-square_at n h) on_board
+        (ap index_of (sym here))) in
         ((λ e. subst fact (sym here) holds), (λ f. in_set))
     | inr other ↦
         let apart = other_squares (square_at n) s (on_board-square_at n h) on_board
@@ -39,18 +45,22 @@ gathered_more fact n old new h so_far holds put = record {
       let apart = other_squares (square_at n) s (on_board-square_at n h) on_board
       (λ e. let place = index_of-square_at n h in omega arith) in
       put s ∙ ap (λ b. b || is_in old s) apart ∙ so_far.none s on_board (omega arith);
-  inside = λ s here. elim (or_cases (same_square (square_at n) s) (is_in old s) (sym (put s) ∙ here)) [
-    | inl added ↦ subst IsOnBoard (same_square-then (square_at n) s added) (on_board-square_at n h)
-    | inr before ↦ so_far.inside s before
-  ];
+  inside =
+      λ s here. elim (or_cases (same_square (square_at n) s) (is_in old s) (sym (put s) ∙ here)) [
+        | inl added ↦ subst IsOnBoard (same_square-then (square_at n) s added)
+            (on_board-square_at n h)
+        | inr before ↦ so_far.inside s before
+      ];
 }
 
-pub gathered_skip : (fact : Place → Type 0) (n : ℕ) (set : Places) → n < 64 → IsGathered fact n set → (fact (square_at n) → ⊥) → IsGathered fact (n + 1) set
+pub gathered_skip : (fact : Place → Type 0) (n : ℕ) (set : Places) → n < 64 → IsGathered fact n set
+    → (fact (square_at n) → ⊥) → IsGathered fact (n + 1) set
 gathered_skip fact n set h so_far fails = record {
   there = λ s on_board less. elim (cases_eq (index_of s) n) [
     | inl same ↦
         let here = the_square s n on_board same in (
-          (λ e. let out = so_far.none s on_board (omega arith) in let no : true ≡ false = sym e ∙ out in absurd (true≢false no)),
+          (λ e. let out = so_far.none s on_board (omega arith) in let no : true ≡ false =
+              sym e ∙ out in absurd (true≢false no)),
           (λ f. absurd (fails (subst fact here f))),
         )
     | inr other ↦ so_far.there s on_board (omega arith)
@@ -69,20 +79,24 @@ gathered_same fact n old new so_far same = record {
   inside = λ s here. so_far.inside s (sym (same s) ∙ here);
 }
 
-pub gathered_step : (fact : Place → Type 0) (n : ℕ) (old new : Places) (t : Place) (b : Bool) → n < 64 → IsGathered fact n old → t ≡ square_at n
-    → IsTrue b ↔ fact t → ((s : Place) → is_in new s ≡ ((b && same_square t s) || is_in old s)) → IsGathered fact (n + 1) new
+pub gathered_step : (fact : Place → Type 0) (n : ℕ) (old new : Places) (t : Place) (b : Bool)
+    → n < 64 → IsGathered fact n old → t ≡ square_at n
+    → IsTrue b ↔ fact t → ((s : Place) → is_in new s ≡ ((b && same_square t s) || is_in old s))
+    → IsGathered fact (n + 1) new
 gathered_step fact n old new t true h so_far here test put =
     gathered_more fact n old new h so_far (subst fact here (test.0 refl))
     (λ s. put s ∙ ap (λ (u : Place). same_square u s || is_in old s) here)
 gathered_step fact n old new t false h so_far here test put =
     gathered_same fact (n + 1) old new
-    (gathered_skip fact n old h so_far (λ f. let no : false ≡ true = test.1 (subst fact (sym here) f) in absurd (true≢false (sym no)))) put
+    (gathered_skip fact n old h so_far (λ f. let no : false ≡ true =
+    test.1 (subst fact (sym here) f) in absurd (true≢false (sym no)))) put
 
 pub gathered_none : (fact : Place → Type 0) (set : Places) → set ≡ no_places → IsGathered fact 0 set
 gathered_none fact set e = record {
   there = λ s on_board less. absurd (omega arith);
   none = λ s on_board more. ap (λ set. is_in set s) e ∙ is_in-empty s;
-  inside = λ s here. let clash : true ≡ false = sym here ∙ ap (λ set. is_in set s) e ∙ is_in-empty s in absurd (true≢false clash);
+  inside = λ s here. let clash : true ≡ false =
+      sym here ∙ ap (λ set. is_in set s) e ∙ is_in-empty s in absurd (true≢false clash);
 }
 
 -- no square of 64 has the fact
@@ -90,7 +104,8 @@ abbrev pub IsNoneYet : (Place → Type 0) → ℕ → Type 0
 IsNoneYet fact n = (s : Place) → IsOnBoard s → index_of s < n → fact s → ⊥
 
 -- where no man stands nothing is attacked
-pub no_reach : (p : Placement) (s : Place) (set : Places) → man_at p s ≡ None → set ≡ no_places → IsReachOf p s set
+pub no_reach : (p : Placement) (s : Place) (set : Places) → man_at p s ≡ None → set ≡ no_places
+    → IsReachOf p s set
 no_reach p s set none bare t =
     let outside : is_in set t ≡ false = ap (λ set. is_in set t) bare ∙ is_in-empty t in (
       (λ e. absurd (true≢false (sym e ∙ outside))),

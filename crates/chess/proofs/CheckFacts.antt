@@ -10,16 +10,23 @@ use Rattle.chess.specs.declared.moves.Move.{Move}
 use Rattle.chess.proofs.GoesFacts.{IsTried, has_arrived}
 
 -- the men after a move that is no castling
-pub men_plainly : (P : State) (m : Move) (man : Man) (t : Place) (board : Placement) → m.castle ≡ None → board ≡ P.men
+pub men_plainly : (P : State) (m : Move) (man : Man) (t : Place) (board : Placement)
+    → m.castle ≡ None → board ≡ P.men
     → Some man ≡ arriving P m.promote m.from → t ≡ taken P m
     → with_man (with_man (with_man board t None) m.from None) m.to (Some man) ≡ men_after P m
 men_plainly P m man t board plain same arrives taken_there =
     (λ i. with_man (with_man (with_man (same i) (taken_there i) None) m.from None) m.to (arrives i))
-    ∙ (λ i. with_rook P.turn (sym plain i) (with_man (with_man (with_man P.men (taken P m) None) m.from None) m.to (arriving P m.promote m.from)))
+    ∙ (λ i. with_rook P.turn (sym plain i)
+    (with_man (with_man (with_man P.men (taken P m) None) m.from None) m.to
+    (arriving P m.promote m.from)))
 
-pub check_after : (P : State) (m : Move) (x : IsTried P m) (man : Man) (t king : Place) (board : Placement) (r : Bool) → m.castle ≡ None → board ≡ P.men
-    → Some man ≡ arriving P m.promote m.from → t ≡ taken P m → IsOnlyKing (men_after P m) P.turn king
-    → IsTrue r ↔ IsAttacked (with_man (with_man (with_man board t None) m.from None) m.to (Some man)) (opposite man.side) king
+pub check_after : (P : State) (m : Move) (x : IsTried P m) (man : Man) (t king : Place)
+    (board : Placement) (r : Bool) → m.castle ≡ None → board ≡ P.men
+    → Some man ≡ arriving P m.promote m.from → t ≡ taken P m
+    → IsOnlyKing (men_after P m) P.turn king
+    → IsTrue r
+    ↔ IsAttacked (with_man (with_man (with_man board t None) m.from None) m.to (Some man))
+    (opposite man.side) king
     → IsTrue r ↔ IsCheck (men_after P m) P.turn
 check_after P m x man t king board r plain same arrives taken_there only attacked =
     let men = men_plainly P m man t board plain same arrives taken_there in
@@ -27,9 +34,12 @@ check_after P m x man t king board r plain same arrives taken_there only attacke
       (λ e. (
         king,
         only.here,
-        subst (λ side. IsAttacked (men_after P m) (opposite side) king) own (subst (λ (p : Placement). IsAttacked p (opposite man.side) king) men (attacked.0 e)),
+        subst (λ side. IsAttacked (men_after P m) (opposite side) king) own
+            (subst (λ (p : Placement). IsAttacked p (opposite man.side) king) men (attacked.0 e)),
       )),
-      (λ check. attacked.1 (subst (λ (p : Placement). IsAttacked p (opposite man.side) king) (sym men)
+      (λ check.
+          attacked.1 (subst (λ (p : Placement). IsAttacked p (opposite man.side) king) (sym men)
           (subst (λ side. IsAttacked (men_after P m) (opposite side) king) (sym own)
-          (subst (λ (s : Place). IsAttacked (men_after P m) (opposite P.turn) s) (only.only check.0 check.1) check.2)))),
+          (subst (λ (s : Place). IsAttacked (men_after P m) (opposite P.turn) s)
+          (only.only check.0 check.1) check.2)))),
     )

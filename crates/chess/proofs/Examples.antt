@@ -1,5 +1,6 @@
 -- What the definitions say of squares and texts that every player can check.
-use Rattle.std.proofs.Common.{◌≡◌, ℕ, ◌≤◌, true, false, [], ◌∷◌, Some, None, inl, inr, refl, sym, ◌∙◌, arith, codes}
+use Rattle.std.proofs.Common.{◌≡◌, ℕ, ◌≤◌, true, false, [], ◌∷◌, Some, None, inl, inr, refl, sym}
+use Rattle.std.proofs.Common.{◌∙◌, arith, codes}
 use Rattle.chess.specs.Public.Squares.{IsAhead}
 use Rattle.chess.specs.Public.Placements.{Placement, man_at}
 use Rattle.chess.specs.Public.Attacks.{Reaches, IsOnRay}
@@ -17,35 +18,45 @@ use Rattle.chess.specs.declared.board.direction.Direction.TheVariants.{North}
 use Rattle.chess.proofs.AxisSteps.{even_gaps}
 
 -- no way leads from h4 to a5, so no rook or bishop reaches it
-h4_a5 : (way : Direction) (k : ℕ) → IsAhead way k (record { file = 8; rank = 4 }) (record { file = 1; rank = 5 }) → ⊥
+h4_a5 : (way : Direction) (k : ℕ)
+    → IsAhead way k (record { file = 8; rank = 4 }) (record { file = 1; rank = 5 }) → ⊥
 h4_a5 way k a =
-    let even = even_gaps way k (record { file = 8; rank = 4 }) (record { file = 1; rank = 5 }) a (omega arith) (omega arith) in omega (arith, even)
+    let even =
+    even_gaps way k (record { file = 8; rank = 4 }) (record { file = 1; rank = 5 }) a
+    (omega arith) (omega arith) in omega (arith, even)
 
-rook_h4_not_a5 : (p : Placement) → Reaches p White Rook (record { file = 8; rank = 4 }) (record { file = 1; rank = 5 }) → ⊥
+rook_h4_not_a5 : (p : Placement)
+    → Reaches p White Rook (record { file = 8; rank = 4 }) (record { file = 1; rank = 5 }) → ⊥
 rook_h4_not_a5 p r = h4_a5 r.0 r.2.steps r.2.ahead
 
 -- a knight on h1 reaches f2, and not f3
-knight_h1_f2 : (p : Placement) → Reaches p White Knight (record { file = 8; rank = 1 }) (record { file = 6; rank = 2 })
+knight_h1_f2 : (p : Placement)
+    → Reaches p White Knight (record { file = 8; rank = 1 }) (record { file = 6; rank = 2 })
 knight_h1_f2 p = inr (refl, refl)
 
-knight_h1_not_f3 : (p : Placement) → Reaches p White Knight (record { file = 8; rank = 1 }) (record { file = 6; rank = 3 }) → ⊥
+knight_h1_not_f3 : (p : Placement)
+    → Reaches p White Knight (record { file = 8; rank = 1 }) (record { file = 6; rank = 3 }) → ⊥
 knight_h1_not_f3 p r = elim r [
   | inl a ↦ let e : 2 ≡ 1 = a.0 in omega arith
   | inr b ↦ let e : 2 ≡ 1 = b.1 in omega arith
 ]
 
 -- a king on a1 reaches b2, and not c1
-king_a1_b2 : (p : Placement) → Reaches p White King (record { file = 1; rank = 1 }) (record { file = 2; rank = 2 })
+king_a1_b2 : (p : Placement)
+    → Reaches p White King (record { file = 1; rank = 1 }) (record { file = 2; rank = 2 })
 king_a1_b2 p = (omega arith, omega arith, omega arith)
 
-king_a1_not_c1 : (p : Placement) → Reaches p White King (record { file = 1; rank = 1 }) (record { file = 3; rank = 1 }) → ⊥
+king_a1_not_c1 : (p : Placement)
+    → Reaches p White King (record { file = 1; rank = 1 }) (record { file = 3; rank = 1 }) → ⊥
 king_a1_not_c1 p r = let e : 2 ≤ 1 = r.0 in omega arith
 
 -- pawns attack forward: White's a4 the square b5, Black's h4 the square g3
-pawn_a4_b5 : (p : Placement) → Reaches p White Pawn (record { file = 1; rank = 4 }) (record { file = 2; rank = 5 })
+pawn_a4_b5 : (p : Placement)
+    → Reaches p White Pawn (record { file = 1; rank = 4 }) (record { file = 2; rank = 5 })
 pawn_a4_b5 p = (refl, refl)
 
-pawn_h4_g3 : (p : Placement) → Reaches p Black Pawn (record { file = 8; rank = 4 }) (record { file = 7; rank = 3 })
+pawn_h4_g3 : (p : Placement)
+    → Reaches p Black Pawn (record { file = 8; rank = 4 }) (record { file = 7; rank = 3 })
 pawn_h4_g3 p = (refl, refl)
 
 -- a man on a3 hides a4 from a rook on a1
@@ -54,25 +65,50 @@ a3_hides_a4 : (p : Placement) (man : Man) → man_at p (record { file = 1; rank 
 a3_hides_a4 p man here ray =
     let three : ray.steps ≡ 3 = (let e = ray.ahead.1 in omega arith) in
     let empty : man_at p (record { file = 1; rank = 3 }) ≡ None =
-    ray.clear 2 (record { file = 1; rank = 3 }) (record { file_low = omega arith; file_high = omega arith; rank_low = omega arith; rank_high = omega arith })
+    ray.clear 2 (record { file = 1; rank = 3 })
+    (record {
+      file_low = omega arith;
+      file_high = omega arith;
+      rank_low =
+          omega arith;
+      rank_high = omega arith;
+    })
     (omega arith) (omega arith) (refl, refl) in
     let both : Some man ≡ None = sym here ∙ empty in cc
 
--- castling: White's king goes from e1 to g1 and the rook from h1 to f1; Black's king to c8 and the rook from a8 to d8
-white_castles : (king_from White ≡ record { file = 5; rank = 1 }) × (king_to White KingSide ≡ record { file = 7; rank = 1 })
-    × (rook_from White KingSide ≡ record { file = 8; rank = 1 }) × (rook_to White KingSide ≡ record { file = 6; rank = 1 })
+-- castling: White's king goes from e1 to g1 and the rook from h1 to f1; Black's king to c8 and the
+-- rook from a8 to d8
+white_castles : (king_from White ≡ record { file = 5; rank = 1 })
+    × (king_to White KingSide ≡ record { file = 7; rank = 1 })
+    × (rook_from White KingSide ≡ record { file = 8; rank = 1 })
+    × (rook_to White KingSide ≡ record { file = 6; rank = 1 })
 white_castles = (refl, refl, refl, refl)
 
-black_castles : (king_to Black QueenSide ≡ record { file = 3; rank = 8 }) × (rook_from Black QueenSide ≡ record { file = 1; rank = 8 })
+black_castles : (king_to Black QueenSide ≡ record { file = 3; rank = 8 })
+    × (rook_from Black QueenSide ≡ record { file = 1; rank = 8 })
     × (rook_to Black QueenSide ≡ record { file = 4; rank = 8 })
 black_castles = (refl, refl, refl)
 
 -- the text Qa1-b2# speaks of a queen from a1 to b2
-queen_text : Spells (codes "Qa1-b2#") (record { letter = Some Queen; file = Some 1; rank = Some 1; target = record { file = 2; rank = 2 }; promote = None })
+queen_text : Spells (codes "Qa1-b2#")
+    (record {
+      letter = Some Queen;
+      file = Some 1;
+      rank = Some 1;
+      target =
+          record { file = 2; rank = 2 };
+      promote = None;
+    })
 queen_text = record {
   file = (omega arith, omega arith);
   rank = (omega arith, omega arith);
-  target = record { file_low = omega arith; file_high = omega arith; rank_low = omega arith; rank_high = omega arith };
+  target = record {
+    file_low = omega arith;
+    file_high = omega arith;
+    rank_low =
+        omega arith;
+    rank_high = omega arith;
+  };
   promote = tt;
   sign = 45 ∷ [];
   sign_is = inr (45, refl, refl);
@@ -83,11 +119,25 @@ queen_text = record {
 }
 
 -- the text a8Q speaks of a pawn that becomes a queen on a8, without the =
-promotion_text_read : Spells (codes "a8Q") (record { letter = None; file = None; rank = None; target = record { file = 1; rank = 8 }; promote = Some Queen })
+promotion_text_read : Spells (codes "a8Q")
+    (record {
+      letter = None;
+      file = None;
+      rank = None;
+      target =
+          record { file = 1; rank = 8 };
+      promote = Some Queen;
+    })
 promotion_text_read = record {
   file = tt;
   rank = tt;
-  target = record { file_low = omega arith; file_high = omega arith; rank_low = omega arith; rank_high = omega arith };
+  target = record {
+    file_low = omega arith;
+    file_high = omega arith;
+    rank_low =
+        omega arith;
+    rank_high = omega arith;
+  };
   promote = inl refl;
   sign = [];
   sign_is = inl refl;
@@ -97,7 +147,8 @@ promotion_text_read = record {
   text = refl;
 }
 
--- FEN: fields are parted by any number of spaces, ranks by slashes; 22K3 is not the shortest text of its rank
+-- FEN: fields are parted by any number of spaces, ranks by slashes; 22K3 is not the shortest text
+-- of its rank
 three_fields : fields_of (codes "  a b  c ") ≡ codes "a" ∷ codes "b" ∷ codes "c" ∷ []
 three_fields = refl
 
@@ -115,7 +166,8 @@ a_count = refl
 
 -- ---- mate and stalemate
 
--- mate is a check without a move, stalemate is neither a check nor a mate; the mark of mate is #, of another check +, and stalemate has none
+-- mate is a check without a move, stalemate is neither a check nor a mate; the mark of mate is #,
+-- of another check +, and stalemate has none
 mate_marked : (P : State) → IsCheck P.men P.turn → ¬ HasMove P → IsCheckMark P (codes "#")
 mate_marked P in_check none = mate (in_check, none)
 

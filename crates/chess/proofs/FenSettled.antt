@@ -1,5 +1,7 @@
 -- A text in FEN is read, or refused.
-use Rattle.std.proofs.Common.{◌≡◌, ◌≢◌, ◌⊎◌, ◌↔◌, ℕ, ◌+◌, ◌<◌, Bool, true, false, Option, Some, None, List, [], ◌∷◌, length, codes, refl, sym, ◌∙◌, subst, inl, inr, arith}
+use Rattle.std.proofs.Common.{◌≡◌, ◌≢◌, ◌⊎◌, ◌↔◌, ℕ, ◌+◌, ◌<◌, Bool, true, false, Option, Some}
+use Rattle.std.proofs.Common.{None, List, [], ◌∷◌, length, codes, refl, sym, ◌∙◌, subst, inl, inr}
+use Rattle.std.proofs.Common.{arith}
 use Rattle.std.specs.List.{list_all}
 use Rattle.std.proofs.lemmas.Bool.{cases_eq}
 use Rattle.std.proofs.lemmas.Option.{same_Some}
@@ -7,10 +9,14 @@ use Rattle.chess.specs.Public.Squares.{Place, IsOnBoard}
 use Rattle.chess.specs.Public.Placements.{Placement, man_at, AreOnBoard, opposite, IsEmpty}
 use Rattle.chess.specs.Shared.CellFacts.{on_board_or_not}
 use Rattle.chess.specs.Public.Attacks.{IsForward}
-use Rattle.chess.specs.Public.Positions.{State, king_of, pawn_of, rook_of, has_right, king_from, rook_from, passed_rank, IsOnlyKing, FitsEnPassant}
+use Rattle.chess.specs.Public.Positions.{State, king_of, pawn_of, rook_of, has_right, king_from}
+use Rattle.chess.specs.Public.Positions.{rook_from, passed_rank, IsOnlyKing, FitsEnPassant}
 use Rattle.chess.specs.Public.Letters.{square_text}
 use Rattle.chess.specs.Public.Laws.{EachTextIsReadOrRefused}
-use Rattle.chess.specs.Public.Fen.{fields_of, SpellsMen, side_text, right_letter, has_byte, is_distinct, is_right_letter, GivesRights, GivesEnPassant, is_digit, number_from, IsCount, GiveCounts, AreAtHome, SpellsPosition, HasWrongKings, HasWrongPawns}
+use Rattle.chess.specs.Public.Fen.{fields_of, SpellsMen, side_text, right_letter, has_byte}
+use Rattle.chess.specs.Public.Fen.{is_distinct, is_right_letter, GivesRights, GivesEnPassant}
+use Rattle.chess.specs.Public.Fen.{is_digit, number_from, IsCount, GiveCounts, AreAtHome}
+use Rattle.chess.specs.Public.Fen.{SpellsPosition, HasWrongKings, HasWrongPawns}
 use Rattle.chess.specs.declared.fen.FenError.TheVariants.{Syntax, Kings, Pawns, InCheck}
 use Rattle.chess.specs.declared.board.man.CastlingRights.{CastlingRights}
 use Rattle.chess.specs.declared.board.man.Man.{Man}
@@ -19,7 +25,9 @@ use Rattle.chess.specs.declared.board.man.Side.TheVariants.{White, Black}
 use Rattle.chess.specs.declared.board.man.Wing.{Wing}
 use Rattle.chess.specs.declared.board.man.Wing.TheVariants.{KingSide, QueenSide}
 use Rattle.chess.proofs.PlaceFacts.{cases_place}
-use Rattle.chess.proofs.Settled.{Settled, settled_like, settled_not, settled_both, settled_three, settled_either, settled_le, settled_true, settled_below, settled_option, cases_bytes}
+use Rattle.chess.proofs.Settled.{Settled, settled_like, settled_not, settled_both, settled_three}
+use Rattle.chess.proofs.Settled.{settled_either, settled_le, settled_true, settled_below}
+use Rattle.chess.proofs.Settled.{settled_option, cases_bytes}
 use Rattle.chess.proofs.Searches.{search_square, search_side}
 use Rattle.chess.proofs.LegalSettled.{settled_man_at, settled_forward, forward_low, settled_check}
 use Rattle.chess.proofs.RanksSettled.{settled_men}
@@ -34,7 +42,8 @@ given x = record {
   black_queen_side = has_byte 113 x;
 }
 
-given_each : (x : List ℕ) (side : Side) (wing : Wing) → has_right (given x) side wing ≡ has_byte (right_letter side wing) x
+given_each : (x : List ℕ) (side : Side) (wing : Wing)
+    → has_right (given x) side wing ≡ has_byte (right_letter side wing) x
 unfolding given
 given_each x White KingSide = refl
 given_each x White QueenSide = refl
@@ -45,7 +54,8 @@ settled_given : (x : List ℕ) → Settled ((rights : CastlingRights) × GivesRi
 settled_given x =
     settled_like (λ w. (given x, record { written = w; each = given_each x })) (λ h. h.1.written)
     (settled_either (cases_bytes x (codes "-"))
-    (settled_three (settled_not (cases_bytes x [])) (settled_true (list_all is_right_letter x)) (settled_true (is_distinct x))))
+    (settled_three (settled_not (cases_bytes x [])) (settled_true (list_all is_right_letter x))
+    (settled_true (is_distinct x))))
 
 settled_en_passant : (x : List ℕ) → Settled ((o : Option Place) × GivesEnPassant x o)
 settled_en_passant x =
@@ -55,12 +65,16 @@ settled_en_passant x =
 
 settled_count : (x : List ℕ) → Settled ((n : ℕ) × IsCount x n)
 settled_count x =
-    settled_like (λ h. (number_from 0 x, record { digits = h.0; short = h.1; value = refl })) (λ h. (h.1.digits, h.1.short))
-    (settled_both (settled_true (list_all is_digit x)) (settled_both (settled_le 1 (length x)) (settled_le (length x) 7)))
+    settled_like (λ h. (number_from 0 x, record { digits = h.0; short = h.1; value = refl })) (λ h.
+    (h.1.digits, h.1.short))
+    (settled_both (settled_true (list_all is_digit x))
+    (settled_both (settled_le 1 (length x)) (settled_le (length x) 7)))
 
-settled_counts : (texts : List (List ℕ)) → Settled ((clock : ℕ) × (number : ℕ) × GiveCounts texts clock number)
+settled_counts : (texts : List (List ℕ))
+    → Settled ((clock : ℕ) × (number : ℕ) × GiveCounts texts clock number)
 settled_counts [] = inl (0, 1, (refl, refl))
-settled_counts (x ∷ []) = settled_like (λ h. (h.0, 1, (h.1, refl))) (λ h. (h.0, h.2.0)) (settled_count x)
+settled_counts (x ∷ []) =
+    settled_like (λ h. (h.0, 1, (h.1, refl))) (λ h. (h.0, h.2.0)) (settled_count x)
 settled_counts (x ∷ y ∷ []) =
     settled_like (λ h. (h.0.0, h.1.0, (h.0.1, h.1.1))) (λ h. ((h.0, h.2.0), (h.1, h.2.1)))
     (settled_both (settled_count x) (settled_count y))
@@ -76,7 +90,8 @@ abbrev on_file : ℕ → ℕ → Place
 on_file file rank = record { file = file; rank = rank }
 
 -- a fact of all squares of a file on ranks that are near
-settled_on_file : (file bound : ℕ) (R : ℕ → Type 0) (G : Place → Type 0) → ((k : ℕ) → Settled (R k)) → ((k : ℕ) → R k → k < bound)
+settled_on_file : (file bound : ℕ) (R : ℕ → Type 0) (G : Place → Type 0) → ((k : ℕ) → Settled (R k))
+    → ((k : ℕ) → R k → k < bound)
     → ((t : Place) → Settled (G t)) → Settled ((t : Place) → t.file ≡ file → R t.rank → G t)
 settled_on_file file bound R G range low each =
     elim (settled_below bound (λ k. R k × (G (on_file file k) → ⊥))
@@ -84,7 +99,12 @@ settled_on_file file bound R G range low each =
       | inl found ↦ inr (λ all. found.2.1 (all (on_file file found.0) refl found.2.0))
       | inr none ↦ inl (λ t same near. elim (each t) [
         | inl holds ↦ holds
-        | inr fails ↦ absurd (none (t.rank, low t.rank near, (near, λ g. fails (subst G (λ i. record { file = sym same i; rank = t.rank }) g))))
+        | inr fails ↦ absurd
+            (none (
+              t.rank,
+              low t.rank near,
+              (near, λ g. fails (subst G (λ i. record { file = sym same i; rank = t.rank }) g)),
+            ))
       ])
     ]
 
@@ -94,11 +114,14 @@ settled_fits p turn s =
     (λ h. record { on_board = h.0.0; rank = h.0.1; empty = h.0.2; origin = h.1.0; pawn = h.1.1 })
     (λ r. ((r.on_board, r.rank, r.empty), (r.origin, r.pawn)))
     (settled_both
-    (settled_three (on_board_or_not s) (cases_eq s.rank (passed_rank (opposite turn))) (settled_man_at p s None))
+    (settled_three (on_board_or_not s) (cases_eq s.rank (passed_rank (opposite turn)))
+    (settled_man_at p s None))
     (settled_both
     (settled_on_file s.file (s.rank + 2) (λ k. IsForward turn s.rank k) (IsEmpty p)
-    (λ k. settled_forward turn s.rank k) (λ k h. forward_low turn s.rank k h) (λ t. settled_man_at p t None))
-    (settled_on_file s.file (s.rank + 2) (λ k. IsForward turn k s.rank) (λ t. man_at p t ≡ Some (pawn_of (opposite turn)))
+    (λ k. settled_forward turn s.rank k) (λ k h. forward_low turn s.rank k h) (λ t.
+    settled_man_at p t None))
+    (settled_on_file s.file (s.rank + 2) (λ k. IsForward turn k s.rank) (λ t. man_at p t
+    ≡ Some (pawn_of (opposite turn)))
     (λ k. settled_forward turn k s.rank) (λ k h. forward_near turn k s.rank h)
     (λ t. settled_man_at p t (Some (pawn_of (opposite turn)))))))
 
@@ -128,7 +151,8 @@ kept p rights = record {
 }
 
 kept_each : (p : Placement) (rights : CastlingRights) (side : Side) (wing : Wing)
-    → (has_right (kept p rights) side wing ≡ true) ↔ ((has_right rights side wing ≡ true) × AreAtHome p side wing)
+    → (has_right (kept p rights) side wing ≡ true)
+    ↔ ((has_right rights side wing ≡ true) × AreAtHome p side wing)
 unfolding kept
 kept_each p rights White KingSide = test_of-exact (settled_keeps p rights White KingSide)
 kept_each p rights White QueenSide = test_of-exact (settled_keeps p rights White QueenSide)
@@ -145,10 +169,14 @@ passing_at p turn t (inl fits) =
     (Some t, λ s. ((λ e. (e, subst (FitsEnPassant p turn) (same_Some t s e) fits)), (λ h. h.0)))
 passing_at p turn t (inr none) = (
   None,
-  λ s. ((λ e. absurd (cc)), (λ h. absurd (none (subst (FitsEnPassant p turn) (sym (same_Some t s h.0)) h.1)))),
+  λ s. (
+    (λ e. absurd (cc)),
+    (λ h. absurd (none (subst (FitsEnPassant p turn) (sym (same_Some t s h.0)) h.1))),
+  ),
 )
 
-passing : (p : Placement) (turn : Side) (o : Option Place) → (kept : Option Place) × IsPassing p turn o kept
+passing : (p : Placement) (turn : Side) (o : Option Place)
+    → (kept : Option Place) × IsPassing p turn o kept
 passing p turn None = (None, λ s. ((λ e. absurd (cc)), (λ h. let e = h.0 in absurd (cc))))
 passing p turn (Some t) = passing_at p turn t (settled_fits p turn t)
 
@@ -165,9 +193,11 @@ abbrev HasFields : List ℕ → List ℕ → List ℕ → List ℕ → List (Lis
 HasFields m s r e c =
     (((p : Placement) × SpellsMen m p) × ((side : Side) × (s ≡ side_text side))
     × ((rights : CastlingRights) × GivesRights r rights))
-    × (((o : Option Place) × GivesEnPassant e o) × ((clock : ℕ) × (number : ℕ) × GiveCounts c clock number))
+    × (((o : Option Place) × GivesEnPassant e o)
+    × ((clock : ℕ) × (number : ℕ) × GiveCounts c clock number))
 
-spelled_by : (x m s r e : List ℕ) (c : List (List ℕ)) → fields_of x ≡ m ∷ s ∷ r ∷ e ∷ c → HasFields m s r e c → IsSpelled x
+spelled_by : (x m s r e : List ℕ) (c : List (List ℕ)) → fields_of x ≡ m ∷ s ∷ r ∷ e ∷ c
+    → HasFields m s r e c → IsSpelled x
 spelled_by x m s r e c is h =
     let p = h.0.0.0 in
     let pass = passing p h.0.1.0 h.1.0.0 in (
@@ -198,7 +228,8 @@ spelled_by x m s r e c is h =
       },
     )
 
-fields_by : (x m s r e : List ℕ) (c : List (List ℕ)) → fields_of x ≡ m ∷ s ∷ r ∷ e ∷ c → IsSpelled x → HasFields m s r e c
+fields_by : (x m s r e : List ℕ) (c : List (List ℕ)) → fields_of x ≡ m ∷ s ∷ r ∷ e ∷ c → IsSpelled x
+    → HasFields m s r e c
 fields_by x m s r e c is (P, h) =
     let same = same_five _ _ _ _ _ _ _ _ _ _ (sym h.fields ∙ is) in (
       (
@@ -207,8 +238,15 @@ fields_by x m s r e c is (P, h) =
         (h.given_rights, subst (λ f. GivesRights f h.given_rights) same.2 h.rights_given),
       ),
       (
-        (h.given_en_passant, subst (λ f. GivesEnPassant f h.given_en_passant) same.3 h.en_passant_given),
-        (P.halfmove_clock, P.fullmove_number, subst (λ f. GiveCounts f P.halfmove_clock P.fullmove_number) same.4 h.counts),
+        (
+          h.given_en_passant,
+          subst (λ f. GivesEnPassant f h.given_en_passant) same.3 h.en_passant_given,
+        ),
+        (
+          P.halfmove_clock,
+          P.fullmove_number,
+          subst (λ f. GiveCounts f P.halfmove_clock P.fullmove_number) same.4 h.counts,
+        ),
       ),
     )
 
@@ -220,12 +258,15 @@ settled_with x (m ∷ s ∷ r ∷ []) is = inr (λ h. let e = sym is ∙ h.1.fie
 settled_with x (m ∷ s ∷ r ∷ e ∷ c) is =
     settled_like (spelled_by x m s r e c is) (fields_by x m s r e c is)
     (settled_both
-    (settled_three (settled_men m) (search_side (λ side. s ≡ side_text side) (λ side. cases_bytes s (side_text side))) (settled_given r))
+    (settled_three (settled_men m)
+    (search_side (λ side. s ≡ side_text side) (λ side. cases_bytes s (side_text side)))
+    (settled_given r))
     (settled_both (settled_en_passant e) (settled_counts c)))
 
 -- ---- the faults of a position
 
-settled_alone : (p : Placement) (man : Man) (s : Place) → AreOnBoard p → Settled ((t : Place) → man_at p t ≡ Some man → t ≡ s)
+settled_alone : (p : Placement) (man : Man) (s : Place) → AreOnBoard p
+    → Settled ((t : Place) → man_at p t ≡ Some man → t ≡ s)
 settled_alone p man s on_board = elim other [
   | inl found ↦ inr (λ all. found.2.1 (all found.0 found.2.0))
   | inr none ↦ inl (λ t here. elim (cases_place t s) [
@@ -239,24 +280,32 @@ settled_alone p man s on_board = elim other [
         search_square (λ t. (man_at p t ≡ Some man) × (t ≢ s))
         (λ t. settled_both (settled_man_at p t (Some man)) (settled_not (cases_place t s)))
 
-settled_king : (p : Placement) (side : Side) → AreOnBoard p → Settled ((s : Place) × IsOnlyKing p side s)
+settled_king : (p : Placement) (side : Side) → AreOnBoard p
+    → Settled ((s : Place) × IsOnlyKing p side s)
 settled_king p side on_board =
     settled_like (λ h. (h.0, record { here = h.2.0; only = h.2.1 }))
     (λ h. (h.0, on_board h.0 (king_of side) h.1.here, (h.1.here, h.1.only)))
-    (search_square (λ s. (man_at p s ≡ Some (king_of side)) × ((t : Place) → man_at p t ≡ Some (king_of side) → t ≡ s))
-    (λ s. settled_both (settled_man_at p s (Some (king_of side))) (settled_alone p (king_of side) s on_board)))
+    (search_square (λ s. (man_at p s ≡ Some (king_of side))
+    × ((t : Place) → man_at p t ≡ Some (king_of side) → t ≡ s))
+    (λ s. settled_both (settled_man_at p s (Some (king_of side)))
+    (settled_alone p (king_of side) s on_board)))
 
 settled_kings : (P : State) → AreOnBoard P.men → Settled (HasWrongKings P)
 settled_kings P on_board =
     search_side (λ side. (s : Place) → IsOnlyKing P.men side s → ⊥)
-    (λ side. settled_like (λ none s h. none (s, h)) (λ none h. none h.0 h.1) (settled_not (settled_king P.men side on_board)))
+    (λ side. settled_like (λ none s h. none (s, h)) (λ none h.
+    none h.0 h.1) (settled_not (settled_king P.men side on_board)))
 
 settled_pawns : (P : State) → AreOnBoard P.men → Settled (HasWrongPawns P)
 settled_pawns P on_board =
-    settled_like (λ h. (h.0, h.1.0, h.1.2.0, h.1.2.1)) (λ h. (h.0, (h.1, on_board h.1 (pawn_of h.0) h.2, (h.2, h.3))))
-    (search_side (λ side. (s : Place) × IsOnBoard s × ((man_at P.men s ≡ Some (pawn_of side)) × ((s.rank ≡ 1) ⊎ (s.rank ≡ 8))))
-    (λ side. search_square (λ s. (man_at P.men s ≡ Some (pawn_of side)) × ((s.rank ≡ 1) ⊎ (s.rank ≡ 8)))
-    (λ s. settled_both (settled_man_at P.men s (Some (pawn_of side))) (settled_either (cases_eq s.rank 1) (cases_eq s.rank 8)))))
+    settled_like (λ h. (h.0, h.1.0, h.1.2.0, h.1.2.1)) (λ h.
+    (h.0, (h.1, on_board h.1 (pawn_of h.0) h.2, (h.2, h.3))))
+    (search_side (λ side. (s : Place) × IsOnBoard s
+    × ((man_at P.men s ≡ Some (pawn_of side)) × ((s.rank ≡ 1) ⊎ (s.rank ≡ 8))))
+    (λ side. search_square (λ s. (man_at P.men s ≡ Some (pawn_of side))
+    × ((s.rank ≡ 1) ⊎ (s.rank ≡ 8)))
+    (λ s. settled_both (settled_man_at P.men s (Some (pawn_of side)))
+    (settled_either (cases_eq s.rank 1) (cases_eq s.rank 8)))))
 
 pub fen_answer : EachTextIsReadOrRefused
 fen_answer x = elim (settled_with x (fields_of x) refl) [
@@ -267,7 +316,10 @@ fen_answer x = elim (settled_with x (fields_of x) refl) [
       | inl wrong ↦ inr (Pawns, (found.0, found.1, kings, wrong))
       | inr pawns ↦ elim (settled_check found.0.men (opposite found.0.turn) found.1.men.on_board) [
         | inl wrong ↦ inr (InCheck, (found.0, found.1, kings, pawns, wrong))
-        | inr quiet ↦ inl (found.0, record { spells = found.1; kings = kings; pawns = pawns; quiet = quiet })
+        | inr quiet ↦ inl (
+          found.0,
+          record { spells = found.1; kings = kings; pawns = pawns; quiet = quiet },
+        )
       ]
     ]
   ]

@@ -1,5 +1,7 @@
 -- Facts about the text of a position: what is written spells the ranks, and is as short as can be.
-use Rattle.std.proofs.Common.{◌≡◌, ◌<◌, ◌≤◌, ◌+◌, ◌-◌, ◌/◌, ◌%◌, decimal, ℕ, zero, suc, Bool, true, false, not, ap, refl, sym, subst, ◌∙◌, arith, Option, Some, None, IsTrue, List, [], ◌∷◌, ◌++◌, length, append_assoc, length-append}
+use Rattle.std.proofs.Common.{◌≡◌, ◌<◌, ◌≤◌, ◌+◌, ◌-◌, ◌/◌, ◌%◌, decimal, ℕ, zero, suc, Bool, true}
+use Rattle.std.proofs.Common.{false, not, ap, refl, sym, subst, ◌∙◌, arith, Option, Some, None}
+use Rattle.std.proofs.Common.{IsTrue, List, [], ◌∷◌, ◌++◌, length, append_assoc, length-append}
 use Rattle.std.specs.Prelude.{replicate, ◌&&◌}
 use Rattle.std.specs.List.{list_all}
 use Rattle.std.proofs.lemmas.List.{replicate_more, append-nil}
@@ -10,7 +12,8 @@ use Rattle.chess.specs.Public.Placements.{Placement, man_at}
 use Rattle.chess.specs.Public.Letters.{man_letter}
 use Rattle.chess.specs.Public.Fen.{SpellsRank, SpellRanks, is_shortest, is_step, joined, row}
 use Rattle.chess.specs.Public.Fen.IsSquares.{letter, step}
-use Rattle.chess.specs.Private.FenTextWords.{digit_of, spelled_from, squares_from, rank_text, rank_texts, each_after, letter_on}
+use Rattle.chess.specs.Private.FenTextWords.{digit_of, spelled_from, squares_from, rank_text}
+use Rattle.chess.specs.Private.FenTextWords.{rank_texts, each_after, letter_on}
 use Rattle.chess.proofs.MarkFacts.{no_man_there}
 use Rattle.chess.specs.declared.board.man.Man.{Man}
 use Rattle.chess.specs.declared.board.man.Side.{Side}
@@ -25,7 +28,8 @@ length-digit_of : (n : ℕ) → (length (digit_of n) ≤ n) × (length (digit_of
 length-digit_of zero = (omega arith, omega arith)
 length-digit_of (suc n) = (omega arith, omega arith)
 
-pub length-spelled_from : (squares : List (Option Man)) (n : ℕ) → length (spelled_from n squares) ≤ n + length squares
+pub length-spelled_from : (squares : List (Option Man)) (n : ℕ)
+    → length (spelled_from n squares) ≤ n + length squares
 length-spelled_from [] n = let h = (length-digit_of n).0 in omega arith
 length-spelled_from (None ∷ squares) n = let h = length-spelled_from squares (n + 1) in omega arith
 length-spelled_from (Some man ∷ squares) n =
@@ -36,25 +40,34 @@ length-spelled_from (Some man ∷ squares) n =
 -- ---- what is written spells the squares
 
 -- a run of empty squares, and more
-run_and_more : (n : ℕ) (squares : List (Option Man)) → replicate (n + 1) None ++ squares ≡ replicate n None ++ None ∷ squares
+run_and_more : (n : ℕ) (squares : List (Option Man))
+    → replicate (n + 1) None ++ squares ≡ replicate n None ++ None ∷ squares
 run_and_more n squares =
-    ap (λ q. q ++ squares) (sym (replicate_more {X = Option Man} n None)) ∙ append_assoc (replicate n None) (None ∷ []) squares
+    ap (λ q. q ++ squares) (sym (replicate_more {X = Option Man} n None))
+    ∙ append_assoc (replicate n None) (None ∷ []) squares
 
-spells_run : (n : ℕ) → n ≤ 8 → (x : List ℕ) (squares : List (Option Man)) → SpellsRank x squares → SpellsRank (digit_of n ++ x) (replicate n None ++ squares)
+spells_run : (n : ℕ) → n ≤ 8 → (x : List ℕ) (squares : List (Option Man)) → SpellsRank x squares
+    → SpellsRank (digit_of n ++ x) (replicate n None ++ squares)
 spells_run zero h x squares rest = rest
-spells_run (suc n) h x squares rest = (replicate (suc n) None, squares, refl, step (suc n) (omega arith) h, rest)
+spells_run (suc n) h x squares rest =
+    (replicate (suc n) None, squares, refl, step (suc n) (omega arith) h, rest)
 
-pub spells : (squares : List (Option Man)) (n : ℕ) → n + length squares ≤ 8 → SpellsRank (spelled_from n squares) (replicate n None ++ squares)
-spells [] n h = subst (λ x. SpellsRank x (replicate n None ++ [])) (append-nil (digit_of n)) (spells_run n (omega arith) [] [] refl)
+pub spells : (squares : List (Option Man)) (n : ℕ) → n + length squares ≤ 8
+    → SpellsRank (spelled_from n squares) (replicate n None ++ squares)
+spells [] n h =
+    subst (λ x. SpellsRank x (replicate n None ++ [])) (append-nil (digit_of n))
+    (spells_run n (omega arith) [] [] refl)
 spells (None ∷ squares) n h =
-    subst (λ q. SpellsRank (spelled_from (n + 1) squares) q) (run_and_more n squares) (spells squares (n + 1) (omega arith))
+    subst (λ q. SpellsRank (spelled_from (n + 1) squares) q) (run_and_more n squares)
+    (spells squares (n + 1) (omega arith))
 spells (Some man ∷ squares) n h =
     spells_run n (omega arith) (man_letter man ∷ spelled_from 0 squares) (Some man ∷ squares)
     (Some man ∷ [], squares, refl, letter man, spells squares 0 (omega arith))
 
 -- ---- what is written has no two digits side by side
 
-by_side : (side : Side) (kind : Kind) → is_step (man_letter (record { side = side; kind = kind })) ≡ false
+by_side : (side : Side) (kind : Kind) → is_step (man_letter (record { side = side; kind = kind }))
+    ≡ false
 by_side White King = refl
 by_side White Queen = refl
 by_side White Rook = refl
@@ -76,36 +89,45 @@ abbrev is_led : List ℕ → Bool
 is_led [] = false
 is_led (b ∷ x) = is_step b
 
-shortest_run : (n : ℕ) (x : List ℕ) → is_led x ≡ false → is_shortest x ≡ true → is_shortest (digit_of n ++ x) ≡ true
+shortest_run : (n : ℕ) (x : List ℕ) → is_led x ≡ false → is_shortest x ≡ true
+    → is_shortest (digit_of n ++ x) ≡ true
 shortest_run zero x led short = short
 shortest_run (suc n) [] led short = refl
 shortest_run (suc n) (b ∷ x) led short =
     ap (λ t. not (is_step (48 + suc n) && t) && is_shortest (b ∷ x)) led
     ∙ ap (λ t. not t && is_shortest (b ∷ x)) (and_false (is_step (48 + suc n))) ∙ short
 
-shortest_letter : (b : ℕ) (x : List ℕ) → is_step b ≡ false → is_shortest x ≡ true → is_shortest (b ∷ x) ≡ true
+shortest_letter : (b : ℕ) (x : List ℕ) → is_step b ≡ false → is_shortest x ≡ true
+    → is_shortest (b ∷ x) ≡ true
 shortest_letter b [] other short = refl
-shortest_letter b (a ∷ x) other short = ap (λ t. not (t && is_step a) && is_shortest (a ∷ x)) other ∙ short
+shortest_letter b (a ∷ x) other short =
+    ap (λ t. not (t && is_step a) && is_shortest (a ∷ x)) other ∙ short
 
 pub shortest : (squares : List (Option Man)) (n : ℕ) → is_shortest (spelled_from n squares) ≡ true
-shortest [] n = subst (λ x. is_shortest x ≡ true) (append-nil (digit_of n)) (shortest_run n [] refl refl)
+shortest [] n =
+    subst (λ x. is_shortest x ≡ true) (append-nil (digit_of n)) (shortest_run n [] refl refl)
 shortest (None ∷ squares) n = shortest squares (n + 1)
 shortest (Some man ∷ squares) n =
-    shortest_run n (man_letter man ∷ spelled_from 0 squares) (no_step man) (shortest_letter (man_letter man) _ (no_step man) (shortest squares 0))
+    shortest_run n (man_letter man
+    ∷ spelled_from 0 squares) (no_step man)
+    (shortest_letter (man_letter man) _ (no_step man) (shortest squares 0))
 
 -- ---- a square by its letter
 
-pub none_is_next : (before : List ℕ) (n : ℕ) (next : Option Man) (squares : List (Option Man)) → letter_on next ≡ 0
+pub none_is_next : (before : List ℕ) (n : ℕ) (next : Option Man) (squares : List (Option Man))
+    → letter_on next ≡ 0
     → before ++ spelled_from (n + 1) squares ≡ before ++ spelled_from n (next ∷ squares)
 none_is_next before n next squares none =
     ap (λ (o : Option Man). before ++ spelled_from n (o ∷ squares)) (sym (no_man_there next none))
 
-pub man_is_next : (before middle after : List ℕ) (n own : ℕ) (next : Option Man) (squares : List (Option Man)) → own ≡ letter_on next
+pub man_is_next : (before middle after : List ℕ) (n own : ℕ) (next : Option Man)
+    (squares : List (Option Man)) → own ≡ letter_on next
     → (own ≡ 0 → ⊥) → middle ≡ before ++ digit_of n → after ≡ middle ++ own ∷ []
     → after ++ spelled_from 0 squares ≡ before ++ spelled_from n (next ∷ squares)
 man_is_next before middle after n own None squares here some run put = absurd (some here)
 man_is_next before middle after n own (Some man) squares here some run put =
-    ap (λ x. x ++ spelled_from 0 squares) (put ∙ ap (λ x. x ++ own ∷ []) run ∙ ap (λ b. (before ++ digit_of n) ++ b ∷ []) here)
+    ap (λ x. x ++ spelled_from 0 squares) (put ∙ ap (λ x. x ++ own ∷ []) run
+    ∙ ap (λ b. (before ++ digit_of n) ++ b ∷ []) here)
     ∙ append_assoc (before ++ digit_of n) (man_letter man ∷ []) (spelled_from 0 squares)
     ∙ append_assoc before (digit_of n) (man_letter man ∷ spelled_from 0 squares)
 
@@ -116,17 +138,21 @@ spell_ranks p zero = refl
 spell_ranks p (suc n) = (
   omega arith,
   spells (row p (suc n)) 0 (omega arith),
-  (let less : n ≡ suc n - 1 = omega arith in subst (λ m. SpellRanks p m (rank_texts p n)) less (spell_ranks p n)),
+  (let less : n ≡ suc n - 1 = omega arith in
+      subst (λ m. SpellRanks p m (rank_texts p n)) less (spell_ranks p n)),
 )
 
 pub shortest_ranks : (p : Placement) (n : ℕ) → IsTrue (list_all is_shortest (rank_texts p n))
 shortest_ranks p zero = refl
 shortest_ranks p (suc n) =
-    ap (λ t. t && list_all is_shortest (rank_texts p n)) (shortest (row p (suc n)) 0) ∙ shortest_ranks p n
+    ap (λ t. t && list_all is_shortest (rank_texts p n)) (shortest (row p (suc n)) 0)
+    ∙ shortest_ranks p n
 
-pub joined-each_after : (separator : ℕ) (x : List ℕ) (more : List (List ℕ)) → joined separator (x ∷ more) ≡ x ++ each_after separator more
+pub joined-each_after : (separator : ℕ) (x : List ℕ) (more : List (List ℕ))
+    → joined separator (x ∷ more) ≡ x ++ each_after separator more
 joined-each_after separator x [] = sym (append-nil x)
-joined-each_after separator x (y ∷ more) = ap (λ t. x ++ separator ∷ t) (joined-each_after separator y more)
+joined-each_after separator x (y ∷ more) =
+    ap (λ t. x ++ separator ∷ t) (joined-each_after separator y more)
 
 -- ---- a rank that is begun
 
@@ -134,57 +160,70 @@ pub length-rank_text : (p : Placement) (rank : ℕ) → length (rank_text p rank
 length-rank_text p rank = let h = length-spelled_from (row p rank) 0 in omega arith
 
 -- what is written is no longer than the whole
-pub begun_length : (x rest y whole : List ℕ) → x ++ rest ≡ y ++ whole → length whole ≤ 8 → length x ≤ length y + 8
+pub begun_length : (x rest y whole : List ℕ) → x ++ rest ≡ y ++ whole → length whole ≤ 8
+    → length x ≤ length y + 8
 begun_length x rest y whole e h =
     let l = ap length e in
     let a = length-append x rest in
     let b = length-append y whole in omega arith
 
-pub whole_length : (x y whole : List ℕ) → x ≡ y ++ whole → length whole ≤ 8 → length x ≤ length y + 8
+pub whole_length : (x y whole : List ℕ) → x ≡ y ++ whole → length whole ≤ 8
+    → length x ≤ length y + 8
 whole_length x y whole e h =
     let l = ap length e in
     let b = length-append y whole in omega arith
 
 -- the squares from a file on, that file's first
 pub one_more_square : (p : Placement) (rank file : ℕ) → 1 ≤ file → file < 9
-    → squares_from p rank file (9 - file) ≡ man_at p (record { file = file; rank = rank }) ∷ squares_from p rank (file + 1) (9 - (file + 1))
+    → squares_from p rank file (9 - file) ≡ man_at p (record { file = file; rank = rank })
+    ∷ squares_from p rank (file + 1) (9 - (file + 1))
 one_more_square p rank file low high =
     let next : 9 - file ≡ suc (9 - (file + 1)) = omega arith in ap (squares_from p rank file) next
 
-pub no_more_squares : (p : Placement) (rank file : ℕ) → 9 ≤ file → squares_from p rank file (9 - file) ≡ []
-no_more_squares p rank file high = let none : 9 - file ≡ 0 = omega arith in ap (squares_from p rank file) none
+pub no_more_squares : (p : Placement) (rank file : ℕ) → 9 ≤ file
+    → squares_from p rank file (9 - file) ≡ []
+no_more_squares p rank file high = let none : 9 - file ≡ 0 = omega arith in
+    ap (squares_from p rank file) none
 
 -- one more square is written
-pub square_is_written : (p : Placement) (rank file empty then_empty : ℕ) (next : Option Man) (place : Place) (before after whole : List ℕ)
+pub square_is_written : (p : Placement) (rank file empty then_empty : ℕ) (next : Option Man)
+    (place : Place) (before after whole : List ℕ)
     → 1 ≤ file → file < 9 → place ≡ record { file = file; rank = rank } → next ≡ man_at p place
-    → ((squares : List (Option Man)) → after ++ spelled_from then_empty squares ≡ before ++ spelled_from empty (next ∷ squares))
+    → ((squares : List (Option Man)) → after ++ spelled_from then_empty squares
+    ≡ before ++ spelled_from empty (next ∷ squares))
     → before ++ spelled_from empty (squares_from p rank file (9 - file)) ≡ whole
     → after ++ spelled_from then_empty (squares_from p rank (file + 1) (9 - (file + 1))) ≡ whole
-square_is_written p rank file empty then_empty next place before after whole low high here found written text =
+square_is_written p rank file empty then_empty next place before after whole low high here found
+    written text =
     let more = squares_from p rank (file + 1) (9 - (file + 1)) in
     written more
     ∙ ap (λ (o : Option Man). before ++ spelled_from empty (o ∷ more)) (found ∙ ap (man_at p) here)
     ∙ ap (λ q. before ++ spelled_from empty q) (sym (one_more_square p rank file low high)) ∙ text
 
 -- all squares are written, and the digit of the last run
-pub rank_is_whole : (p : Placement) (rank file empty : ℕ) (before after whole : List ℕ) → 9 ≤ file → after ≡ before ++ digit_of empty
+pub rank_is_whole : (p : Placement) (rank file empty : ℕ) (before after whole : List ℕ) → 9 ≤ file
+    → after ≡ before ++ digit_of empty
     → before ++ spelled_from empty (squares_from p rank file (9 - file)) ≡ whole → after ≡ whole
 rank_is_whole p rank file empty before after whole high written text =
-    written ∙ ap (λ q. before ++ spelled_from empty q) (sym (no_more_squares p rank file high)) ∙ text
+    written ∙ ap (λ q. before ++ spelled_from empty q) (sym (no_more_squares p rank file high))
+    ∙ text
 
 -- ---- ranks that are begun
 pub one_more_rank : (p : Placement) (k : ℕ) → k < 8
-    → each_after 47 (rank_texts p (8 - k)) ≡ 47 ∷ rank_text p (8 - k) ++ each_after 47 (rank_texts p (8 - (k + 1)))
+    → each_after 47 (rank_texts p (8 - k)) ≡ 47 ∷ rank_text p (8 - k)
+    ++ each_after 47 (rank_texts p (8 - (k + 1)))
 one_more_rank p k high =
     let next : 8 - k ≡ suc (8 - (k + 1)) = omega arith in
     ap (λ n. each_after 47 (rank_texts p n)) next
     ∙ ap (λ n. 47 ∷ rank_text p n ++ each_after 47 (rank_texts p (8 - (k + 1)))) (sym next)
 
 pub no_more_ranks : (p : Placement) (k : ℕ) → 8 ≤ k → each_after 47 (rank_texts p (8 - k)) ≡ []
-no_more_ranks p k high = let none : 8 - k ≡ 0 = omega arith in ap (λ n. each_after 47 (rank_texts p n)) none
+no_more_ranks p k high = let none : 8 - k ≡ 0 = omega arith in
+    ap (λ n. each_after 47 (rank_texts p n)) none
 
 -- a rank is written after a slash
-pub rank_is_written : (before slashed after rank rest all_rest whole : List ℕ) → slashed ≡ before ++ 47 ∷ [] → after ≡ slashed ++ rank
+pub rank_is_written : (before slashed after rank rest all_rest whole : List ℕ)
+    → slashed ≡ before ++ 47 ∷ [] → after ≡ slashed ++ rank
     → all_rest ≡ 47 ∷ rank ++ rest → before ++ all_rest ≡ whole → after ++ rest ≡ whole
 rank_is_written before slashed after rank rest all_rest whole slash written split text =
     ap (λ x. x ++ rest) (written ∙ ap (λ x. x ++ rank) slash)
@@ -195,34 +234,46 @@ rank_is_written before slashed after rank rest all_rest whole slash written spli
 pub first_is_written : (p : Placement) (before after : List ℕ) → after ≡ before ++ rank_text p 8
     → after ++ each_after 47 (rank_texts p 7) ≡ before ++ joined 47 (rank_texts p 8)
 first_is_written p before after written =
-    ap (λ x. x ++ each_after 47 (rank_texts p 7)) written ∙ append_assoc before (rank_text p 8) (each_after 47 (rank_texts p 7))
+    ap (λ x. x ++ each_after 47 (rank_texts p 7)) written
+    ∙ append_assoc before (rank_text p 8) (each_after 47 (rank_texts p 7))
     ∙ ap (λ x. before ++ x) (sym (joined-each_after 47 (rank_text p 8) (rank_texts p 7)))
 
 -- all ranks are written
-pub all_is_written : (before rest whole : List ℕ) → rest ≡ [] → before ++ rest ≡ whole → before ≡ whole
-all_is_written before rest whole none text = sym (append-nil before) ∙ ap (λ x. before ++ x) (sym none) ∙ text
+pub all_is_written : (before rest whole : List ℕ) → rest ≡ [] → before ++ rest ≡ whole
+    → before ≡ whole
+all_is_written before rest whole none text =
+    sym (append-nil before) ∙ ap (λ x. before ++ x) (sym none) ∙ text
 
 -- ---- the fields
 
 -- what is written of a value is what is written of one that is equal
-pub written_of : {A : Type 0} (text : A → List ℕ) (before after : List ℕ) (a b : A) → after ≡ before ++ text a → a ≡ b → after ≡ before ++ text b
+pub written_of : {A : Type 0} (text : A → List ℕ) (before after : List ℕ) (a b : A)
+    → after ≡ before ++ text a → a ≡ b → after ≡ before ++ text b
 written_of text before after a b written same = written ∙ ap (λ x. before ++ text x) same
 
 -- six fields, each but the first after a space
-pub six_fields : (men side rights en_passant clock number x0 x1 x2 x3 x4 x5 x6 x7 x8 x9 x10 x11 : List ℕ)
-    → x0 ≡ [] → x1 ≡ x0 ++ men → x2 ≡ x1 ++ 32 ∷ [] → x3 ≡ x2 ++ side → x4 ≡ x3 ++ 32 ∷ [] → x5 ≡ x4 ++ rights → x6 ≡ x5 ++ 32 ∷ []
-    → x7 ≡ x6 ++ en_passant → x8 ≡ x7 ++ 32 ∷ [] → x9 ≡ x8 ++ clock → x10 ≡ x9 ++ 32 ∷ [] → x11 ≡ x10 ++ number
+pub six_fields : (men side rights en_passant clock number x0 x1 x2 x3 x4 x5 x6 x7 x8 x9 x10
+    x11 : List ℕ)
+    → x0 ≡ [] → x1 ≡ x0 ++ men → x2 ≡ x1 ++ 32 ∷ [] → x3 ≡ x2 ++ side → x4 ≡ x3 ++ 32 ∷ []
+    → x5 ≡ x4 ++ rights → x6 ≡ x5 ++ 32 ∷ []
+    → x7 ≡ x6 ++ en_passant → x8 ≡ x7 ++ 32 ∷ [] → x9 ≡ x8 ++ clock → x10 ≡ x9 ++ 32 ∷ []
+    → x11 ≡ x10 ++ number
     → x11 ≡ joined 32 (men ∷ side ∷ rights ∷ en_passant ∷ clock ∷ number ∷ [])
-six_fields men side rights en_passant clock number x0 x1 x2 x3 x4 x5 x6 x7 x8 x9 x10 x11 e0 e1 e2 e3 e4 e5 e6 e7 e8 e9 e10 e11 =
+six_fields men side rights en_passant clock number x0 x1 x2 x3 x4 x5 x6 x7 x8 x9 x10 x11 e0 e1 e2 e3
+    e4 e5 e6 e7 e8 e9 e10 e11 =
     rw (e11, e10, e9, e8, e7, e6, e5, e4, e3, e2, e1, e0) (simp append_assoc)
 
 -- ---- a number of one digit, and of two
 
-pub one_digit : (before after : List ℕ) (n : ℕ) → n < 10 → after ≡ before ++ (48 + n) ∷ [] → after ≡ before ++ decimal n
-one_digit before after n small written = written ∙ ap (λ x. before ++ x) (sym (decimal_digit n small))
+pub one_digit : (before after : List ℕ) (n : ℕ) → n < 10 → after ≡ before ++ (48 + n) ∷ []
+    → after ≡ before ++ decimal n
+one_digit before after n small written =
+    written ∙ ap (λ x. before ++ x) (sym (decimal_digit n small))
 
-pub two_digits : (before middle after : List ℕ) (n : ℕ) → 10 ≤ n → n < 100 → middle ≡ before ++ (48 + n / 10) ∷ []
+pub two_digits : (before middle after : List ℕ) (n : ℕ) → 10 ≤ n → n < 100
+    → middle ≡ before ++ (48 + n / 10) ∷ []
     → after ≡ middle ++ (48 + n % 10) ∷ [] → after ≡ before ++ decimal n
 two_digits before middle after n low high first second =
-    second ∙ ap (λ x. x ++ (48 + n % 10) ∷ []) first ∙ append_assoc before ((48 + n / 10) ∷ []) ((48 + n % 10) ∷ [])
+    second ∙ ap (λ x. x ++ (48 + n % 10) ∷ []) first
+    ∙ append_assoc before ((48 + n / 10) ∷ []) ((48 + n % 10) ∷ [])
     ∙ ap (λ x. before ++ x) (sym (decimal_two n low high))

@@ -1,14 +1,19 @@
 -- Worked rows of how men go, of the first position and of the letters of texts; and what these
 -- definitions refuse.
-use Rattle.std.proofs.Common.{◌≡◌, ◌≤◌, ◌+◌, ◌∙◌, ◌==◌, ◌&&◌, not, ℕ, zero, suc, Bool, true, false, List, [], ◌∷◌, codes, Option, None, Some, inl, inr, ap, refl, sym, arith}
+use Rattle.std.proofs.Common.{◌≡◌, ◌≤◌, ◌+◌, ◌∙◌, ◌==◌, ◌&&◌, not, ℕ, zero, suc, Bool, true, false}
+use Rattle.std.proofs.Common.{List, [], ◌∷◌, codes, Option, None, Some, inl, inr, ap, refl, sym}
+use Rattle.std.proofs.Common.{arith}
 use Rattle.std.specs.List.{filter}
 use Rattle.std.specs.declared.cmp.Ordering.TheVariants.{Less, Equal, Greater}
 use Rattle.chess.specs.Public.Attacks.{IsForward}
 use Rattle.chess.specs.Public.Fen.{before_first, without_empty, is_right_letter}
 use Rattle.chess.specs.Public.Letters.{file_letter, rank_digit}
-use Rattle.chess.specs.Public.Moves.{IsSingleStep, IsDoubleStep, IsPawnCapture, IsPawnMove, IsKingMove, Goes, is_pawn, is_square, is_en_passant, arriving, with_rook, rights_after, IsUnbarred, IsBarred}
+use Rattle.chess.specs.Public.Moves.{IsSingleStep, IsDoubleStep, IsPawnCapture, IsPawnMove}
+use Rattle.chess.specs.Public.Moves.{IsKingMove, Goes, is_pawn, is_square, is_en_passant, arriving}
+use Rattle.chess.specs.Public.Moves.{with_rook, rights_after, IsUnbarred, IsBarred}
 use Rattle.chess.specs.Public.Placements.{Placement, no_men, man_at, first_men, men_of, IsEmpty}
-use Rattle.chess.specs.Public.Positions.{State, king_of, pawn_of, rook_of, home_rank, pawn_rank, king_to_file, rook_from_file, rook_to_file}
+use Rattle.chess.specs.Public.Positions.{State, king_of, pawn_of, rook_of, home_rank, pawn_rank}
+use Rattle.chess.specs.Public.Positions.{king_to_file, rook_from_file, rook_to_file}
 use Rattle.chess.specs.Public.Refusals.{IsSpokenOf}
 use Rattle.chess.specs.Public.San.{HasRival, IsCastlingText}
 use Rattle.chess.specs.Public.Sets.{Places, no_places, IsAttacker}

@@ -1,5 +1,6 @@
 -- The words of the board on which the men stand where they stand at first.
-use Rattle.std.proofs.Common.{◌≡◌, ◌<◌, ◌∙◌, ℕ, zero, suc, Bool, true, nat_eq, ap, refl, sym, arith, List, [], ◌∷◌, Option, Some, None}
+use Rattle.std.proofs.Common.{◌≡◌, ◌<◌, ◌∙◌, ℕ, zero, suc, Bool, true, nat_eq, ap, refl, sym, arith}
+use Rattle.std.proofs.Common.{List, [], ◌∷◌, Option, Some, None}
 use Rattle.std.proofs.lemmas.Bool.{agree_below, agree_below_at, eqb-true, eq-eqb, ne_eqb}
 use Rattle.chess.specs.Public.Squares.{square_at}
 use Rattle.chess.specs.Public.Placements.{with_man, first_men}
@@ -11,7 +12,8 @@ use Rattle.chess.proofs.BitFacts.{has_man, no_man, row_of-below, man_of_row-row_
 
 abbrev first_words : List ℕ
 first_words =
-    16 ∷ 8 ∷ 129 ∷ 36 ∷ 66 ∷ 65280 ∷ 1152921504606846976 ∷ 576460752303423488 ∷ 9295429630892703744 ∷ 2594073385365405696
+    16 ∷ 8 ∷ 129 ∷ 36 ∷ 66 ∷ 65280 ∷ 1152921504606846976 ∷ 576460752303423488 ∷ 9295429630892703744
+    ∷ 2594073385365405696
     ∷ 4755801206503243776 ∷ 71776119061217280 ∷ []
 
 -- the number of a man's word, and of no word
@@ -33,24 +35,31 @@ all_agree = refl
 
 -- a word has the squares of its man
 bit_is : (i j : ℕ) → i < 64 → j < 12 → has_square i j ≡ is_there i j
-bit_is i j less in_row = agree_below_at (has_square i) (is_there i) 12 j (agree_below_at words_agree (λ _. true) 64 i all_agree less) in_row
+bit_is i j less in_row =
+    agree_below_at (has_square i) (is_there i) 12 j
+    (agree_below_at words_agree (λ _. true) 64 i all_agree less) in_row
 
-row_is : (i j : ℕ) → i < 64 → j < 12 → has_square i j ≡ true → j ≡ row_there (initial_man (square_at i))
+row_is : (i j : ℕ) → i < 64 → j < 12 → has_square i j ≡ true
+    → j ≡ row_there (initial_man (square_at i))
 row_is i j less in_row bit = eqb-true _ _ (sym (bit_is i j less in_row) ∙ bit)
 
 pub initial_words_apart : AreApart first_words
 initial_words_apart j k i in_j in_k less a b = row_is i j less in_j a ∙ sym (row_is i k less in_k b)
 
-man_there : (i : ℕ) → i < 64 → (o : Option Man) → initial_man (square_at i) ≡ o → man_in first_words i ≡ o
+man_there : (i : ℕ) → i < 64 → (o : Option Man) → initial_man (square_at i) ≡ o
+    → man_in first_words i ≡ o
 man_there i less None e =
-    no_man first_words 12 i (λ k in_k. bit_is i k less in_k ∙ ap (λ o. nat_eq k (row_there o)) e ∙ ne_eqb k 12 (λ same. omega arith))
+    no_man first_words 12 i (λ k in_k. bit_is i k less in_k ∙ ap (λ o. nat_eq k (row_there o)) e
+    ∙ ne_eqb k 12 (λ same. omega arith))
 man_there i less (Some man) e =
     has_man first_words 12 (row_of man) i initial_words_apart (omega arith) (row_of-below man) less
-    (bit_is i (row_of man) less (row_of-below man) ∙ ap (λ o. nat_eq (row_of man) (row_there o)) e ∙ eq-eqb (row_of man) (row_of man) refl)
+    (bit_is i (row_of man) less (row_of-below man) ∙ ap (λ o. nat_eq (row_of man) (row_there o)) e
+    ∙ eq-eqb (row_of man) (row_of man) refl)
     ∙ ap Some (man_of_row-row_of man)
 
 -- squares that hold the same men, one by one
-same_first : (f g : ℕ → Option Man) (n : ℕ) → ((k : ℕ) → k < n → f k ≡ g k) → first_men f n ≡ first_men g n
+same_first : (f g : ℕ → Option Man) (n : ℕ) → ((k : ℕ) → k < n → f k ≡ g k)
+    → first_men f n ≡ first_men g n
 unfolding first_men
 same_first f g zero same = refl
 same_first f g (suc n) same =
@@ -58,4 +67,6 @@ same_first f g (suc n) same =
     ∙ ap (with_man (first_men g n) (square_at n)) (same n (omega arith))
 
 pub initial_words_men : words_men first_words ≡ initial_men
-initial_words_men = same_first (man_in first_words) (λ n. initial_man (square_at n)) 64 (λ k less. man_there k less (initial_man (square_at k)) refl)
+initial_words_men =
+    same_first (man_in first_words) (λ n. initial_man (square_at n)) 64 (λ k less.
+    man_there k less (initial_man (square_at k)) refl)

@@ -1,12 +1,15 @@
--- The men that are left where a man is moved from a square to another, by the words of those squares.
-use Rattle.std.proofs.Common.{◌≡◌, ◌↔◌, ◌⊎◌, ◌∙◌, ◌<◌, ◌^◌, w64, ℕ, Bool, true, inl, inr, ap, sym, subst, bit_and, bit_or, Some, None, IsTrue}
+-- The men that are left where a man is moved from a square to another, by the words of those
+-- squares.
+use Rattle.std.proofs.Common.{◌≡◌, ◌↔◌, ◌⊎◌, ◌∙◌, ◌<◌, ◌^◌, w64, ℕ, Bool, true, inl, inr, ap, sym}
+use Rattle.std.proofs.Common.{subst, bit_and, bit_or, Some, None, IsTrue}
 use Rattle.std.specs.Int.{bit_not}
 use Rattle.std.proofs.lemmas.Bool.{and_parts, and_from}
 use Rattle.chess.specs.Public.Squares.{Place, IsOnBoard, index_of}
 use Rattle.chess.specs.Shared.SetWords.{has_bit}
 use Rattle.chess.specs.Shared.SetFacts.{index_of-below}
 use Rattle.chess.specs.Public.Sets.{Places, is_in, HoldsExactly}
-use Rattle.chess.specs.Public.Placements.{Placement, man_at, with_man, opposite, AreOnBoard, IsEmpty}
+use Rattle.chess.specs.Public.Placements.{Placement, man_at, with_man, opposite, AreOnBoard}
+use Rattle.chess.specs.Public.Placements.{IsEmpty}
 use Rattle.chess.specs.Private.PseudoAttacks.{IsPseudoAttack}
 use Rattle.chess.specs.Shared.CellFacts.{man_at-same, man_at-other}
 use Rattle.chess.specs.Private.BitWords.{IsWordOf, IsMan, IsRunner, AreLeft, IsHitBy, square_word}
@@ -14,7 +17,8 @@ use Rattle.chess.specs.declared.board.man.Man.{Man}
 use Rattle.chess.specs.declared.board.man.Side.{Side}
 use Rattle.chess.specs.declared.board.man.Kind.{Kind}
 use Rattle.chess.specs.declared.board.man.Kind.TheVariants.{King, Queen, Knight, Pawn}
-use Rattle.chess.proofs.PlaceFacts.{cases_place, same_side, some_not_none, not_true, true_not, not_opposite}
+use Rattle.chess.proofs.PlaceFacts.{cases_place, same_side, some_not_none, not_true, true_not}
+use Rattle.chess.proofs.PlaceFacts.{not_opposite}
 use Rattle.chess.proofs.FillFacts.{bit_of_square, has_own_bit, bit_of_both, either_word}
 use Rattle.chess.proofs.BitFacts.{bit_of_rest}
 use Rattle.chess.proofs.AttackerFacts.{runners_seen}
@@ -23,10 +27,15 @@ use Rattle.chess.proofs.AttackerFacts.{runners_seen}
 
 -- the word of one square
 pub own_word : (s : Place) → IsOnBoard s → IsWordOf (λ t. t ≡ s) (square_word s)
-own_word s on t there = (bit_of_square s t on there, (λ e. subst (λ (u : Place). has_bit (square_word s) (index_of u) ≡ true) (sym e) (has_own_bit s)))
+own_word s on t there = (
+  bit_of_square s t on there,
+  (λ e. subst (λ (u : Place). has_bit (square_word s) (index_of u)
+      ≡ true) (sym e) (has_own_bit s)),
+)
 
 -- the squares that have not the fact
-pub rest_word : (A : Place → Type 0) (word : ℕ) → word < 2 ^ 64 → IsWordOf A word → IsWordOf (λ s. A s → ⊥) (bit_not w64 word)
+pub rest_word : (A : Place → Type 0) (word : ℕ) → word < 2 ^ 64 → IsWordOf A word
+    → IsWordOf (λ s. A s → ⊥) (bit_not w64 word)
 rest_word A word fits are s on =
     let rest = bit_of_rest word (index_of s) fits (index_of-below s on) in (
       (λ e fact. true_not (has_bit word (index_of s)) (sym rest ∙ e) ((are s on).1 fact)),
@@ -35,16 +44,21 @@ rest_word A word fits are s on =
 
 -- ---- the men of a side that are left
 
-pub men_left : (old new : Placement) (side : Side) (left : ℕ) → AreLeft old new side left → (other : Kind) (mine : ℕ)
+pub men_left : (old new : Placement) (side : Side) (left : ℕ) → AreLeft old new side left
+    → (other : Kind) (mine : ℕ)
     → IsWordOf (IsMan old side other) mine → IsWordOf (IsMan new side other) (bit_and left mine)
 men_left old new side left h other mine are s on =
     let bits = bit_of_both left mine (index_of s) in (
-      (λ e. let both = and_parts _ _ (sym bits ∙ e) in (h.same other s on).1 (both.0, (are s on).0 both.1)),
-      (λ here. let parts = (h.same other s on).0 here in bits ∙ and_from _ _ parts.0 ((are s on).1 parts.1)),
+      (λ e. let both = and_parts _ _ (sym bits ∙ e) in
+          (h.same other s on).1 (both.0, (are s on).0 both.1)),
+      (λ here. let parts = (h.same other s on).0 here in
+          bits ∙ and_from _ _ parts.0 ((are s on).1 parts.1)),
     )
 
-pub runners_left : (old new : Placement) (side : Side) (left : ℕ) → AreLeft old new side left → (other : Kind) (mine : ℕ)
-    → IsWordOf (IsRunner old side other) mine → IsWordOf (IsRunner new side other) (bit_and left mine)
+pub runners_left : (old new : Placement) (side : Side) (left : ℕ) → AreLeft old new side left
+    → (other : Kind) (mine : ℕ)
+    → IsWordOf (IsRunner old side other) mine
+    → IsWordOf (IsRunner new side other) (bit_and left mine)
 runners_left old new side left h other mine are s on =
     let bits = bit_of_both left mine (index_of s) in (
       (λ e.
@@ -54,8 +68,10 @@ runners_left old new side left h other mine are s on =
             | inr runner ↦ inr ((h.same other s on).1 (both.0, runner))
           ]),
       (λ here. elim here [
-        | inl queen ↦ let parts = (h.same Queen s on).0 queen in bits ∙ and_from _ _ parts.0 ((are s on).1 (inl parts.1))
-        | inr runner ↦ let parts = (h.same other s on).0 runner in bits ∙ and_from _ _ parts.0 ((are s on).1 (inr parts.1))
+        | inl queen ↦ let parts = (h.same Queen s on).0 queen in
+            bits ∙ and_from _ _ parts.0 ((are s on).1 (inl parts.1))
+        | inr runner ↦ let parts = (h.same other s on).0 runner in
+            bits ∙ and_from _ _ parts.0 ((are s on).1 (inr parts.1))
       ]),
     )
 
@@ -65,8 +81,10 @@ IsSeer p side other t s = IsMan p side other s × IsPseudoAttack side other s t
 
 -- a square of the words of knights, kings and pawns that see the square is an attack
 pub hit_nearby : (p : Placement) (side : Side) (t : Place) (word : ℕ) (set : Places) (r : Bool)
-    → IsWordOf (λ s. (IsSeer p side Knight t s ⊎ IsSeer p side King t s) ⊎ IsSeer p side Pawn t s) word
-    → HoldsExactly (λ s. has_bit word (index_of s) ≡ true) set → IsTrue r ↔ ((s : Place) × IsOnBoard s × (is_in set s ≡ true))
+    → IsWordOf (λ s. (IsSeer p side Knight t s ⊎ IsSeer p side King t s)
+    ⊎ IsSeer p side Pawn t s) word
+    → HoldsExactly (λ s. has_bit word (index_of s) ≡ true) set
+    → IsTrue r ↔ ((s : Place) × IsOnBoard s × (is_in set s ≡ true))
     → IsTrue r ↔ (IsHitBy p side Knight t ⊎ (IsHitBy p side King t ⊎ IsHitBy p side Pawn t))
 hit_nearby p side t word set r are all some = (
   (λ e.
@@ -89,7 +107,8 @@ hit_nearby p side t word set r are all some = (
 
 -- ---- where nothing has changed
 
-pub all_left : (p : Placement) (side : Side) (left : ℕ) → AreOnBoard p → ((s : Place) → IsOnBoard s → has_bit left (index_of s) ≡ true) → AreLeft p p side left
+pub all_left : (p : Placement) (side : Side) (left : ℕ) → AreOnBoard p
+    → ((s : Place) → IsOnBoard s → has_bit left (index_of s) ≡ true) → AreLeft p p side left
 all_left p side left on all = record {
   on_board = on;
   same = λ other s there. ((λ here. (all s there, here)), (λ h. h.1));
@@ -110,20 +129,35 @@ StandsThen p man from taken to s =
     ⊎ (((s ≡ to → ⊥) × IsGone from taken to s × IsEmpty (moved_so p man from taken to) s)
     ⊎ ((IsGone from taken to s → ⊥) × (man_at (moved_so p man from taken to) s ≡ man_at p s)))
 
-stands_then : (p : Placement) (man : Man) (from taken to s : Place) → StandsThen p man from taken to s
+stands_then : (p : Placement) (man : Man) (from taken to s : Place)
+    → StandsThen p man from taken to s
 stands_then p man from taken to s =
     let first = with_man p taken None in
     let mid = with_man first from None in elim (cases_place s to) [
       | inl at_to ↦
-          inl (at_to, ap (man_at (moved_so p man from taken to)) at_to ∙ man_at-same mid to (Some man))
+          inl (
+            at_to,
+            ap (man_at (moved_so p man from taken to)) at_to
+                ∙ man_at-same mid to (Some man),
+          )
       | inr off_to ↦
           let now = man_at-other mid to s (Some man) off_to in
           elim (cases_place s from) [
-            | inl at_from ↦ inr (inl (off_to, inl (inr at_from), now ∙ ap (man_at mid) at_from ∙ man_at-same first from None))
+            | inl at_from ↦ inr (inl (
+              off_to,
+              inl (inr at_from),
+              now ∙ ap (man_at mid) at_from ∙ man_at-same first from None,
+            ))
             | inr off_from ↦
                 let before = now ∙ man_at-other first from s None off_from in
                 elim (cases_place s taken) [
-                  | inl at_taken ↦ inr (inl (off_to, inl (inl at_taken), before ∙ ap (man_at first) at_taken ∙ man_at-same p taken None))
+                  | inl at_taken ↦ inr
+                      (inl (
+                        off_to,
+                        inl (inl at_taken),
+                        before ∙ ap (man_at first) at_taken
+                            ∙ man_at-same p taken None,
+                      ))
                   | inr off_taken ↦ inr (inr (
                     (λ gone. elim gone [
                       | inl either ↦ elim either [ inl e ↦ off_taken e | inr e ↦ off_from e ]
@@ -135,7 +169,8 @@ stands_then p man from taken to s =
           ]
     ]
 
-on_board_then : (p : Placement) (man : Man) (from taken to : Place) → AreOnBoard p → IsOnBoard to → AreOnBoard (moved_so p man from taken to)
+on_board_then : (p : Placement) (man : Man) (from taken to : Place) → AreOnBoard p → IsOnBoard to
+    → AreOnBoard (moved_so p man from taken to)
 on_board_then p man from taken to on on_to s other here = elim (stands_then p man from taken to s) [
   | inl at_to ↦ subst IsOnBoard (sym at_to.0) on_to
   | inr more ↦ elim more [
@@ -144,13 +179,17 @@ on_board_then p man from taken to on on_to s other here = elim (stands_then p ma
   ]
 ]
 
-pub left_then : (p : Placement) (man : Man) (from taken to : Place) (left : ℕ) → AreOnBoard p → IsOnBoard to
-    → IsWordOf (λ s. IsGone from taken to s → ⊥) left → AreLeft p (moved_so p man from taken to) (opposite man.side) left
+pub left_then : (p : Placement) (man : Man) (from taken to : Place) (left : ℕ) → AreOnBoard p
+    → IsOnBoard to
+    → IsWordOf (λ s. IsGone from taken to s → ⊥) left
+    → AreLeft p (moved_so p man from taken to) (opposite man.side) left
 left_then p man from taken to left on on_to are = record {
   on_board = on_board_then p man from taken to on on_to;
   same = λ other s there. (
     (λ here. elim (stands_then p man from taken to s) [
-      | inl at_to ↦ absurd (not_opposite man.side (same_side man (record { side = opposite man.side; kind = other }) (sym at_to.1 ∙ here)))
+      | inl at_to ↦ absurd
+          (not_opposite man.side
+          (same_side man (record { side = opposite man.side; kind = other }) (sym at_to.1 ∙ here)))
       | inr more ↦ elim more [
         | inl gone ↦ absurd (some_not_none _ _ gone.2 here)
         | inr stays ↦ ((are s there).1 stays.0, sym stays.1 ∙ here)
@@ -166,10 +205,15 @@ left_then p man from taken to left on on_to are = record {
   );
 }
 
-pub men_then : (p : Placement) (man : Man) (from taken to : Place) (left all : ℕ) → IsOnBoard to → IsWordOf (λ s. IsGone from taken to s → ⊥) left
-    → IsWordOf (λ s. ¬ IsEmpty p s) all → IsWordOf (λ s. ¬ IsEmpty (moved_so p man from taken to) s) (bit_or (bit_and all left) (square_word to))
+pub men_then : (p : Placement) (man : Man) (from taken to : Place) (left all : ℕ) → IsOnBoard to
+    → IsWordOf (λ s. IsGone from taken to s → ⊥) left
+    → IsWordOf (λ s. ¬ IsEmpty p s) all
+    → IsWordOf (λ s. ¬ IsEmpty (moved_so p man from taken to) s)
+    (bit_or (bit_and all left) (square_word to))
 men_then p man from taken to left all on_to are men s there =
-    let word = either_word _ (λ t. t ≡ to) (bit_and all left) (square_word to) (runners_seen _ _ all left men are) (own_word to on_to) s there in (
+    let word =
+    either_word _ (λ t. t ≡ to) (bit_and all left) (square_word to)
+    (runners_seen _ _ all left men are) (own_word to on_to) s there in (
       (λ e none. elim (stands_then p man from taken to s) [
         | inl at_to ↦ some_not_none _ man none at_to.1
         | inr more ↦ elim (word.0 e) [
@@ -190,10 +234,12 @@ men_then p man from taken to left all on_to are men s there =
     )
 
 -- the squares that are left, of the three that are not
-pub gone_word : (from taken to : Place) (a b c : ℕ) → IsOnBoard from → IsOnBoard taken → IsOnBoard to → a ≡ square_word taken → b ≡ square_word from
+pub gone_word : (from taken to : Place) (a b c : ℕ) → IsOnBoard from → IsOnBoard taken
+    → IsOnBoard to → a ≡ square_word taken → b ≡ square_word from
     → c ≡ square_word to → IsWordOf (IsGone from taken to) (bit_or (bit_or a b) c)
 gone_word from taken to a b c on_from on_taken on_to e f g =
     let one : (w : ℕ) (s : Place) → IsOnBoard s → w ≡ square_word s → IsWordOf (λ t. t ≡ s) w =
     λ w s on is. subst (IsWordOf (λ (t : Place). t ≡ s)) (sym is) (own_word s on) in
     either_word _ (λ t. t ≡ to) (bit_or a b) c
-    (either_word (λ t. t ≡ taken) (λ t. t ≡ from) a b (one a taken on_taken e) (one b from on_from f)) (one c to on_to g)
+    (either_word (λ t. t ≡ taken) (λ t. t
+    ≡ from) a b (one a taken on_taken e) (one b from on_from f)) (one c to on_to g)

@@ -10,12 +10,16 @@ use Rattle.chess.specs.declared.board.man.Kind.TheVariants.{King, Queen, Rook, B
 
 kind_by : ℕ → Kind
 kind_by n =
-    if n == 75 then King else if n == 81 then Queen else if n == 82 then Rook else if n == 66 then Bishop else if n == 78 then Knight else Pawn
+    if n == 75 then King else if n == 81 then Queen else if n == 82 then Rook else if n == 66
+    then Bishop else if n == 78 then Knight else Pawn
 
 man_by : ℕ → Man
-man_by n = if nat_le n 90 then record { side = White; kind = kind_by n } else record { side = Black; kind = kind_by (n - 32) }
+man_by n = if nat_le n 90 then record { side = White; kind = kind_by n }
+    else record { side = Black; kind = kind_by (n - 32) }
 
-man_back : (side : Side) (other : Kind) → man_by (man_letter (record { side = side; kind = other })) ≡ record { side = side; kind = other }
+man_back : (side : Side) (other : Kind)
+    → man_by (man_letter (record { side = side; kind = other }))
+    ≡ record { side = side; kind = other }
 unfolding man_by kind_by
 man_back White King = refl
 man_back White Queen = refl
@@ -42,6 +46,7 @@ kind_high Bishop = omega arith
 kind_high Knight = omega arith
 kind_high Pawn = omega arith
 
-pub letter_high : (side : Side) (other : Kind) → 57 ≤ man_letter (record { side = side; kind = other })
+pub letter_high : (side : Side) (other : Kind)
+    → 57 ≤ man_letter (record { side = side; kind = other })
 letter_high White other = kind_high other
 letter_high Black other = let high = kind_high other in omega arith

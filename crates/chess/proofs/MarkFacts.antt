@@ -1,16 +1,20 @@
 -- Facts about the table of letters: how it is filled man by man, and what it says of each square.
-use Rattle.std.proofs.Common.{◌≡◌, ◌<◌, ◌+◌, ◌&&◌, ℕ, false, not, inl, inr, ap, refl, sym, subst, ◌∙◌, arith, if◌then◌else◌, List, length, slice_set, Option, Some, None}
+use Rattle.std.proofs.Common.{◌≡◌, ◌<◌, ◌+◌, ◌&&◌, ℕ, false, not, inl, inr, ap, refl, sym, subst}
+use Rattle.std.proofs.Common.{◌∙◌, arith, if◌then◌else◌, List, length, slice_set, Option, Some}
+use Rattle.std.proofs.Common.{None}
 use Rattle.std.specs.Prelude.{replicate, ltb}
 use Rattle.std.proofs.lemmas.Bool.{lt-ltb, ltb-true, cases_Bool}
 use Rattle.std.proofs.lemmas.List.{get_or-set_same, get_or-set_other, get_or-replicate, length-set}
 use Rattle.chess.specs.Public.Squares.{Place, IsOnBoard, index_of, square_at}
-use Rattle.chess.specs.Shared.SetFacts.{index_of-below, square_at-index_of, false_of, and_false, and_true}
+use Rattle.chess.specs.Shared.SetFacts.{index_of-below, square_at-index_of, false_of, and_false}
+use Rattle.chess.specs.Shared.SetFacts.{and_true}
 use Rattle.chess.specs.Public.Placements.{Placement, man_at}
 use Rattle.chess.specs.Public.Letters.{man_letter}
 use Rattle.chess.specs.Public.Sets.{Places, is_in, IsSquaresOf}
 use Rattle.chess.specs.Shared.SetWords.{IsTakenFirst}
 use Rattle.chess.specs.Private.BitWords.{row_of, man_of_row}
-use Rattle.chess.specs.Private.FenTextWords.{letter_on, letter_at, letter_below, AreLetters, AreLettersBelow}
+use Rattle.chess.specs.Private.FenTextWords.{letter_on, letter_at, letter_below, AreLetters}
+use Rattle.chess.specs.Private.FenTextWords.{AreLettersBelow}
 use Rattle.chess.specs.declared.board.man.Man.{Man}
 use Rattle.chess.specs.declared.board.man.Side.{Side}
 use Rattle.chess.specs.declared.board.man.Kind.{Kind}
@@ -23,14 +27,19 @@ use Rattle.chess.proofs.BitFacts.{man_of_row-row_of, row_of-below}
 
 -- ---- one letter on the squares of a set
 
--- once the letter stands on the squares left too, it stands on all of the set, and all other squares are as they were
-pub record IsMarked (letter : ℕ) (old : List ℕ) (squares left : Places) (now : List ℕ) : Type 0 where
-  pub size : length now ≡ 64
-  pub each : (s : Place) → IsOnBoard s
-      → (if is_in left s then letter else letter_at now s) ≡ (if is_in squares s then letter else letter_at old s)
+-- once the letter stands on the squares left too, it stands on all of the set, and all other
+-- squares are as they were
+pub record IsMarked (letter : ℕ) (old : List ℕ) (squares left : Places) (now : List ℕ) : Type 0
+  where
+    pub size : length now ≡ 64
+    pub each : (s : Place) → IsOnBoard s
+        → (if is_in left s then letter else letter_at now s)
+        ≡ (if is_in squares s then letter else letter_at old s)
 
-pub marked_more : (letter : ℕ) (old : List ℕ) (squares left new : Places) (now : List ℕ) (t : Place) → IsTakenFirst left new (Some t)
-    → IsMarked letter old squares left now → IsMarked letter old squares new (slice_set now (index_of t) letter)
+pub marked_more : (letter : ℕ) (old : List ℕ) (squares left new : Places) (now : List ℕ) (t : Place)
+    → IsTakenFirst left new (Some t)
+    → IsMarked letter old squares left now
+    → IsMarked letter old squares new (slice_set now (index_of t) letter)
 marked_more letter old squares left new now t taken so_far =
     let then_letters = slice_set now (index_of t) letter in
     let size = so_far.size in
@@ -38,23 +47,33 @@ marked_more letter old squares left new now t taken so_far =
       size = length-set now (index_of t) letter ∙ size;
       each = λ s on. elim (cases_place s t) [
         | inl same ↦
-            let gone : is_in new s ≡ false = taken.3 s ∙ ap (λ b. is_in left s && not b) (same_square-same s t same) ∙ and_false (is_in left s) in
-            ap (λ b. if b then letter else letter_at then_letters s) gone ∙ ap (letter_at then_letters) same
+            let gone : is_in new s ≡ false = taken.3 s
+            ∙ ap (λ b. is_in left s && not b) (same_square-same s t same)
+            ∙ and_false (is_in left s) in
+            ap (λ b. if b then letter else letter_at then_letters s) gone
+            ∙ ap (letter_at then_letters) same
             ∙ get_or-set_same now (index_of t) letter 0 (omega arith)
-            ∙ sym (ap (λ b. if b then letter else letter_at now s) (ap (is_in left) same ∙ taken.1)) ∙ so_far.each s on
+            ∙ sym (ap (λ b. if b then letter else letter_at now s) (ap (is_in left) same ∙ taken.1))
+            ∙ so_far.each s on
         | inr other ↦
             let kept : is_in new s ≡ is_in left s =
-            taken.3 s ∙ ap (λ b. is_in left s && not b) (false_of _ (λ e. other (same_square-then s t e))) ∙ and_true (is_in left s) in
+            taken.3 s
+            ∙ ap (λ b. is_in left s && not b) (false_of _ (λ e. other (same_square-then s t e)))
+            ∙ and_true (is_in left s) in
             ap (λ b. if b then letter else letter_at then_letters s) kept
-            ∙ ap (λ n. if is_in left s then letter else n) (get_or-set_other now (index_of t) (index_of s) letter 0
-            (λ e. other (sym (square_at-index_of s on) ∙ ap square_at e ∙ square_at-index_of t taken.0)))
+            ∙ ap (λ n. if is_in left s then letter
+            else n) (get_or-set_other now (index_of t) (index_of s) letter 0
+            (λ e. other (sym (square_at-index_of s on) ∙ ap square_at e
+            ∙ square_at-index_of t taken.0)))
             ∙ so_far.each s on
       ];
     }
 
-pub marked_all : (letter : ℕ) (old : List ℕ) (squares left new : Places) (now : List ℕ) → IsTakenFirst left new None
+pub marked_all : (letter : ℕ) (old : List ℕ) (squares left new : Places) (now : List ℕ)
+    → IsTakenFirst left new None
     → IsMarked letter old squares left now
-    → (s : Place) → IsOnBoard s → letter_at now s ≡ (if is_in squares s then letter else letter_at old s)
+    → (s : Place) → IsOnBoard s → letter_at now s
+    ≡ (if is_in squares s then letter else letter_at old s)
 marked_all letter old squares left new now none so_far s on =
     sym (ap (λ b. if b then letter else letter_at now s) (not_in left s none.0)) ∙ so_far.each s on
 
@@ -72,43 +91,55 @@ below_too r n other = elim (cases_Bool (ltb r n)) [
       true_not_false _ (lt-ltb r n less) more))
 ]
 
-below_other : (o : Option Man) (man : Man) (n : ℕ) → n ≡ row_of man → (o ≡ Some man → ⊥) → letter_below n o ≡ letter_below (n + 1) o
+below_other : (o : Option Man) (man : Man) (n : ℕ) → n ≡ row_of man → (o ≡ Some man → ⊥)
+    → letter_below n o ≡ letter_below (n + 1) o
 below_other None man n at other = refl
 below_other (Some own) man n at other =
-    ap (λ b. if b then man_letter own else 0) (below_too (row_of own) n (λ e. other (ap Some (one_row own man (e ∙ at)))))
+    ap (λ b. if b then man_letter own
+    else 0) (below_too (row_of own) n (λ e. other (ap Some (one_row own man (e ∙ at)))))
 
 below_own : (man : Man) (n : ℕ) → n ≡ row_of man → letter_below (n + 1) (Some man) ≡ man_letter man
-below_own man n at = ap (λ b. if b then man_letter man else 0) (lt-ltb (row_of man) (n + 1) (omega arith))
+below_own man n at =
+    ap (λ b. if b then man_letter man else 0) (lt-ltb (row_of man) (n + 1) (omega arith))
 
-pub one_more_man : (p : Placement) (man : Man) (letter n : ℕ) (squares : Places) (old new : List ℕ) → n ≡ row_of man → letter ≡ man_letter man
+pub one_more_man : (p : Placement) (man : Man) (letter n : ℕ) (squares : Places) (old new : List ℕ)
+    → n ≡ row_of man → letter ≡ man_letter man
     → IsSquaresOf p man squares
-    → ((s : Place) → IsOnBoard s → letter_at new s ≡ (if is_in squares s then letter else letter_at old s))
+    → ((s : Place) → IsOnBoard s → letter_at new s
+    ≡ (if is_in squares s then letter else letter_at old s))
     → AreLettersBelow p old n → AreLettersBelow p new (n + 1)
-one_more_man p man letter n squares old new at own found marked before s on = elim (cases_Bool (is_in squares s)) [
-  | inl here ↦
-      marked s on ∙ ap (λ b. if b then letter else letter_at old s) here ∙ own
-      ∙ sym (ap (letter_below (n + 1)) ((found s).0 here).1 ∙ below_own man n at)
-  | inr away ↦
-      marked s on ∙ ap (λ b. if b then letter else letter_at old s) away ∙ before s on
-      ∙ below_other (man_at p s) man n at (λ e. true_not_false _ ((found s).1 (on, e)) away)
-]
+one_more_man p man letter n squares old new at own found marked before s on =
+    elim (cases_Bool (is_in squares s)) [
+      | inl here ↦
+          marked s on ∙ ap (λ b. if b then letter else letter_at old s) here ∙ own
+          ∙ sym (ap (letter_below (n + 1)) ((found s).0 here).1 ∙ below_own man n at)
+      | inr away ↦
+          marked s on ∙ ap (λ b. if b then letter else letter_at old s) away ∙ before s on
+          ∙ below_other (man_at p s) man n at (λ e. true_not_false _ ((found s).1 (on, e)) away)
+    ]
 
 -- the number in another form
-pub below_same : (p : Placement) (letters : List ℕ) (m n : ℕ) → m ≡ n → AreLettersBelow p letters m → AreLettersBelow p letters n
+pub below_same : (p : Placement) (letters : List ℕ) (m n : ℕ) → m ≡ n → AreLettersBelow p letters m
+    → AreLettersBelow p letters n
 below_same p letters m n same before = subst (AreLettersBelow p letters) same before
 
 below_none : (o : Option Man) → letter_below 0 o ≡ 0
 below_none None = refl
-below_none (Some man) = ap (λ b. if b then man_letter man else 0) (false_of _ (λ e. let h = ltb-true (row_of man) 0 e in absurd (omega arith)))
+below_none (Some man) =
+    ap (λ b. if b then man_letter man
+    else 0) (false_of _ (λ e. let h = ltb-true (row_of man) 0 e in absurd (omega arith)))
 
 pub no_letters : (p : Placement) → AreLettersBelow p (replicate 64 0) 0
-no_letters p s on = get_or-replicate 64 (index_of s) 0 0 (index_of-below s on) ∙ sym (below_none (man_at p s))
+no_letters p s on = get_or-replicate 64 (index_of s) 0 0 (index_of-below s on)
+    ∙ sym (below_none (man_at p s))
 
 below_all : (o : Option Man) → letter_below 12 o ≡ letter_on o
 below_all None = refl
-below_all (Some man) = ap (λ b. if b then man_letter man else 0) (lt-ltb (row_of man) 12 (row_of-below man))
+below_all (Some man) =
+    ap (λ b. if b then man_letter man else 0) (lt-ltb (row_of man) 12 (row_of-below man))
 
-pub all_letters : (p : Placement) (letters : List ℕ) → AreLettersBelow p letters 12 → AreLetters p letters
+pub all_letters : (p : Placement) (letters : List ℕ) → AreLettersBelow p letters 12
+    → AreLetters p letters
 all_letters p letters below s on = below s on ∙ below_all (man_at p s)
 
 -- ---- what a letter says of a square

@@ -1,4 +1,5 @@
--- Whether a side has a move, and whether it is mated or stalemated, is settled where men stand on the board alone.
+-- Whether a side has a move, and whether it is mated or stalemated, is settled where men stand on
+-- the board alone.
 use Rattle.std.proofs.Common.{Option}
 use Rattle.chess.specs.Public.Squares.{Place, IsOnBoard}
 use Rattle.chess.specs.Public.Placements.{AreOnBoard}
@@ -23,13 +24,16 @@ settled_can_go P s t on_board =
 
 settled_has_move : (P : State) → AreOnBoard P.men → Settled (HasMove P)
 settled_has_move P on_board =
-    settled_like (λ h. (h.0, h.2.0, h.2.2)) (λ h. (h.0, h.2.2.pseudo_legal.from, (h.1, h.2.2.pseudo_legal.to, h.2)))
+    settled_like (λ h. (h.0, h.2.0, h.2.2)) (λ h.
+    (h.0, h.2.2.pseudo_legal.from, (h.1, h.2.2.pseudo_legal.to, h.2)))
     (search_square (λ s. (t : Place) × IsOnBoard t × CanGo P s t)
     (λ s. search_square (λ t. CanGo P s t) (λ t. settled_can_go P s t on_board)))
 
 pub settled_mate : (P : State) → AreOnBoard P.men → Settled (IsMate P)
-settled_mate P on_board = settled_both (settled_check P.men P.turn on_board) (settled_not (settled_has_move P on_board))
+settled_mate P on_board =
+    settled_both (settled_check P.men P.turn on_board) (settled_not (settled_has_move P on_board))
 
 pub settled_stalemate : (P : State) → AreOnBoard P.men → Settled (IsStalemate P)
 settled_stalemate P on_board =
-    settled_both (settled_not (settled_check P.men P.turn on_board)) (settled_not (settled_has_move P on_board))
+    settled_both (settled_not (settled_check P.men P.turn on_board))
+    (settled_not (settled_has_move P on_board))

@@ -1,5 +1,7 @@
--- A man that is moved from a square to another, in twelve words: three squares are cleared at once, and he is set on one of them.
-use Rattle.std.proofs.Common.{◌≡◌, ◌<◌, ◌^◌, bit_or, bit_and, w64, length, map, ◌&&◌, ◌||◌, ℕ, Bool, true, false, not, ap, refl, sym, ◌∙◌, arith, List, Option, None}
+-- A man that is moved from a square to another, in twelve words: three squares are cleared at once,
+-- and he is set on one of them.
+use Rattle.std.proofs.Common.{◌≡◌, ◌<◌, ◌^◌, bit_or, bit_and, w64, length, map, ◌&&◌, ◌||◌, ℕ, Bool}
+use Rattle.std.proofs.Common.{true, false, not, ap, refl, sym, ◌∙◌, arith, List, Option, None}
 use Rattle.std.specs.Int.{bit_not}
 use Rattle.std.proofs.lemmas.List.{get_or-map, length-map}
 use Rattle.std.proofs.Math.Pow.{pow-lt}
@@ -19,9 +21,11 @@ without words s = map (λ w. bit_and w (bit_not w64 (square_word s))) words
 square_fits : (s : Place) → IsOnBoard s → square_word s < 2 ^ 64
 square_fits s on = pow-lt (index_of-below s on)
 
-pub is_without : (words : List ℕ) (s : Place) → length words ≡ 12 → IsOnBoard s → IsCleared words (without words s) (square_word s)
+pub is_without : (words : List ℕ) (s : Place) → length words ≡ 12 → IsOnBoard s
+    → IsCleared words (without words s) (square_word s)
 is_without words s size on k i less in_word =
-    ap (λ w. has_bit w i) (get_or-map (λ w. bit_and w (bit_not w64 (square_word s))) words k 0 0 (omega arith))
+    ap (λ w. has_bit w i)
+    (get_or-map (λ w. bit_and w (bit_not w64 (square_word s))) words k 0 0 (omega arith))
     ∙ cleared_bit (word_at words k) (square_word s) i (square_fits s on) in_word
 
 -- one square after the other, or all at once
@@ -30,7 +34,8 @@ one_by_one true true q = refl
 one_by_one true false q = refl
 one_by_one false p q = refl
 
-pub cleared_last : (old mid : List ℕ) (taken from to : Place) → length old ≡ 12 → IsOnBoard taken → IsOnBoard from
+pub cleared_last : (old mid : List ℕ) (taken from to : Place) → length old ≡ 12 → IsOnBoard taken
+    → IsOnBoard from
     → IsCleared old mid (bit_or (bit_or (square_word taken) (square_word from)) (square_word to))
     → IsCleared (without (without old taken) from) mid (square_word to)
 cleared_last old mid taken from to size on_taken on_from cleared k i less in_word =
@@ -39,7 +44,8 @@ cleared_last old mid taken from to size on_taken on_from cleared k i less in_wor
     let c = has_bit (square_word to) i in
     let x = has_bit (word_at old k) i in
     cleared k i less in_word
-    ∙ ap (λ t. x && not t) (bit_of_either (bit_or (square_word taken) (square_word from)) (square_word to) i)
+    ∙ ap (λ t. x
+    && not t) (bit_of_either (bit_or (square_word taken) (square_word from)) (square_word to) i)
     ∙ ap (λ t. x && not (t || c)) (bit_of_either (square_word taken) (square_word from) i)
     ∙ one_by_one x (a || b) c
     ∙ ap (λ t. t && not c) (one_by_one x a b)
@@ -48,20 +54,27 @@ cleared_last old mid taken from to size on_taken on_from cleared k i less in_wor
     ∙ ap (λ t. t && not b) (is_without old taken size on_taken k i less in_word)))
 
 -- the three changes of the map
-first_put : (old : List ℕ) (taken : Place) → length old ≡ 12 → IsOnBoard taken → IsPut old (without old taken) (index_of taken) None
-first_put old taken size on = put_none old (without old taken) (index_of taken) (is_without old taken size on)
+first_put : (old : List ℕ) (taken : Place) → length old ≡ 12 → IsOnBoard taken
+    → IsPut old (without old taken) (index_of taken) None
+first_put old taken size on =
+    put_none old (without old taken) (index_of taken) (is_without old taken size on)
 
-without_apart : (old : List ℕ) (s : Place) → length old ≡ 12 → IsOnBoard s → AreApart old → AreApart (without old s)
-without_apart old s size on apart = put_apart old (without old s) (index_of s) None apart (first_put old s size on)
+without_apart : (old : List ℕ) (s : Place) → length old ≡ 12 → IsOnBoard s → AreApart old
+    → AreApart (without old s)
+without_apart old s size on apart =
+    put_apart old (without old s) (index_of s) None apart (first_put old s size on)
 
-pub moved_apart : (old new : List ℕ) (taken from to : Place) (man : Option Man) → length old ≡ 12 → IsOnBoard taken → IsOnBoard from → AreApart old
+pub moved_apart : (old new : List ℕ) (taken from to : Place) (man : Option Man) → length old ≡ 12
+    → IsOnBoard taken → IsOnBoard from → AreApart old
     → IsPut (without (without old taken) from) new (index_of to) man → AreApart new
 moved_apart old new taken from to man size on_taken on_from apart put =
     let mid = without old taken in
     put_apart (without mid from) new (index_of to) man
-    (without_apart mid from (length-map old _ ∙ size) on_from (without_apart old taken size on_taken apart)) put
+    (without_apart mid from (length-map old _
+    ∙ size) on_from (without_apart old taken size on_taken apart)) put
 
-pub moved_men : (old new : List ℕ) (taken from to : Place) (man : Option Man) → length old ≡ 12 → IsOnBoard taken → IsOnBoard from → IsOnBoard to
+pub moved_men : (old new : List ℕ) (taken from to : Place) (man : Option Man) → length old ≡ 12
+    → IsOnBoard taken → IsOnBoard from → IsOnBoard to
     → AreApart old → IsPut (without (without old taken) from) new (index_of to) man
     → words_men new ≡ with_man (with_man (with_man (words_men old) taken None) from None) to man
 moved_men old new taken from to man size on_taken on_from on_to apart put =
@@ -70,5 +83,7 @@ moved_men old new taken from to man size on_taken on_from on_to apart put =
     let mid_size : length mid ≡ 12 = length-map old _ ∙ size in
     let mid_apart = without_apart old taken size on_taken apart in
     put_men last new to man on_to (without_apart mid from mid_size on_from mid_apart) put
-    ∙ ap (λ p. with_man p to man) (put_men mid last from None on_from mid_apart (first_put mid from mid_size on_from)
-    ∙ ap (λ p. with_man p from None) (put_men old mid taken None on_taken apart (first_put old taken size on_taken)))
+    ∙ ap (λ p. with_man p to man)
+    (put_men mid last from None on_from mid_apart (first_put mid from mid_size on_from)
+    ∙ ap (λ p. with_man p from None)
+    (put_men old mid taken None on_taken apart (first_put old taken size on_taken)))

@@ -1,5 +1,8 @@
--- In a position whose men stand on the board a text names one legal move alone, or none, or several.
-use Rattle.std.proofs.Common.{◌≡◌, ◌≢◌, ◌⊎◌, ℕ, ◌<◌, Bool, true, Option, Some, None, IfSome, List, [], ◌∷◌, ◌++◌, IsTrue, sym, ap, ◌∙◌, subst, inl, inr, refl, arith, append_assoc}
+-- In a position whose men stand on the board a text names one legal move alone, or none, or
+-- several.
+use Rattle.std.proofs.Common.{◌≡◌, ◌≢◌, ◌⊎◌, ℕ, ◌<◌, Bool, true, Option, Some, None, IfSome, List}
+use Rattle.std.proofs.Common.{[], ◌∷◌, ◌++◌, IsTrue, sym, ap, ◌∙◌, subst, inl, inr, refl, arith}
+use Rattle.std.proofs.Common.{append_assoc}
 use Rattle.std.specs.List.{list_all}
 use Rattle.std.proofs.lemmas.Bool.{cases_eq}
 use Rattle.std.proofs.lemmas.Bool.Decides.{nat_tests}
@@ -7,7 +10,9 @@ use Rattle.chess.specs.Public.Squares.{Place, IsOnBoard}
 use Rattle.chess.specs.Public.Placements.{man_at, AreOnBoard}
 use Rattle.chess.specs.Public.Positions.{State}
 use Rattle.chess.specs.Public.Letters.{is_check_mark, is_sign, square_text}
-use Rattle.chess.specs.Public.San.{Said, letter_text, file_text, rank_text, promotion_text, IsFileOrRank, Spells, castling_text, castling_with_zeros, IsCastlingText, kind_said, Agrees, IsNamed}
+use Rattle.chess.specs.Public.San.{Said, letter_text, file_text, rank_text, promotion_text}
+use Rattle.chess.specs.Public.San.{IsFileOrRank, Spells, castling_text, castling_with_zeros}
+use Rattle.chess.specs.Public.San.{IsCastlingText, kind_said, Agrees, IsNamed}
 use Rattle.chess.specs.Public.Moves.{IsPromotionKind}
 use Rattle.chess.specs.Public.Laws.{NamesOneNoneOrSeveral, EachTextNamesOneNoneOrSeveral}
 use Rattle.chess.specs.Shared.CellFacts.{on_board_or_not}
@@ -17,8 +22,13 @@ use Rattle.chess.specs.declared.board.man.Kind.TheVariants.{Pawn}
 use Rattle.chess.specs.declared.board.man.Wing.{Wing}
 use Rattle.chess.specs.declared.moves.Move.{Move}
 use Rattle.chess.proofs.PlaceFacts.{cases_place}
-use Rattle.chess.proofs.Settled.{Settled, settled_like, settled_both, settled_three, settled_either, settled_implies, settled_if_some, settled_not, settled_le, settled_true, settled_below, settled_held, settled_front, SearchIn, IsAny, search_any, search_both, search_bool, search_option, cases_option}
-use Rattle.chess.proofs.Searches.{search_square, search_wing, search_any_kind, cases_kind, cases_wing, cases_move}
+use Rattle.chess.proofs.Settled.{Settled, settled_like, settled_both, settled_three, settled_either}
+use Rattle.chess.proofs.Settled.{settled_implies, settled_if_some, settled_not, settled_le}
+use Rattle.chess.proofs.Settled.{settled_true, settled_below, settled_held, settled_front, SearchIn}
+use Rattle.chess.proofs.Settled.{IsAny, search_any, search_both, search_bool, search_option}
+use Rattle.chess.proofs.Settled.{cases_option}
+use Rattle.chess.proofs.Searches.{search_square, search_wing, search_any_kind, cases_kind}
+use Rattle.chess.proofs.Searches.{cases_wing, cases_move}
 use Rattle.chess.proofs.LegalSettled.{settled_promotion_kind, settled_legal}
 
 -- ---- files and ranks that may be given
@@ -36,7 +46,8 @@ a_number : (F : Option ℕ → Type 0) → F None ⊎ NumberBelow F → (o : Opt
 a_number F (inl h) = (None, tt, h)
 a_number F (inr h) = (Some h.0, h.2.0, h.2.1)
 
-which_number : (F : Option ℕ → Type 0) (o : Option ℕ) → IsGivenNumber o → F o → F None ⊎ NumberBelow F
+which_number : (F : Option ℕ → Type 0) (o : Option ℕ) → IsGivenNumber o → F o
+    → F None ⊎ NumberBelow F
 which_number F None within h = inl h
 which_number F (Some k) within h = inr (k, (let high = within.1 in omega arith), (within, h))
 
@@ -73,7 +84,8 @@ search_sign F each =
 
 -- ---- whether a text says something
 
-regroup : (a b c d e f m : List ℕ) → (a ++ (b ++ (c ++ (d ++ (e ++ f))))) ++ m ≡ a ++ (b ++ (c ++ (d ++ (e ++ (f ++ m)))))
+regroup : (a b c d e f m : List ℕ) → (a ++ (b ++ (c ++ (d ++ (e ++ f))))) ++ m
+    ≡ a ++ (b ++ (c ++ (d ++ (e ++ (f ++ m)))))
 regroup a b c d e f m =
     append_assoc a (b ++ (c ++ (d ++ (e ++ f)))) m
     ∙ ap (λ t. a ++ t) (append_assoc b (c ++ (d ++ (e ++ f))) m
@@ -95,20 +107,24 @@ marked_text said sign equals marks =
 said_marked : (said : Said) (sign : List ℕ) (equals : Bool) (marks : List ℕ)
     → said_text said sign equals ++ marks ≡ marked_text said sign equals marks
 said_marked said sign equals marks =
-    regroup (letter_text said.letter) (file_text said.file) (rank_text said.rank) sign (square_text said.target)
+    regroup (letter_text said.letter) (file_text said.file) (rank_text said.rank) sign
+    (square_text said.target)
     (promotion_text equals said.promote) marks
 
 abbrev IsSpelledWith : List ℕ → Said → List ℕ → Bool → Type 0
 IsSpelledWith x said sign equals =
-    (marks : List ℕ) × IsTrue (list_all is_check_mark marks) × (x ≡ said_text said sign equals ++ marks)
+    (marks : List ℕ) × IsTrue (list_all is_check_mark marks)
+    × (x ≡ said_text said sign equals ++ marks)
 
 abbrev IsSpelledBy : List ℕ → Said → Type 0
-IsSpelledBy x said = (sign : List ℕ) × IsSignText sign × ((equals : Bool) × IsSpelledWith x said sign equals)
+IsSpelledBy x said = (sign : List ℕ) × IsSignText sign
+    × ((equals : Bool) × IsSpelledWith x said sign equals)
 
 settled_spelled_by : (x : List ℕ) (said : Said) → Settled (IsSpelledBy x said)
 settled_spelled_by x said =
     search_sign (λ sign. (equals : Bool) × IsSpelledWith x said sign equals)
-    (λ sign. search_bool (IsSpelledWith x said sign) (λ equals. settled_front is_check_mark (said_text said sign equals) x))
+    (λ sign. search_bool (IsSpelledWith x said sign) (λ equals.
+    settled_front is_check_mark (said_text said sign equals) x))
 
 settled_given_number : (o : Option ℕ) → Settled (IsGivenNumber o)
 settled_given_number o = settled_if_some o IsFileOrRank settled_file_or_rank
@@ -130,20 +146,30 @@ settled_spells x said =
     (λ r. (
       (r.file, r.rank),
       (r.target, r.promote),
-      (r.sign, r.sign_is, (r.equals, (r.marks, r.marks_are, r.text ∙ sym (said_marked said r.sign r.equals r.marks)))),
+      (
+        r.sign,
+        r.sign_is,
+        (
+          r.equals,
+          (r.marks, r.marks_are, r.text ∙ sym (said_marked said r.sign r.equals r.marks)),
+        ),
+      ),
     ))
     (settled_three (settled_both (settled_given_number said.file) (settled_given_number said.rank))
-    (settled_both (on_board_or_not said.target) (settled_if_some said.promote IsPromotionKind settled_promotion_kind))
+    (settled_both (on_board_or_not said.target)
+    (settled_if_some said.promote IsPromotionKind settled_promotion_kind))
     (settled_spelled_by x said))
 
 -- ---- whether a move agrees with what is said
 
 abbrev IsAgreed : Said → Move → Man → Type 0
-IsAgreed said m man = (man.kind ≡ kind_said said.letter) × (man.kind ≡ Pawn → said.file ≡ None → m.from.file ≡ m.to.file)
+IsAgreed said m man = (man.kind ≡ kind_said said.letter)
+    × (man.kind ≡ Pawn → said.file ≡ None → m.from.file ≡ m.to.file)
 
 settled_agreed : (said : Said) (m : Move) (man : Man) → Settled (IsAgreed said m man)
 settled_agreed said m man =
-    settled_both (cases_kind man.kind (kind_said said.letter)) (settled_implies (cases_kind man.kind Pawn)
+    settled_both (cases_kind man.kind (kind_said said.letter))
+    (settled_implies (cases_kind man.kind Pawn)
     (settled_implies (cases_option cases_eq said.file None) (cases_eq m.from.file m.to.file)))
 
 settled_from : (from : ℕ) (o : Option ℕ) → Settled (IfSome o (λ n. from ≡ n))
@@ -162,9 +188,14 @@ settled_agrees P said m =
       promote = h.0.2;
       stays = h.2.2.1;
     })
-    (λ r. ((r.not_castling, r.target, r.promote), (r.file, r.rank), (r.man, r.here, (r.kind, r.stays))))
+    (λ r. (
+      (r.not_castling, r.target, r.promote),
+      (r.file, r.rank),
+      (r.man, r.here, (r.kind, r.stays)),
+    ))
     (settled_three
-    (settled_three (cases_option cases_wing m.castle None) (cases_place m.to said.target) (cases_option cases_kind m.promote said.promote))
+    (settled_three (cases_option cases_wing m.castle None) (cases_place m.to said.target)
+    (cases_option cases_kind m.promote said.promote))
     (settled_both (settled_from m.from.file said.file) (settled_from m.from.rank said.rank))
     (settled_held (man_at P.men m.from) (IsAgreed said m) (settled_agreed said m)))
 
@@ -174,7 +205,8 @@ abbrev SaidParts : Type 0
 SaidParts = Option Kind × (Option ℕ × (Option ℕ × (Place × Option Kind)))
 
 abbrev said_of : SaidParts → Said
-said_of t = record { letter = t.0; file = t.1.0; rank = t.1.1.0; target = t.1.1.1.0; promote = t.1.1.1.1 }
+said_of t =
+    record { letter = t.0; file = t.1.0; rank = t.1.1.0; target = t.1.1.1.0; promote = t.1.1.1.1 }
 
 abbrev AreTargetParts : Place × Option Kind → Type 0
 AreTargetParts t = IsOnBoard t.0 × IsAny t.1
@@ -192,7 +224,8 @@ search_parts =
     (search_both IsGivenNumber AreTargetParts search_number
     (search_both IsOnBoard IsAny search_square (search_any search_any_kind))))
 
-settled_said : (P : State) (x : List ℕ) (m : Move) → Settled ((said : Said) × Spells x said × Agrees P said m)
+settled_said : (P : State) (x : List ℕ) (m : Move)
+    → Settled ((said : Said) × Spells x said × Agrees P said m)
 settled_said P x m =
     settled_like (λ h. (said_of h.0, h.2.0, h.2.1)) (λ h. (
       (h.0.letter, (h.0.file, (h.0.rank, (h.0.target, h.0.promote)))),
@@ -208,18 +241,22 @@ settled_castling_text : (wing : Wing) (x : List ℕ) → Settled (IsCastlingText
 settled_castling_text wing x =
     settled_like (λ h. elim h [ inl a ↦ (a.0, a.1, inl a.2) | inr a ↦ (a.0, a.1, inr a.2) ])
     (λ h. elim h.2 [ inl e ↦ inl (h.0, h.1, e) | inr e ↦ inr (h.0, h.1, e) ])
-    (settled_either (settled_front is_check_mark (castling_text wing) x) (settled_front is_check_mark (castling_with_zeros wing) x))
+    (settled_either (settled_front is_check_mark (castling_text wing) x)
+    (settled_front is_check_mark (castling_with_zeros wing) x))
 
-settled_castling_named : (x : List ℕ) (m : Move) → Settled ((wing : Wing) × IsCastlingText wing x × (m.castle ≡ Some wing))
+settled_castling_named : (x : List ℕ) (m : Move)
+    → Settled ((wing : Wing) × IsCastlingText wing x × (m.castle ≡ Some wing))
 settled_castling_named x m =
     settled_like (λ h. (h.0, h.1.0, h.1.1)) (λ h. (h.0, (h.1, h.2)))
     (search_wing (λ wing. IsCastlingText wing x × (m.castle ≡ Some wing))
-    (λ wing. settled_both (settled_castling_text wing x) (cases_option cases_wing m.castle (Some wing))))
+    (λ wing.
+    settled_both (settled_castling_text wing x) (cases_option cases_wing m.castle (Some wing))))
 
 settled_named : (P : State) (x : List ℕ) (m : Move) → AreOnBoard P.men → Settled (IsNamed P x m)
 settled_named P x m on_board =
     settled_like (λ h. record { legal = h.0; by = h.1 }) (λ r. (r.legal, r.by))
-    (settled_both (settled_legal P m on_board) (settled_either (settled_castling_named x m) (settled_said P x m)))
+    (settled_both (settled_legal P m on_board)
+    (settled_either (settled_castling_named x m) (settled_said P x m)))
 
 -- ---- a search through all moves
 
@@ -239,7 +276,8 @@ search_moves =
     (search_both IsAny IsAny (search_any search_any_kind) (search_any (search_option search_wing))))
 
 -- the squares of a named move are on the board
-search_named : (P : State) (x : List ℕ) (F : Move → Type 0) → ((m : Move) → F m → IsNamed P x m) → ((m : Move) → Settled (F m))
+search_named : (P : State) (x : List ℕ) (F : Move → Type 0) → ((m : Move) → F m → IsNamed P x m)
+    → ((m : Move) → Settled (F m))
     → Settled ((m : Move) × F m)
 search_named P x F named each =
     settled_like (λ h. (move_of h.0, h.2)) (λ h.
@@ -252,9 +290,11 @@ search_named P x F named each =
 
 -- one named move is looked for, and then another one
 pub each_text_names : EachTextNamesOneNoneOrSeveral
-each_text_names P x on_board = first (search_named P x (IsNamed P x) (λ m h. h) (λ m. settled_named P x m on_board))
+each_text_names P x on_board =
+    first (search_named P x (IsNamed P x) (λ m h. h) (λ m. settled_named P x m on_board))
   where
-    second : (m : Move) → IsNamed P x m → Settled ((n : Move) × (IsNamed P x n × (n ≢ m))) → NamesOneNoneOrSeveral P x
+    second : (m : Move) → IsNamed P x m → Settled ((n : Move) × (IsNamed P x n × (n ≢ m)))
+        → NamesOneNoneOrSeveral P x
     second m named (inl found) = inr (inr (m, found.0, named, found.1.0, (λ e. found.1.1 (sym e))))
     second m named (inr none) = inl (
       m,

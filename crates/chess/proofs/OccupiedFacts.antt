@@ -15,9 +15,11 @@ use Rattle.chess.proofs.BitFacts.{}
 -- a man of the side is of one of six kinds
 abbrev pub IsOfSix : Placement → Side → Place → Type 0
 IsOfSix p side s =
-    ((((IsMan p side King s ⊎ IsMan p side Queen s) ⊎ IsMan p side Rook s) ⊎ IsMan p side Bishop s) ⊎ IsMan p side Knight s) ⊎ IsMan p side Pawn s
+    ((((IsMan p side King s ⊎ IsMan p side Queen s) ⊎ IsMan p side Rook s) ⊎ IsMan p side Bishop s)
+    ⊎ IsMan p side Knight s) ⊎ IsMan p side Pawn s
 
-of_kind : (p : Placement) (side : Side) (s : Place) (other : Kind) → IsMan p side other s → IsOfSix p side s
+of_kind : (p : Placement) (side : Side) (s : Place) (other : Kind) → IsMan p side other s
+    → IsOfSix p side s
 of_kind p side s King here = inl (inl (inl (inl (inl here))))
 of_kind p side s Queen here = inl (inl (inl (inl (inr here))))
 of_kind p side s Rook here = inl (inl (inl (inr here)))
@@ -25,7 +27,8 @@ of_kind p side s Bishop here = inl (inl (inr here))
 of_kind p side s Knight here = inl (inr here)
 of_kind p side s Pawn here = inr here
 
-occupied_of : (p : Placement) (side : Side) (s : Place) (other : Kind) → IsMan p side other s → IsOccupiedBy p side s
+occupied_of : (p : Placement) (side : Side) (s : Place) (other : Kind) → IsMan p side other s
+    → IsOccupiedBy p side s
 occupied_of p side s other here = (record { side = side; kind = other }, here, refl)
 
 occupied_six : (p : Placement) (side : Side) (s : Place) → IsOfSix p side s → IsOccupiedBy p side s
@@ -37,7 +40,11 @@ occupied_six p side s h = elim h [
       | inr bishop ↦ occupied_of p side s Bishop bishop
       | inl h ↦ elim h [
         | inr rook ↦ occupied_of p side s Rook rook
-        | inl h ↦ elim h [ inl king ↦ occupied_of p side s King king | inr queen ↦ occupied_of p side s Queen queen ]
+        | inl h ↦ elim h [
+          | inl king ↦ occupied_of p side s King king
+          | inr queen ↦ occupied_of p side s Queen
+              queen
+        ]
       ]
     ]
   ]
@@ -45,11 +52,14 @@ occupied_six p side s h = elim h [
 
 six_occupied : (p : Placement) (side : Side) (s : Place) → IsOccupiedBy p side s → IsOfSix p side s
 six_occupied p side s h =
-    let man : h.0 ≡ record { side = side; kind = h.0.kind } = man_of h.0 (record { side = side; kind = h.0.kind }) h.2 refl in
+    let man : h.0 ≡ record { side = side; kind = h.0.kind } =
+    man_of h.0 (record { side = side; kind = h.0.kind }) h.2 refl in
     of_kind p side s h.0.kind (h.1 ∙ ap Some man)
 
-pub word_of_occupied : (p : Placement) (side : Side) (a b c d e f : ℕ) → IsWordOf (IsMan p side King) a → IsWordOf (IsMan p side Queen) b
-    → IsWordOf (IsMan p side Rook) c → IsWordOf (IsMan p side Bishop) d → IsWordOf (IsMan p side Knight) e → IsWordOf (IsMan p side Pawn) f
+pub word_of_occupied : (p : Placement) (side : Side) (a b c d e f : ℕ)
+    → IsWordOf (IsMan p side King) a → IsWordOf (IsMan p side Queen) b
+    → IsWordOf (IsMan p side Rook) c → IsWordOf (IsMan p side Bishop) d
+    → IsWordOf (IsMan p side Knight) e → IsWordOf (IsMan p side Pawn) f
     → IsWordOf (IsOccupiedBy p side) (bit_or (bit_or (bit_or (bit_or (bit_or a b) c) d) e) f)
 word_of_occupied p side a b c d e f king queen rook bishop knight pawn s on =
     let six =
@@ -61,7 +71,8 @@ word_of_occupied p side a b c d e f king queen rook bishop knight pawn s on =
     ((λ bit. occupied_six p side s (six.0 bit)), (λ held. six.1 (six_occupied p side s held)))
 
 -- one square of a word is asked
-pub has_square : (A : Place → Type 0) (all word : ℕ) (s : Place) → IsOnBoard s → word ≡ square_word s → IsWordOf A all
+pub has_square : (A : Place → Type 0) (all word : ℕ) (s : Place) → IsOnBoard s
+    → word ≡ square_word s → IsWordOf A all
     → (bit_and all word ≢ 0) ↔ A s
 has_square A all word s on is are = (
   (λ some. elim (cases_Bool (has_bit all (index_of s))) [
@@ -72,5 +83,6 @@ has_square A all word s on is are = (
 )
 
 -- a square with a man of a side is not empty
-pub occupied_not_empty : (p : Placement) (side : Side) (s : Place) → IsOccupiedBy p side s → IsEmpty p s → ⊥
+pub occupied_not_empty : (p : Placement) (side : Side) (s : Place) → IsOccupiedBy p side s
+    → IsEmpty p s → ⊥
 occupied_not_empty p side s held empty = let here = held.1 in cc

@@ -1,5 +1,6 @@
 -- The text of a pawn's move names that move and no other.
-use Rattle.std.proofs.Common.{◌≡◌, ℕ, Bool, true, false, inl, inr, ap, refl, sym, subst, ◌∙◌, Option, Some, None, IfSome, List, [], ◌∷◌, ◌++◌}
+use Rattle.std.proofs.Common.{◌≡◌, ℕ, Bool, true, false, inl, inr, ap, refl, sym, subst, ◌∙◌}
+use Rattle.std.proofs.Common.{Option, Some, None, IfSome, List, [], ◌∷◌, ◌++◌}
 use Rattle.std.specs.Prelude.{if◌then◌else◌}
 use Rattle.std.specs.List.{list_all}
 use Rattle.chess.specs.Public.Squares.{IsOnBoard}
@@ -7,7 +8,8 @@ use Rattle.chess.specs.Public.Placements.{man_at}
 use Rattle.chess.specs.Public.Positions.{State, pawn_of, IsSound}
 use Rattle.chess.specs.Public.Moves.{IsLegal, IsPromotion, IsPromotionKind, IsPawnMove, Goes}
 use Rattle.chess.specs.Public.Letters.{file_letter, square_text, is_check_mark}
-use Rattle.chess.specs.Public.San.{Said, Spells, Agrees, IsOnlyNamed, is_capture, pawn_text, promotion_text}
+use Rattle.chess.specs.Public.San.{Said, Spells, Agrees, IsOnlyNamed, is_capture, pawn_text}
+use Rattle.chess.specs.Public.San.{promotion_text}
 use Rattle.chess.specs.Private.SanWords.{IsMoveSaid}
 use Rattle.chess.specs.declared.board.man.Man.{Man}
 use Rattle.chess.specs.declared.board.man.Kind.{Kind}
@@ -24,14 +26,25 @@ pawn_file true m = Some m.from.file
 pawn_file false m = None
 
 abbrev pub pawn_said : Bool → Move → Said
-pawn_said capture m = record { letter = None; file = pawn_file capture m; rank = None; target = m.to; promote = m.promote }
+pawn_said capture m =
+    record {
+      letter = None;
+      file = pawn_file capture m;
+      rank = None;
+      target = m.to;
+      promote =
+          m.promote;
+    }
 
 -- the text of a pawn's move, as a capture or not
 abbrev pub pawn_body : Bool → Move → List ℕ
-pawn_body capture m = (if capture then file_letter m.from.file ∷ 120 ∷ [] else []) ++ (square_text m.to ++ promotion_text true m.promote)
+pawn_body capture m = (if capture then file_letter m.from.file ∷ 120 ∷ [] else [])
+    ++ (square_text m.to ++ promotion_text true m.promote)
 
-pawn_spelled : (capture : Bool) (m : Move) (mark : List ℕ) → IsOnBoard m.from → IsOnBoard m.to → IfSome m.promote IsPromotionKind
-    → list_all is_check_mark mark ≡ true → Spells (pawn_body capture m ++ mark) (pawn_said capture m)
+pawn_spelled : (capture : Bool) (m : Move) (mark : List ℕ) → IsOnBoard m.from → IsOnBoard m.to
+    → IfSome m.promote IsPromotionKind
+    → list_all is_check_mark mark ≡ true
+    → Spells (pawn_body capture m ++ mark) (pawn_said capture m)
 pawn_spelled true m mark on there becomes marks = record {
   file = (on.file_low, on.file_high);
   rank = tt;
@@ -62,17 +75,21 @@ becomes_kind None is = tt
 becomes_kind (Some found) is = is
 
 promotes_kind : (P : State) (m : Move) → IsLegal P m → IfSome m.promote IsPromotionKind
-promotes_kind P m legal = elim (goes_promote P m legal.pseudo_legal.man.kind legal.pseudo_legal.goes) [
-  | inl none ↦ subst (λ p. IfSome p IsPromotionKind) (sym none) tt
-  | inr pawn ↦ becomes_kind m.promote pawn.1
-]
+promotes_kind P m legal =
+    elim (goes_promote P m legal.pseudo_legal.man.kind legal.pseudo_legal.goes) [
+      | inl none ↦ subst (λ p. IfSome p IsPromotionKind) (sym none) tt
+      | inr pawn ↦ becomes_kind m.promote pawn.1
+    ]
 
-pawn_goes : (P : State) (m : Move) (man : Man) → IsLegal P m → man_at P.men m.from ≡ Some man → man.kind ≡ Pawn → IsPawnMove P m.from m.to
+pawn_goes : (P : State) (m : Move) (man : Man) → IsLegal P m → man_at P.men m.from ≡ Some man
+    → man.kind ≡ Pawn → IsPawnMove P m.from m.to
 pawn_goes P m man legal here pawn =
     let rules = legal.pseudo_legal in
-    let own : rules.man.kind ≡ Pawn = same_kind rules.man man (sym rules.here ∙ here) ∙ pawn in (subst (Goes P m) own rules.goes).1
+    let own : rules.man.kind ≡ Pawn = same_kind rules.man man (sym rules.here ∙ here) ∙ pawn in
+    (subst (Goes P m) own rules.goes).1
 
-pawn_only : (P : State) (capture : Bool) (m n : Move) → is_capture P m ≡ capture → IsMoveSaid P (pawn_said capture m) m
+pawn_only : (P : State) (capture : Bool) (m n : Move) → is_capture P m ≡ capture
+    → IsMoveSaid P (pawn_said capture m) m
     → IsMoveSaid P (pawn_said capture m) n → n.from ≡ m.from
 pawn_only P true m n is says others =
     let goes = pawn_goes P m _ says.0 (said_man P (pawn_said true m) m says) refl in
@@ -81,7 +98,8 @@ pawn_only P true m n is says others =
 pawn_only P false m n is says others =
     let here = said_man P (pawn_said false m) m says in
     let there = said_man P (pawn_said false m) n others in
-    same_step P m n _ here there (pawn_goes P m _ says.0 here refl) (pawn_goes P n _ others.0 there refl) others.1.target (says.1.stays says.1.kind refl)
+    same_step P m n _ here there (pawn_goes P m _ says.0 here refl)
+    (pawn_goes P n _ others.0 there refl) others.1.target (says.1.stays says.1.kind refl)
     (others.1.stays others.1.kind refl)
 
 -- the file that is given is the pawn's, and where none is given the pawn stays on its file
@@ -93,13 +111,16 @@ gives_none : (capture : Bool) (m : Move) → pawn_file capture m ≡ None → ca
 gives_none true m e = absurd (cc)
 gives_none false m e = refl
 
-pub pawn_named : (P : State) (m : Move) (man : Man) (mark : List ℕ) → IsSound P → IsLegal P m → m.castle ≡ None
-    → man_at P.men m.from ≡ Some man → man.kind ≡ Pawn → list_all is_check_mark mark ≡ true → IsOnlyNamed P (pawn_text P m ++ mark) m
+pub pawn_named : (P : State) (m : Move) (man : Man) (mark : List ℕ) → IsSound P → IsLegal P m
+    → m.castle ≡ None
+    → man_at P.men m.from ≡ Some man → man.kind ≡ Pawn → list_all is_check_mark mark ≡ true
+    → IsOnlyNamed P (pawn_text P m ++ mark) m
 pawn_named P m man mark sound legal castle here pawn marks =
     let capture = is_capture P m in
     let rules = legal.pseudo_legal in
     let own : man_at P.men m.from ≡ Some (pawn_of P.turn) =
-    here ∙ ap Some (man_of man (pawn_of P.turn) (same_side man rules.man (sym here ∙ rules.here) ∙ rules.own) pawn) in
+    here ∙ ap Some (man_of man (pawn_of P.turn) (same_side man rules.man (sym here ∙ rules.here)
+    ∙ rules.own) pawn) in
     let goes = pawn_goes P m man legal here pawn in
     let agrees : Agrees P (pawn_said capture m) m = record {
       not_castling = castle;
@@ -110,7 +131,8 @@ pawn_named P m man mark sound legal castle here pawn marks =
       file = gives_file capture m;
       rank = tt;
       promote = refl;
-      stays = λ of_pawn none. step_stays P m (record { sound = sound; rules = rules }) own goes (gives_none capture m none);
+      stays = λ of_pawn none. step_stays P m (record { sound = sound; rules = rules }) own goes
+          (gives_none capture m none);
     } in
     said_named P m (pawn_text P m ++ mark) (pawn_said capture m) legal
     (pawn_spelled capture m mark rules.from rules.to (promotes_kind P m legal) marks) agrees

@@ -1,5 +1,6 @@
 -- The text of a piece's move names that move and no other.
-use Rattle.std.proofs.Common.{◌≡◌, ◌⊎◌, ℕ, Bool, true, false, inl, inr, ap, refl, sym, subst, ◌∙◌, Option, Some, None, IsTrue, List, [], ◌∷◌, ◌++◌}
+use Rattle.std.proofs.Common.{◌≡◌, ◌⊎◌, ℕ, Bool, true, false, inl, inr, ap, refl, sym, subst, ◌∙◌}
+use Rattle.std.proofs.Common.{Option, Some, None, IsTrue, List, [], ◌∷◌, ◌++◌}
 use Rattle.std.specs.Prelude.{if◌then◌else◌}
 use Rattle.std.specs.List.{list_all}
 use Rattle.std.proofs.lemmas.List.{append_assoc}
@@ -8,7 +9,8 @@ use Rattle.chess.specs.Public.Placements.{man_at}
 use Rattle.chess.specs.Public.Positions.{State}
 use Rattle.chess.specs.Public.Moves.{IsLegal}
 use Rattle.chess.specs.Public.Letters.{kind_letter, square_text, is_check_mark, is_sign}
-use Rattle.chess.specs.Public.San.{Said, Spells, Agrees, IsOnlyNamed, IsRival, IsPieceText, is_capture, capture_text, file_text, rank_text}
+use Rattle.chess.specs.Public.San.{Said, Spells, Agrees, IsOnlyNamed, IsRival, IsPieceText}
+use Rattle.chess.specs.Public.San.{is_capture, capture_text, file_text, rank_text}
 use Rattle.chess.specs.Private.SanWords.{IsMoveSaid}
 use Rattle.chess.specs.declared.board.man.Man.{Man}
 use Rattle.chess.specs.declared.board.man.Kind.{Kind}
@@ -25,18 +27,23 @@ use Rattle.chess.proofs.SaidNamesFacts.{said_named}
 abbrev pub sign_text : Bool → List ℕ
 sign_text capture = if capture then 120 ∷ [] else []
 
-sign_is : (capture : Bool) → (sign_text capture ≡ []) ⊎ ((b : ℕ) × IsTrue (is_sign b) × (sign_text capture ≡ b ∷ []))
+sign_is : (capture : Bool) → (sign_text capture ≡ [])
+    ⊎ ((b : ℕ) × IsTrue (is_sign b) × (sign_text capture ≡ b ∷ []))
 sign_is true = inr (120, refl, refl)
 sign_is false = inl refl
 
 -- ---- what the text says, and its spelling
 
 abbrev pub piece_said : Move → Kind → Option ℕ → Option ℕ → Said
-piece_said m piece file rank = record { letter = Some piece; file = file; rank = rank; target = m.to; promote = None }
+piece_said m piece file rank =
+    record { letter = Some piece; file = file; rank = rank; target = m.to; promote = None }
 
-piece_spelled : (P : State) (m : Move) (piece : Kind) (file rank : Option ℕ) (mark : List ℕ) → IsOnBoard m.from → IsOnBoard m.to
+piece_spelled : (P : State) (m : Move) (piece : Kind) (file rank : Option ℕ) (mark : List ℕ)
+    → IsOnBoard m.from → IsOnBoard m.to
     → IsSaid P m file rank → list_all is_check_mark mark ≡ true
-    → Spells ((kind_letter piece ∷ ((file_text file ++ rank_text rank) ++ (capture_text P m ++ square_text m.to))) ++ mark) (piece_said m piece file rank)
+    → Spells ((kind_letter piece
+    ∷ ((file_text file ++ rank_text rank) ++ (capture_text P m ++ square_text m.to)))
+    ++ mark) (piece_said m piece file rank)
 piece_spelled P m piece file rank mark on there own marks = record {
   file = (said_on_board P m file rank own on).0;
   rank = (said_on_board P m file rank own on).1;
@@ -51,7 +58,8 @@ piece_spelled P m piece file rank mark on there own marks = record {
 }
 
 -- a rival that agrees with what is said has the file and the rank that are given
-piece_only : (P : State) (m n : Move) (piece : Kind) (file rank : Option ℕ) → IsSaid P m file rank → IsMoveSaid P (piece_said m piece file rank) m
+piece_only : (P : State) (m n : Move) (piece : Kind) (file rank : Option ℕ) → IsSaid P m file rank
+    → IsMoveSaid P (piece_said m piece file rank) m
     → IsMoveSaid P (piece_said m piece file rank) n → n.from ≡ m.from
 piece_only P m n piece file rank own says others = elim (cases_place n.from m.from) [
   | inl same ↦ same
@@ -63,13 +71,16 @@ piece_only P m n piece file rank own says others = elim (cases_place n.from m.fr
         goes = (
           n.promote,
           n.castle,
-          subst (λ t. IsLegal P (record { from = n.from; to = t; promote = n.promote; castle = n.castle })) others.1.target others.0,
+          subst (λ t.
+              IsLegal P (record { from = n.from; to = t; promote = n.promote; castle = n.castle }))
+              others.1.target others.0,
         );
       } in absurd (own.apart n.from rival others.1.file others.1.rank)
 ]
 
 -- only a pawn becomes anything
-plain_piece : (P : State) (m : Move) (man : Man) → IsLegal P m → man_at P.men m.from ≡ Some man → (man.kind ≡ Pawn → ⊥) → m.promote ≡ None
+plain_piece : (P : State) (m : Move) (man : Man) → IsLegal P m → man_at P.men m.from ≡ Some man
+    → (man.kind ≡ Pawn → ⊥) → m.promote ≡ None
 plain_piece P m man legal here no_pawn =
     let rules = legal.pseudo_legal in
     elim (goes_promote P m rules.man.kind rules.goes) [
@@ -77,8 +88,10 @@ plain_piece P m man legal here no_pawn =
       | inr pawn ↦ absurd (no_pawn (same_kind man rules.man (sym here ∙ rules.here) ∙ pawn.0))
     ]
 
-pub piece_named : (P : State) (m : Move) (man : Man) (body mark : List ℕ) → IsLegal P m → m.castle ≡ None → man_at P.men m.from ≡ Some man
-    → (man.kind ≡ Pawn → ⊥) → IsPieceText P m man.kind body → list_all is_check_mark mark ≡ true → IsOnlyNamed P (body ++ mark) m
+pub piece_named : (P : State) (m : Move) (man : Man) (body mark : List ℕ) → IsLegal P m
+    → m.castle ≡ None → man_at P.men m.from ≡ Some man
+    → (man.kind ≡ Pawn → ⊥) → IsPieceText P m man.kind body → list_all is_check_mark mark ≡ true
+    → IsOnlyNamed P (body ++ mark) m
 piece_named P m man body mark legal castle here no_pawn text marks =
     let own = reports P m text.0 text.1 in
     let said = piece_said m man.kind own.0 own.1 in
@@ -93,8 +106,13 @@ piece_named P m man body mark legal castle here no_pawn text marks =
       promote = plain_piece P m man legal here no_pawn;
       stays = λ pawn none. absurd (no_pawn pawn);
     } in
-    let spelled = piece_spelled P m man.kind own.0 own.1 mark legal.pseudo_legal.from legal.pseudo_legal.to own.2 marks in
-    let whole : body ≡ kind_letter man.kind ∷ ((file_text own.0 ++ rank_text own.1) ++ (capture_text P m ++ square_text m.to)) =
-    text.2 ∙ ap (λ origin. kind_letter man.kind ∷ (origin ++ (capture_text P m ++ square_text m.to))) own.3 in
-    said_named P m (body ++ mark) said legal (subst (λ z. Spells (z ++ mark) said) (sym whole) spelled) agrees
+    let spelled =
+    piece_spelled P m man.kind own.0 own.1 mark legal.pseudo_legal.from legal.pseudo_legal.to
+    own.2 marks in
+    let whole : body ≡ kind_letter man.kind
+    ∷ ((file_text own.0 ++ rank_text own.1) ++ (capture_text P m ++ square_text m.to)) =
+    text.2 ∙ ap (λ origin. kind_letter man.kind
+    ∷ (origin ++ (capture_text P m ++ square_text m.to))) own.3 in
+    said_named P m (body ++ mark) said legal
+    (subst (λ z. Spells (z ++ mark) said) (sym whole) spelled) agrees
     (λ n named. piece_only P m n man.kind own.0 own.1 own.2 (legal, agrees) named)

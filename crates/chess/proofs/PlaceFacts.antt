@@ -1,5 +1,6 @@
 -- Facts about squares, sides and men, by cases.
-use Rattle.std.proofs.Common.{◌≡◌, ◌&&◌, ◌⊎◌, ℕ, Bool, true, false, not, inl, inr, ap, refl, sym, ◌∙◌, arith, Option, Some, None}
+use Rattle.std.proofs.Common.{◌≡◌, ◌&&◌, ◌⊎◌, ℕ, Bool, true, false, not, inl, inr, ap, refl, sym}
+use Rattle.std.proofs.Common.{◌∙◌, arith, Option, Some, None}
 use Rattle.std.specs.Prelude.{◌==◌}
 use Rattle.std.proofs.lemmas.Bool.{cases_eq, not-true, not_from_false, false_from_ne_true}
 use Rattle.std.proofs.lemmas.Bool.Decides.{nat_tests}
@@ -32,10 +33,14 @@ numbers_rank : (a b c d : ℕ) → (a == c && b == d) ≡ true → b ≡ d
 numbers_rank a b c d e = grind (arith, nat_tests)
 
 pub same_square-same : (s t : Place) → s ≡ t → same_square s t ≡ true
-same_square-same s t e = numbers_same s.file s.rank t.file t.rank (ap (λ (u : Place). u.file) e) (ap (λ (u : Place). u.rank) e)
+same_square-same s t e =
+    numbers_same s.file s.rank t.file t.rank (ap (λ (u : Place). u.file) e)
+    (ap (λ (u : Place). u.rank) e)
 
 pub same_square-then : (s t : Place) → same_square s t ≡ true → s ≡ t
-same_square-then s t e = place_of s t (numbers_file s.file s.rank t.file t.rank e) (numbers_rank s.file s.rank t.file t.rank e)
+same_square-then s t e =
+    place_of s t (numbers_file s.file s.rank t.file t.rank e)
+    (numbers_rank s.file s.rank t.file t.rank e)
 
 -- sides
 pub opposite-opposite : (side : Side) → opposite (opposite side) ≡ side

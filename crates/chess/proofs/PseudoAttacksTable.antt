@@ -35,7 +35,9 @@ black_pawns_fit : fits_table (get_or PSEUDO_ATTACKS 6 []) (sees Black Pawn) ≡ 
 unfolding is_pawn_hit
 black_pawns_fit = refl
 
-pub hits_fit : (side : Side) (kind : Kind) → fits_table (get_or PSEUDO_ATTACKS (pseudo_attacks_row_of side kind) []) (sees side kind) ≡ true
+pub hits_fit : (side : Side) (kind : Kind)
+    → fits_table (get_or PSEUDO_ATTACKS (pseudo_attacks_row_of side kind) []) (sees side kind)
+    ≡ true
 hits_fit White King = kings_fit
 hits_fit White Queen = queens_fit
 hits_fit White Rook = rooks_fit

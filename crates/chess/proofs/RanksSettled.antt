@@ -1,5 +1,7 @@
 -- Whether a text spells men, rank by rank.
-use Rattle.std.proofs.Common.{◌≡◌, ◌⊎◌, ℕ, zero, suc, ◌+◌, ◌-◌, ◌<◌, ◌≤◌, ◌==◌, true, false, Option, Some, None, List, [], ◌∷◌, ◌++◌, if◌then◌else◌, length, replicate, get_or, refl, sym, ap, ◌∙◌, subst, inl, inr, arith, length-append}
+use Rattle.std.proofs.Common.{◌≡◌, ◌⊎◌, ℕ, zero, suc, ◌+◌, ◌-◌, ◌<◌, ◌≤◌, ◌==◌, true, false, Option}
+use Rattle.std.proofs.Common.{Some, None, List, [], ◌∷◌, ◌++◌, if◌then◌else◌, length, replicate}
+use Rattle.std.proofs.Common.{get_or, refl, sym, ap, ◌∙◌, subst, inl, inr, arith, length-append}
 use Rattle.std.proofs.lemmas.Bool.{cases_eq}
 use Rattle.std.proofs.lemmas.Bool.Decides.{nat_tests}
 use Rattle.chess.specs.Public.Squares.{Place, IsOnBoard, square_at}
@@ -10,7 +12,8 @@ use Rattle.chess.specs.Public.Letters.{man_letter}
 use Rattle.chess.specs.Public.Fen.{IsSquares, SpellsRank, row, SpellRanks, SpellsMen, parted_at}
 use Rattle.chess.specs.Public.Fen.IsSquares.{letter, step}
 use Rattle.chess.specs.declared.board.man.Man.{Man}
-use Rattle.chess.proofs.Settled.{Settled, settled_like, settled_both, settled_three, settled_either, settled_le, settled_below}
+use Rattle.chess.proofs.Settled.{Settled, settled_like, settled_both, settled_three, settled_either}
+use Rattle.chess.proofs.Settled.{settled_le, settled_below}
 use Rattle.chess.proofs.Searches.{search_man}
 
 -- ---- the squares of a rank
@@ -51,12 +54,14 @@ by_step b x k (n, less, (low, is, (more, spells, size))) =
     let steps = subst (λ c. IsSquares c (replicate n None)) (sym is) (step n low.0 (omega arith)) in (
       replicate n None ++ more,
       (replicate n None, more, refl, steps, spells),
-      (let high = low.1 in omega (arith, size, length_none n, length-append (replicate n None) more)),
+      (let high = low.1 in
+          omega (arith, size, length_none n, length-append (replicate n None) more)),
     )
 
 spelled_how : (b : ℕ) (x : List ℕ) (k : ℕ) → SpellsMany (b ∷ x) k → ByLetter b x k ⊎ ByStep b x k
 spelled_how b x k (squares, (own, more, parted, is, spells), size) =
-    let whole : length own + length more ≡ k = sym (length-append own more) ∙ ap length (sym parted) ∙ size in
+    let whole : length own + length more ≡ k =
+    sym (length-append own more) ∙ ap length (sym parted) ∙ size in
     elim (cases_squares b own is) [
       | inl (man, byte, one) ↦
           let own_size : length own ≡ 1 = ap length one in
@@ -72,12 +77,15 @@ settled_many [] k = elim (cases_eq k 0) [
   | inr none ↦ inr (λ p. none (sym p.2 ∙ ap length p.1))
 ]
 settled_many (b ∷ x) k =
-    settled_like (λ h. elim h [ inl a ↦ by_letter b x k a | inr a ↦ by_step b x k a ]) (spelled_how b x k)
+    settled_like (λ h. elim h [ inl a ↦ by_letter b x k a | inr a ↦ by_step b x k a ])
+    (spelled_how b x k)
     (settled_either
     (search_man (λ man. (b ≡ man_letter man) × (1 ≤ k) × SpellsMany x (k - 1))
     (λ man. settled_three (cases_eq b (man_letter man)) (settled_le 1 k) (settled_many x (k - 1))))
     (settled_below 9 (λ n. ((1 ≤ n) × (n ≤ k)) × (b ≡ 48 + n) × SpellsMany x (k - n))
-    (λ n less. settled_three (settled_both (settled_le 1 n) (settled_le n k)) (cases_eq b (48 + n)) (settled_many x (k - n)))))
+    (λ n less.
+    settled_three (settled_both (settled_le 1 n) (settled_le n k)) (cases_eq b (48 + n))
+    (settled_many x (k - n)))))
 
 -- ---- the ranks, as a map from ranks and files to men
 
@@ -105,7 +113,8 @@ abbrev SpellsMap : (ℕ → ℕ → Option Man) → ℕ → List (List ℕ) → 
 SpellsMap f n [] = n ≡ 0
 SpellsMap f n (x ∷ more) = (1 ≤ n) × SpellsRank x (eight (f n)) × SpellsMap f (n - 1) more
 
-same_map : (f g : ℕ → ℕ → Option Man) (n : ℕ) (texts : List (List ℕ)) → ((r : ℕ) → r ≤ n → f r ≡ g r)
+same_map : (f g : ℕ → ℕ → Option Man) (n : ℕ) (texts : List (List ℕ))
+    → ((r : ℕ) → r ≤ n → f r ≡ g r)
     → SpellsMap f n texts → SpellsMap g n texts
 same_map f g n [] same h = h
 same_map f g n (x ∷ more) same h = (
@@ -122,7 +131,8 @@ here_rank f n g =
     let same : (n == n) ≡ true = grind (arith, nat_tests) in
     sym (ap (λ b file. if b then g file else f n file) same)
 
-other_rank : (f : ℕ → ℕ → Option Man) (n r : ℕ) (g : ℕ → Option Man) → r ≤ n - 1 → 1 ≤ n → f r ≡ with_rank f n g r
+other_rank : (f : ℕ → ℕ → Option Man) (n r : ℕ) (g : ℕ → Option Man) → r ≤ n - 1 → 1 ≤ n
+    → f r ≡ with_rank f n g r
 other_rank f n r g low some =
     let apart : (r == n) ≡ false = grind (arith, nat_tests) in
     sym (ap (λ b file. if b then g file else f r file) apart)
@@ -130,7 +140,8 @@ other_rank f n r g low some =
 abbrev IsMapped : ℕ → List (List ℕ) → Type 0
 IsMapped n texts = (f : ℕ → ℕ → Option Man) × SpellsMap f n texts
 
-with_first : (n : ℕ) (x : List ℕ) (more : List (List ℕ)) → 1 ≤ n → SpellsMany x 8 → IsMapped (n - 1) more → IsMapped n (x ∷ more)
+with_first : (n : ℕ) (x : List ℕ) (more : List (List ℕ)) → 1 ≤ n → SpellsMany x 8
+    → IsMapped (n - 1) more → IsMapped n (x ∷ more)
 with_first n x more low (squares, spells, size) (f, others) =
     let g = by_file squares in
     let first = subst (SpellsRank x) (all_eight squares size) spells in (
@@ -143,9 +154,11 @@ with_first n x more low (squares, spells, size) (f, others) =
     )
 
 settled_map : (n : ℕ) (texts : List (List ℕ)) → Settled (IsMapped n texts)
-settled_map n [] = elim (cases_eq n 0) [ inl e ↦ inl ((λ r file. None), e) | inr none ↦ inr (λ h. none h.1) ]
+settled_map n [] =
+    elim (cases_eq n 0) [ inl e ↦ inl ((λ r file. None), e) | inr none ↦ inr (λ h. none h.1) ]
 settled_map n (x ∷ more) =
-    settled_like (λ h. with_first n x more h.0 h.1 h.2) (λ h. (h.1.0, (eight (h.0 n), h.1.1, refl), (h.0, h.1.2)))
+    settled_like (λ h. with_first n x more h.0 h.1 h.2) (λ h.
+    (h.1.0, (eight (h.0 n), h.1.1, refl), (h.0, h.1.2)))
     (settled_three (settled_le 1 n) (settled_many x 8) (settled_map (n - 1) more))
 
 -- ---- a placement has such a map, and each map is that of a placement
@@ -153,7 +166,8 @@ settled_map n (x ∷ more) =
 abbrev map_of : Placement → ℕ → ℕ → Option Man
 map_of p r file = man_at p (record { file = file; rank = r })
 
-map_ranks : (p : Placement) (n : ℕ) (texts : List (List ℕ)) → SpellRanks p n texts → SpellsMap (map_of p) n texts
+map_ranks : (p : Placement) (n : ℕ) (texts : List (List ℕ)) → SpellRanks p n texts
+    → SpellsMap (map_of p) n texts
 map_ranks p n [] h = h
 map_ranks p n (x ∷ more) h = (h.0, h.1, map_ranks p (n - 1) more h.2)
 
@@ -164,11 +178,14 @@ abbrev map_men : (ℕ → ℕ → Option Man) → Placement
 map_men f = men_of (cells_of f)
 
 mapped : (f : ℕ → ℕ → Option Man) (s : Place) → IsOnBoard s → man_at (map_men f) s ≡ f s.rank s.file
-mapped f s on = man_at-men_of (cells_of f) s on ∙ ap (λ (t : Place). f t.rank t.file) (square_at-index_of s on)
+mapped f s on = man_at-men_of (cells_of f) s on
+    ∙ ap (λ (t : Place). f t.rank t.file) (square_at-index_of s on)
 
-mapped_at : (f : ℕ → ℕ → Option Man) (r file : ℕ) → 1 ≤ r → r ≤ 8 → 1 ≤ file → file ≤ 8 → map_of (map_men f) r file ≡ f r file
+mapped_at : (f : ℕ → ℕ → Option Man) (r file : ℕ) → 1 ≤ r → r ≤ 8 → 1 ≤ file → file ≤ 8
+    → map_of (map_men f) r file ≡ f r file
 mapped_at f r file low high left right =
-    mapped f (record { file = file; rank = r }) (record { file_low = left; file_high = right; rank_low = low; rank_high = high })
+    mapped f (record { file = file; rank = r })
+    (record { file_low = left; file_high = right; rank_low = low; rank_high = high })
 
 row_mapped : (f : ℕ → ℕ → Option Man) (r : ℕ) → 1 ≤ r → r ≤ 8 → row (map_men f) r ≡ eight (f r)
 row_mapped f r low high =
@@ -182,10 +199,14 @@ row_mapped f r low high =
     let k = mapped_at f r 8 low high (omega arith) (omega arith) in
     λ i. a i ∷ b i ∷ c i ∷ d i ∷ e i ∷ g i ∷ h i ∷ k i ∷ []
 
-map_spelled : (f : ℕ → ℕ → Option Man) (n : ℕ) (texts : List (List ℕ)) → n ≤ 8 → SpellsMap f n texts → SpellRanks (map_men f) n texts
+map_spelled : (f : ℕ → ℕ → Option Man) (n : ℕ) (texts : List (List ℕ)) → n ≤ 8 → SpellsMap f n texts
+    → SpellRanks (map_men f) n texts
 map_spelled f n [] high h = h
-map_spelled f n (x ∷ more) high h =
-    (h.0, subst (SpellsRank x) (sym (row_mapped f n h.0 high)) h.1, map_spelled f (n - 1) more (omega arith) h.2)
+map_spelled f n (x ∷ more) high h = (
+  h.0,
+  subst (SpellsRank x) (sym (row_mapped f n h.0 high)) h.1,
+  map_spelled f (n - 1) more (omega arith) h.2,
+)
 
 pub settled_men : (x : List ℕ) → Settled ((p : Placement) × SpellsMen x p)
 settled_men x =

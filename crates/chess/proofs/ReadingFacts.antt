@@ -1,5 +1,6 @@
 -- The bytes of a move text, from its end, where it is known what the text says.
-use Rattle.std.proofs.Common.{◌≡◌, ℕ, true, false, ap, refl, Option, Some, None, IfSome, List, [], ◌∷◌, ◌++◌}
+use Rattle.std.proofs.Common.{◌≡◌, ℕ, true, false, ap, refl, Option, Some, None, IfSome, List, []}
+use Rattle.std.proofs.Common.{◌∷◌, ◌++◌}
 use Rattle.std.specs.Prelude.{if◌then◌else◌}
 use Rattle.chess.specs.Private.SanWords.{is_of, last_of, before_last}
 use Rattle.chess.specs.declared.move_text.read.parse.ByteClass.{ByteClass}
@@ -15,24 +16,31 @@ given None = []
 given (Some b) = b ∷ []
 
 -- a byte that is given is taken, and no other
-pub taken_given : (class : ByteClass) (o : Option ℕ) (z : List ℕ) → IfSome o (λ b. is_of class b ≡ true) → BeginsOtherwise class z
+pub taken_given : (class : ByteClass) (o : Option ℕ) (z : List ℕ)
+    → IfSome o (λ b. is_of class b ≡ true) → BeginsOtherwise class z
     → (last_of class (given o ++ z) ≡ o) × (before_last class (given o ++ z) ≡ z)
-taken_given class (Some b) z is other = (ap (λ t. if t then Some b else None) is, ap (λ t. if t then z else b ∷ z) is)
+taken_given class (Some b) z is other =
+    (ap (λ t. if t then Some b else None) is, ap (λ t. if t then z else b ∷ z) is)
 taken_given class None [] is other = (refl, refl)
-taken_given class None (b ∷ z) is other = (ap (λ t. if t then Some b else None) other, ap (λ t. if t then z else b ∷ z) other)
+taken_given class None (b ∷ z) is other =
+    (ap (λ t. if t then Some b else None) other, ap (λ t. if t then z else b ∷ z) other)
 
 -- what was taken and what was left are the text
-pub taken_whole : (class : ByteClass) (y : List ℕ) → (y ≡ given (last_of class y) ++ before_last class y) × IfSome (last_of class y) (λ b. is_of class b ≡ true)
+pub taken_whole : (class : ByteClass) (y : List ℕ)
+    → (y ≡ given (last_of class y) ++ before_last class y)
+    × IfSome (last_of class y) (λ b. is_of class b ≡ true)
 taken_whole class [] = (refl, tt)
 taken_whole class (b ∷ y) =
-    elim (is_of class b) as (λ t. is_of class b ≡ t → (b ∷ y ≡ given (if t then Some b else None) ++ (if t then y else b ∷ y))
+    elim (is_of class b) as (λ t. is_of class b ≡ t
+    → (b ∷ y ≡ given (if t then Some b else None) ++ (if t then y else b ∷ y))
     × IfSome (if t then Some b else None) (λ n. is_of class n ≡ true)) [
       | true ↦ λ e. (refl, e)
       | false ↦ λ e. (refl, tt)
     ] refl
 
 -- a list that begins with one byte that is given, or with none
-pub begins_given : (class : ByteClass) (o : Option ℕ) (z : List ℕ) → IfSome o (λ b. is_of class b ≡ false) → BeginsOtherwise class z
+pub begins_given : (class : ByteClass) (o : Option ℕ) (z : List ℕ)
+    → IfSome o (λ b. is_of class b ≡ false) → BeginsOtherwise class z
     → BeginsOtherwise class (given o ++ z)
 begins_given class (Some b) z is other = is
 begins_given class None z is other = other

@@ -20,15 +20,23 @@ is_kept : (held : Bool) → held ≡ (held && not false && not false && not fals
 is_kept true = refl
 is_kept false = refl
 
-right_stays : (r : CastlingRights) (m : Move) → IsNoHome m.from → IsNoHome m.to → (side : Side) (wing : Wing) → has_right r side wing ≡ keeps_right r m side wing
+right_stays : (r : CastlingRights) (m : Move) → IsNoHome m.from → IsNoHome m.to
+    → (side : Side) (wing : Wing) → has_right r side wing ≡ keeps_right r m side wing
 right_stays r m from to side wing =
     let held = has_right r side wing in
-    let king = false_of (same_square m.from (king_from side)) (λ e. from side wing (inl (same_square-then _ _ e))) in
-    let rook = false_of (same_square m.from (rook_from side wing)) (λ e. from side wing (inr (same_square-then _ _ e))) in
-    let lost = false_of (same_square m.to (rook_from side wing)) (λ e. to side wing (inr (same_square-then _ _ e))) in
+    let king =
+    false_of (same_square m.from (king_from side)) (λ e.
+    from side wing (inl (same_square-then _ _ e))) in
+    let rook =
+    false_of (same_square m.from (rook_from side wing)) (λ e.
+    from side wing (inr (same_square-then _ _ e))) in
+    let lost =
+    false_of (same_square m.to (rook_from side wing)) (λ e.
+    to side wing (inr (same_square-then _ _ e))) in
     is_kept held ∙ (λ i. held && not (sym king i) && not (sym rook i) && not (sym lost i))
 
-pub rights_stay : (r : CastlingRights) (m : Move) → IsNoHome m.from → IsNoHome m.to → r ≡ rights_after r m
+pub rights_stay : (r : CastlingRights) (m : Move) → IsNoHome m.from → IsNoHome m.to
+    → r ≡ rights_after r m
 rights_stay r m from to = λ i. record {
   white_king_side = right_stays r m from to White KingSide i;
   white_queen_side = right_stays r m from to White QueenSide i;

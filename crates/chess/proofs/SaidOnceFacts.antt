@@ -26,8 +26,11 @@ said_by_bytes y a b one other =
     let file : a.file ≡ b.file = sym one.file ∙ other.file in
     let rank : a.rank ≡ b.rank = sym one.rank ∙ other.rank in
     let promotion : a.promotion ≡ b.promotion = sym one.promotion ∙ other.promotion in
-    let target_file = same_Some a.target_file b.target_file (sym one.target_file ∙ other.target_file) in
-    let target_rank = same_Some a.target_rank b.target_rank (sym one.target_rank ∙ other.target_rank) in λ i. said_of (record {
+    let target_file =
+    same_Some a.target_file b.target_file (sym one.target_file ∙ other.target_file) in
+    let target_rank =
+    same_Some a.target_rank b.target_rank (sym one.target_rank ∙ other.target_rank) in
+    λ i. said_of (record {
       letter = letter i;
       file = file i;
       rank = rank i;
@@ -43,5 +46,6 @@ one_said x s t spells others =
     let a = said_bytes x s spells in
     let b = said_bytes x t others in
     a.back
-    ∙ said_by_bytes (reverse x) a.bytes b.bytes (read_text x a.marks a.bytes a.are a.all a.text) (read_text x b.marks b.bytes b.are b.all b.text)
+    ∙ said_by_bytes (reverse x) a.bytes b.bytes (read_text x a.marks a.bytes a.are a.all a.text)
+    (read_text x b.marks b.bytes b.are b.all b.text)
     ∙ sym b.back

@@ -1,5 +1,6 @@
 -- The standard text of a legal move names that move and no other.
-use Rattle.std.proofs.Common.{◌≡◌, ◌⊎◌, ℕ, true, inl, inr, ap, refl, sym, subst, ◌∙◌, Some, None, List, ◌++◌}
+use Rattle.std.proofs.Common.{◌≡◌, ◌⊎◌, ℕ, true, inl, inr, ap, refl, sym, subst, ◌∙◌, Some, None}
+use Rattle.std.proofs.Common.{List, ◌++◌}
 use Rattle.std.specs.List.{list_all}
 use Rattle.chess.specs.Public.Positions.{State, IsSound}
 use Rattle.chess.specs.Public.Moves.{after, IsLegal}
@@ -26,7 +27,8 @@ cases_pawn Bishop = inr (λ e. cc)
 cases_pawn Knight = inr (λ e. cc)
 cases_pawn Pawn = inl refl
 
-piece_text : (P : State) (m : Move) (kind : Kind) (body : List ℕ) → (kind ≡ Pawn → ⊥) → IsBody P m None kind body → IsPieceText P m kind body
+piece_text : (P : State) (m : Move) (kind : Kind) (body : List ℕ) → (kind ≡ Pawn → ⊥)
+    → IsBody P m None kind body → IsPieceText P m kind body
 piece_text P m King body piece is = is
 piece_text P m Queen body piece is = is
 piece_text P m Rook body piece is = is
@@ -34,15 +36,24 @@ piece_text P m Bishop body piece is = is
 piece_text P m Knight body piece is = is
 piece_text P m Pawn body piece is = absurd (piece refl)
 
-pub san_names : (P : State) (m : Move) (x : List ℕ) → IsSound P → IsLegal P m → IsSan P m x → IsOnlyNamed P x m
+pub san_names : (P : State) (m : Move) (x : List ℕ) → IsSound P → IsLegal P m → IsSan P m x
+    → IsOnlyNamed P x m
 san_names P m x sound legal san =
     let marks = marks_are (after P m) san.mark san.mark_is in
     elim m.castle as (λ c. m.castle ≡ c → IsBody P m c san.man.kind san.body → IsOnlyNamed P x m) [
-      | Some wing ↦ λ castle is. castling_named P m x wing legal castle (san.mark, marks, inl (san.text ∙ ap (λ z. z ++ san.mark) is))
-      | None ↦ λ castle is. subst (λ z. IsOnlyNamed P z m) (sym san.text) (elim (cases_pawn san.man.kind) [
-        | inl pawn ↦
-            let text : san.body ≡ pawn_text P m = subst (λ kind. IsBody P m None kind san.body) pawn is in
-            subst (λ z. IsOnlyNamed P (z ++ san.mark) m) (sym text) (pawn_named P m san.man san.mark sound legal castle san.here pawn marks)
-        | inr piece ↦ piece_named P m san.man san.body san.mark legal castle san.here piece (piece_text P m san.man.kind san.body piece is) marks
-      ])
+      | Some wing ↦ λ castle is. castling_named P m x wing legal castle (
+        san.mark,
+        marks,
+        inl (san.text ∙ ap (λ z. z ++ san.mark) is),
+      )
+      | None ↦ λ castle is. subst (λ z.
+          IsOnlyNamed P z m) (sym san.text) (elim (cases_pawn san.man.kind) [
+            | inl pawn ↦
+                let text : san.body ≡ pawn_text P m =
+                subst (λ kind. IsBody P m None kind san.body) pawn is in
+                subst (λ z. IsOnlyNamed P (z ++ san.mark) m) (sym text)
+                (pawn_named P m san.man san.mark sound legal castle san.here pawn marks)
+            | inr piece ↦ piece_named P m san.man san.body san.mark legal castle san.here piece
+                (piece_text P m san.man.kind san.body piece is) marks
+          ])
     ] refl san.body_is

@@ -1,5 +1,6 @@
 -- A move has one text in standard algebraic notation.
-use Rattle.std.proofs.Common.{◌≡◌, ℕ, refl, sym, ap, subst, ◌∙◌, Option, Some, None, List, ◌∷◌, ◌++◌}
+use Rattle.std.proofs.Common.{◌≡◌, ℕ, refl, sym, ap, subst, ◌∙◌, Option, Some, None, List, ◌∷◌}
+use Rattle.std.proofs.Common.{◌++◌}
 use Rattle.std.proofs.lemmas.Option.{same_Some}
 use Rattle.chess.specs.Public.Positions.{State}
 use Rattle.chess.specs.Public.Moves.{after}
@@ -13,7 +14,8 @@ use Rattle.chess.specs.declared.board.man.Kind.TheVariants.{King, Queen, Rook, B
 use Rattle.chess.specs.declared.board.man.Wing.{Wing}
 use Rattle.chess.specs.declared.moves.Move.{Move}
 
-one_origin : (P : State) (m : Move) (x y : List ℕ) → IsDisambiguation P m x → IsDisambiguation P m y → x ≡ y
+one_origin : (P : State) (m : Move) (x y : List ℕ) → IsDisambiguation P m x → IsDisambiguation P m y
+    → x ≡ y
 one_origin P m _ _ (alone none) (alone also) = refl
 one_origin P m _ _ (alone none) (by_file some other) = absurd (none some)
 one_origin P m _ _ (alone none) (by_rank some other) = absurd (none (some.0, some.1, tt))
@@ -43,12 +45,16 @@ one_mark P _ _ (quiet calm) (check in_check other) = absurd (calm in_check)
 one_mark P _ _ (quiet calm) (quiet also) = refl
 
 one_piece : (P : State) (m : Move) (letter : ℕ) (x y : List ℕ)
-    → ((origin : List ℕ) × IsDisambiguation P m origin × (x ≡ letter ∷ (origin ++ (capture_text P m ++ square_text m.to))))
-    → ((origin : List ℕ) × IsDisambiguation P m origin × (y ≡ letter ∷ (origin ++ (capture_text P m ++ square_text m.to)))) → x ≡ y
+    → ((origin : List ℕ) × IsDisambiguation P m origin
+    × (x ≡ letter ∷ (origin ++ (capture_text P m ++ square_text m.to))))
+    → ((origin : List ℕ) × IsDisambiguation P m origin
+    × (y ≡ letter ∷ (origin ++ (capture_text P m ++ square_text m.to)))) → x ≡ y
 one_piece P m letter x y (origin, reports, is) (other, also, too) =
-    is ∙ ap (λ o. letter ∷ (o ++ (capture_text P m ++ square_text m.to))) (one_origin P m origin other reports also) ∙ sym too
+    is ∙ ap (λ o. letter ∷ (o ++ (capture_text P m ++ square_text m.to)))
+    (one_origin P m origin other reports also) ∙ sym too
 
-one_body : (P : State) (m : Move) (castle : Option Wing) (kind : Kind) (x y : List ℕ) → IsBody P m castle kind x → IsBody P m castle kind y → x ≡ y
+one_body : (P : State) (m : Move) (castle : Option Wing) (kind : Kind) (x y : List ℕ)
+    → IsBody P m castle kind x → IsBody P m castle kind y → x ≡ y
 one_body P m (Some wing) mover x y is also = is ∙ sym also
 one_body P m None Pawn x y is also = is ∙ sym also
 one_body P m None King x y is also = one_piece P m (kind_letter King) x y is also
@@ -60,6 +66,8 @@ one_body P m None Knight x y is also = one_piece P m (kind_letter Knight) x y is
 pub one_san : (P : State) (m : Move) (x y : List ℕ) → IsSan P m x → IsSan P m y → x ≡ y
 one_san P m x y s t =
     let same : t.man ≡ s.man = same_Some t.man s.man (sym t.here ∙ s.here) in
-    let body = one_body P m m.castle s.man.kind s.body t.body s.body_is (subst (λ (man : Man). IsBody P m m.castle man.kind t.body) same t.body_is) in
+    let body =
+    one_body P m m.castle s.man.kind s.body t.body s.body_is
+    (subst (λ (man : Man). IsBody P m m.castle man.kind t.body) same t.body_is) in
     let mark = one_mark (after P m) s.mark t.mark s.mark_is t.mark_is in
     s.text ∙ (λ i. body i ++ mark i) ∙ sym t.text

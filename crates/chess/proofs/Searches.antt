@@ -1,8 +1,11 @@
--- Searches over the squares, ways, kinds, wings, sides and men of chess, and the equality of its values.
-use Rattle.std.proofs.Common.{◌≡◌, ◌⊎◌, Bool, true, false, Option, Some, None, inl, inr, refl, subst, sym}
+-- Searches over the squares, ways, kinds, wings, sides and men of chess, and the equality of its
+-- values.
+use Rattle.std.proofs.Common.{◌≡◌, ◌⊎◌, Bool, true, false, Option, Some, None, inl, inr, refl}
+use Rattle.std.proofs.Common.{subst, sym}
 use Rattle.chess.specs.Public.Squares.{Place, IsOnBoard, square_at, index_of}
 use Rattle.chess.specs.Shared.SetFacts.{square_at-index_of, index_of-below, on_board-square_at}
-use Rattle.chess.specs.Shared.Codes.{is_black_side, side_of, side_back, kind_bits, kind_by, kind_back}
+use Rattle.chess.specs.Shared.Codes.{is_black_side, side_of, side_back, kind_bits, kind_by}
+use Rattle.chess.specs.Shared.Codes.{kind_back}
 use Rattle.chess.specs.declared.board.direction.Direction.{Direction}
 use Rattle.chess.specs.declared.board.man.Man.{Man}
 use Rattle.chess.specs.declared.board.man.Side.{Side}
@@ -12,7 +15,9 @@ use Rattle.chess.specs.declared.board.man.Wing.TheVariants.{KingSide, QueenSide}
 use Rattle.chess.specs.declared.moves.Move.{Move}
 use Rattle.chess.proofs.AxisSteps.{Axis, Up, Level, Down, file_step, rank_step, way_of, way_back}
 use Rattle.chess.proofs.PlaceFacts.{cases_place}
-use Rattle.chess.proofs.Settled.{settled_like, settled_either, settled_below, Search, SearchIn, search_by, search_pair, search_bool, search_option, Cases, cases_by, cases_pair, cases_bool, cases_option}
+use Rattle.chess.proofs.Settled.{settled_like, settled_either, settled_below, Search, SearchIn}
+use Rattle.chess.proofs.Settled.{search_by, search_pair, search_bool, search_option, Cases}
+use Rattle.chess.proofs.Settled.{cases_by, cases_pair, cases_bool, cases_option}
 
 -- ---- searches
 
@@ -41,7 +46,9 @@ search_axis : Search Axis
 search_axis = search_by axis_code axis_by axis_back (search_option search_bool)
 
 pub search_way : Search Direction
-search_way = search_by (λ way. (file_step way, rank_step way)) (λ p. way_of p.0 p.1) way_back (search_pair search_axis search_axis)
+search_way =
+    search_by (λ way. (file_step way, rank_step way)) (λ p.
+    way_of p.0 p.1) way_back (search_pair search_axis search_axis)
 
 a_wing : (F : Wing → Type 0) → F KingSide ⊎ F QueenSide → (wing : Wing) × F wing
 a_wing F (inl h) = (KingSide, h)
@@ -52,33 +59,41 @@ which_wing F KingSide h = inl h
 which_wing F QueenSide h = inr h
 
 pub search_wing : Search Wing
-search_wing F each = settled_like (a_wing F) (λ p. which_wing F p.0 p.1) (settled_either (each KingSide) (each QueenSide))
+search_wing F each =
+    settled_like (a_wing F) (λ p.
+    which_wing F p.0 p.1) (settled_either (each KingSide) (each QueenSide))
 
 pub search_side : Search Side
 search_side = search_by is_black_side side_of side_back search_bool
 
 pub search_kind : Search Kind
-search_kind = search_by kind_bits (λ b. kind_by b.0 b.1.0 b.1.1) kind_back (search_pair search_bool (search_pair search_bool search_bool))
+search_kind =
+    search_by kind_bits (λ b. kind_by b.0 b.1.0 b.1.1) kind_back
+    (search_pair search_bool (search_pair search_bool search_bool))
 
 pub search_any_kind : Search (Option Kind)
 search_any_kind = search_option search_kind
 
 pub search_man : Search Man
 search_man =
-    search_by {B = Side × Kind} (λ m. (m.side, m.kind)) (λ p. record { side = p.0; kind = p.1 }) (λ m. refl)
+    search_by {B = Side × Kind} (λ m. (m.side, m.kind)) (λ p.
+    record { side = p.0; kind = p.1 }) (λ m. refl)
     (search_pair search_side search_kind)
 
 -- ---- equality
 
 pub cases_kind : Cases Kind
-cases_kind = cases_by kind_bits (λ b. kind_by b.0 b.1.0 b.1.1) kind_back (cases_pair cases_bool (cases_pair cases_bool cases_bool))
+cases_kind =
+    cases_by kind_bits (λ b. kind_by b.0 b.1.0 b.1.1) kind_back
+    (cases_pair cases_bool (cases_pair cases_bool cases_bool))
 
 pub cases_side : Cases Side
 cases_side = cases_by is_black_side side_of side_back cases_bool
 
 pub cases_man : Cases Man
 cases_man =
-    cases_by {B = Side × Kind} (λ m. (m.side, m.kind)) (λ p. record { side = p.0; kind = p.1 }) (λ m. refl)
+    cases_by {B = Side × Kind} (λ m. (m.side, m.kind)) (λ p.
+    record { side = p.0; kind = p.1 }) (λ m. refl)
     (cases_pair cases_side cases_kind)
 
 pub cases_wing : Cases Wing
@@ -89,6 +104,8 @@ cases_wing QueenSide QueenSide = inl refl
 
 pub cases_move : Cases Move
 cases_move =
-    cases_by {B = Place × (Place × (Option Kind × Option Wing))} (λ m. (m.from, (m.to, (m.promote, m.castle))))
+    cases_by {B = Place × (Place × (Option Kind × Option Wing))} (λ m.
+    (m.from, (m.to, (m.promote, m.castle))))
     (λ p. record { from = p.0; to = p.1.0; promote = p.1.1.0; castle = p.1.1.1 }) (λ m. refl)
-    (cases_pair cases_place (cases_pair cases_place (cases_pair (cases_option cases_kind) (cases_option cases_wing))))
+    (cases_pair cases_place
+    (cases_pair cases_place (cases_pair (cases_option cases_kind) (cases_option cases_wing))))

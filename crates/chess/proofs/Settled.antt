@@ -1,5 +1,8 @@
--- What is settled: it holds, or it is refuted. So is what is made of settled parts, and whether a search over finitely many finds one.
-use Rattle.std.proofs.Common.{◌≡◌, ◌⊎◌, ℕ, zero, suc, ◌<◌, ◌≤◌, Bool, true, false, Option, Some, None, IfSome, refl, sym, ap, ap₂, ◌∙◌, subst, inl, inr, arith, List, [], ◌∷◌, ◌++◌, IsTrue}
+-- What is settled: it holds, or it is refuted. So is what is made of settled parts, and whether a
+-- search over finitely many finds one.
+use Rattle.std.proofs.Common.{◌≡◌, ◌⊎◌, ℕ, zero, suc, ◌<◌, ◌≤◌, Bool, true, false, Option, Some}
+use Rattle.std.proofs.Common.{None, IfSome, refl, sym, ap, ap₂, ◌∙◌, subst, inl, inr, arith, List}
+use Rattle.std.proofs.Common.{[], ◌∷◌, ◌++◌, IsTrue}
 use Rattle.std.specs.List.{list_all}
 use Rattle.std.proofs.lemmas.Bool.{cases_eq, cases_lt}
 
@@ -21,7 +24,9 @@ settled_both (inl a) (inr none) = inr (λ p. none p.1)
 settled_both (inr none) b = inr (λ p. none p.0)
 
 pub settled_three : {A B C : Type 0} → Settled A → Settled B → Settled C → Settled (A × B × C)
-settled_three a b c = settled_like (λ p. (p.0, p.1.0, p.1.1)) (λ p. (p.0, (p.1, p.2))) (settled_both a (settled_both b c))
+settled_three a b c =
+    settled_like (λ p. (p.0, p.1.0, p.1.1)) (λ p.
+    (p.0, (p.1, p.2))) (settled_both a (settled_both b c))
 
 pub settled_either : {A B : Type 0} → Settled A → Settled B → Settled (A ⊎ B)
 settled_either (inl a) b = inl (inl a)
@@ -33,7 +38,8 @@ settled_implies (inl a) (inl b) = inl (λ x. b)
 settled_implies (inl a) (inr none) = inr (λ f. none (f a))
 settled_implies (inr none) b = inl (λ a. absurd (none a))
 
-pub settled_if_some : {A : Type 0} (o : Option A) (F : A → Type 0) → ((a : A) → Settled (F a)) → Settled (IfSome o F)
+pub settled_if_some : {A : Type 0} (o : Option A) (F : A → Type 0) → ((a : A) → Settled (F a))
+    → Settled (IfSome o F)
 settled_if_some None F each = inl tt
 settled_if_some (Some a) F each = each a
 
@@ -47,7 +53,8 @@ settled_true false = inr (λ e. cc)
 -- ---- searches
 
 -- below a bound
-pub settled_below : (n : ℕ) (F : ℕ → Type 0) → ((k : ℕ) → k < n → Settled (F k)) → Settled ((k : ℕ) × (k < n) × F k)
+pub settled_below : (n : ℕ) (F : ℕ → Type 0) → ((k : ℕ) → k < n → Settled (F k))
+    → Settled ((k : ℕ) × (k < n) × F k)
 settled_below zero F each = inr (λ p. let h = p.1 in omega arith)
 settled_below (suc n) F each = elim (each n (omega arith)) [
   | inl holds ↦ inl (n, omega arith, holds)
@@ -65,7 +72,8 @@ abbrev pub Search : Type 0 → Type 1
 Search A = (F : A → Type 0) → ((a : A) → Settled (F a)) → Settled ((a : A) × F a)
 
 -- where each value comes back from its code, a search through the codes finds each value
-pub search_by : {A B : Type 0} (into : A → B) (from : B → A) → ((a : A) → from (into a) ≡ a) → Search B → Search A
+pub search_by : {A B : Type 0} (into : A → B) (from : B → A) → ((a : A) → from (into a) ≡ a)
+    → Search B → Search A
 search_by into from back search F each =
     settled_like (λ h. (from h.0, h.1)) (λ h. (into h.0, subst F (sym (back h.0)) h.1))
     (search (λ b. F (from b)) (λ b. each (from b)))
@@ -85,9 +93,11 @@ IsAny a = Unit {0}
 pub search_any : {A : Type 0} → Search A → SearchIn A IsAny
 search_any search F each = settled_like (λ h. (h.0, tt, h.1)) (λ h. (h.0, h.2)) (search F each)
 
-pub search_both : {A B : Type 0} (P : A → Type 0) (Q : B → Type 0) → SearchIn A P → SearchIn B Q → SearchIn (A × B) (λ c. P c.0 × Q c.1)
+pub search_both : {A B : Type 0} (P : A → Type 0) (Q : B → Type 0) → SearchIn A P → SearchIn B Q
+    → SearchIn (A × B) (λ c. P c.0 × Q c.1)
 search_both {A} {B} P Q first second F each =
-    settled_like (λ h. ((h.0, h.2.0), (h.1, h.2.1), h.2.2)) (λ h. (h.0.0, h.1.0, (h.0.1, h.1.1, h.2)))
+    settled_like (λ h. ((h.0, h.2.0), (h.1, h.2.1), h.2.2)) (λ h.
+    (h.0.0, h.1.0, (h.0.1, h.1.1, h.2)))
     (first (λ a. (b : B) × Q b × F (a, b)) (λ a. second (λ b. F (a, b)) (λ b. each (a, b))))
 
 a_test : (F : Bool → Type 0) → F true ⊎ F false → (b : Bool) × F b
@@ -99,25 +109,32 @@ which_test F true h = inl h
 which_test F false h = inr h
 
 pub search_bool : Search Bool
-search_bool F each = settled_like (a_test F) (λ p. which_test F p.0 p.1) (settled_either (each true) (each false))
+search_bool F each =
+    settled_like (a_test F) (λ p. which_test F p.0 p.1) (settled_either (each true) (each false))
 
-an_option : {A : Type 0} (F : Option A → Type 0) → F None ⊎ ((a : A) × F (Some a)) → (o : Option A) × F o
+an_option : {A : Type 0} (F : Option A → Type 0) → F None ⊎ ((a : A) × F (Some a))
+    → (o : Option A) × F o
 an_option F (inl h) = (None, h)
 an_option F (inr h) = (Some h.0, h.1)
 
-which_option : {A : Type 0} (F : Option A → Type 0) (o : Option A) → F o → F None ⊎ ((a : A) × F (Some a))
+which_option : {A : Type 0} (F : Option A → Type 0) (o : Option A) → F o
+    → F None ⊎ ((a : A) × F (Some a))
 which_option F None h = inl h
 which_option F (Some a) h = inr (a, h)
 
-pub settled_option : {A : Type 0} (F : Option A → Type 0) → Settled (F None) → Settled ((a : A) × F (Some a))
+pub settled_option : {A : Type 0} (F : Option A → Type 0) → Settled (F None)
+    → Settled ((a : A) × F (Some a))
     → Settled ((o : Option A) × F o)
-settled_option F none some = settled_like (an_option F) (λ p. which_option F p.0 p.1) (settled_either none some)
+settled_option F none some =
+    settled_like (an_option F) (λ p. which_option F p.0 p.1) (settled_either none some)
 
 pub search_option : {A : Type 0} → Search A → Search (Option A)
-search_option search F each = settled_option F (each None) (search (λ a. F (Some a)) (λ a. each (Some a)))
+search_option search F each =
+    settled_option F (each None) (search (λ a. F (Some a)) (λ a. each (Some a)))
 
 -- what is known of the value that an option holds
-pub settled_held : {A : Type 0} (o : Option A) (F : A → Type 0) → ((a : A) → Settled (F a)) → Settled ((a : A) × (o ≡ Some a) × F a)
+pub settled_held : {A : Type 0} (o : Option A) (F : A → Type 0) → ((a : A) → Settled (F a))
+    → Settled ((a : A) × (o ≡ Some a) × F a)
 settled_held None F each = inr (λ p. let e = p.1 in cc)
 settled_held (Some a) F each = elim (each a) [
   | inl holds ↦ inl (a, refl, holds)
@@ -148,7 +165,8 @@ settled_front test (b ∷ front) (c ∷ x) = elim (cases_eq c b) [
 abbrev pub Cases : Type 0 → Type 0
 Cases A = (a b : A) → Settled (a ≡ b)
 
-pub cases_by : {A B : Type 0} (into : A → B) (from : B → A) → ((a : A) → from (into a) ≡ a) → Cases B → Cases A
+pub cases_by : {A B : Type 0} (into : A → B) (from : B → A) → ((a : A) → from (into a) ≡ a)
+    → Cases B → Cases A
 cases_by into from back cases a b = elim (cases (into a) (into b)) [
   | inl e ↦ inl (sym (back a) ∙ ap from e ∙ back b)
   | inr none ↦ inr (λ e. none (ap into e))

@@ -1,5 +1,6 @@
 -- How many squares a word shows.
-use Rattle.std.proofs.Common.{◌≡◌, ◌<◌, ◌≤◌, ◌+◌, ◌*◌, ◌/◌, ◌%◌, ◌^◌, ℕ, zero, suc, inl, inr, ap, ◌∙◌, arith, bit_and, count_ones}
+use Rattle.std.proofs.Common.{◌≡◌, ◌<◌, ◌≤◌, ◌+◌, ◌*◌, ◌/◌, ◌%◌, ◌^◌, ℕ, zero, suc, inl, inr, ap}
+use Rattle.std.proofs.Common.{◌∙◌, arith, bit_and, count_ones}
 use Rattle.std.proofs.lemmas.Bool.{cases_eq}
 use Rattle.std.proofs.lemmas.Nat.{ones_cat, ones_le_self, zero_from_ones, shr-shr}
 use Rattle.std.proofs.lemmas.Nat.Bits.{shr_and_one}
@@ -11,16 +12,19 @@ ones_low : (b : ℕ) → b < 2 → count_ones b ≡ b
 ones_low b low =
     let few = ones_le_self b in elim (cases_eq b 0) [
       | inl none ↦ omega arith
-      | inr some ↦ elim (cases_eq (count_ones b) 0) [ inl none ↦ absurd (some (zero_from_ones b none)) | inr one ↦ omega arith ]
+      | inr some ↦ elim (cases_eq (count_ones b) 0)
+          [ inl none ↦ absurd (some (zero_from_ones b none)) | inr one ↦ omega arith ]
     ]
 
 ones_half : (n : ℕ) → count_ones n ≡ count_ones (n / 2) + n % 2
 ones_half n =
     let whole : n ≡ n / 2 * 2 ^ 1 + n % 2 = omega arith in
-    ap count_ones whole ∙ ones_cat 1 (n / 2) (n % 2) (omega arith) ∙ ap (λ m. count_ones (n / 2) + m) (ones_low (n % 2) (omega arith))
+    ap count_ones whole ∙ ones_cat 1 (n / 2) (n % 2) (omega arith)
+    ∙ ap (λ m. count_ones (n / 2) + m) (ones_low (n % 2) (omega arith))
 
 -- the bits below the nth are the first squares, and those from it on are left
-size_ones : (word n : ℕ) → n ≤ 64 → size_of (first_places (has_bit word) n) + count_ones (word / 2 ^ n) ≡ count_ones word
+size_ones : (word n : ℕ) → n ≤ 64 → size_of (first_places (has_bit word) n)
+    + count_ones (word / 2 ^ n) ≡ count_ones word
 size_ones word zero h =
     let none = size-no_places (has_bit word) in
     let whole : word / 2 ^ 0 ≡ word = omega arith in
@@ -29,8 +33,10 @@ size_ones word zero h =
 size_ones word (suc n) h =
     let before = size_ones word n (omega arith) in
     let bit = shr_and_one word n in
-    let next : size_of (first_places (has_bit word) (suc n)) ≡ size_of (first_places (has_bit word) n) + bit_and (word / 2 ^ n) 1 =
-    ap (λ m. size_of (first_places (has_bit word) m)) (omega arith) ∙ size-next_bit word n (omega arith) in
+    let next : size_of (first_places (has_bit word) (suc n))
+    ≡ size_of (first_places (has_bit word) n) + bit_and (word / 2 ^ n) 1 =
+    ap (λ m. size_of (first_places (has_bit word) m)) (omega arith)
+    ∙ size-next_bit word n (omega arith) in
     let half = ones_half (word / 2 ^ n) in
     let left : count_ones (word / 2 ^ n / 2) ≡ count_ones (word / 2 ^ suc n) =
     ap count_ones (shr-shr word n 1 ∙ ap (λ m. word / 2 ^ m) (omega arith)) in

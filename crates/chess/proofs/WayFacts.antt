@@ -15,7 +15,9 @@ use Rattle.chess.proofs.PlaceFacts.{man_of}
 pub mover : (P : State) (s t : Place) (h : CanGo P s t) → IsMover P h.2.pseudo_legal.man.kind s
 mover P s t h =
     let rules = h.2.pseudo_legal in
-    rules.here ∙ ap Some (man_of rules.man (record { side = P.turn; kind = rules.man.kind }) rules.own refl)
+    rules.here
+    ∙ ap Some (man_of rules.man (record { side = P.turn; kind = rules.man.kind }) rules.own
+    refl)
 
 -- some man of the side to move has a legal move
 pub moving : (P : State) (h : HasMove P) → (other : Kind) × CanMove P other
@@ -24,7 +26,8 @@ moving P h =
     let rules = go.2.pseudo_legal in
     (rules.man.kind, (h.0, rules.from, mover P h.0 h.1 go, (h.1, rules.to, go)))
 
-pub no_move : (P : State) → (CanMove P Pawn → ⊥) → (CanMove P Knight → ⊥) → (CanMove P Bishop → ⊥) → (CanMove P Rook → ⊥) → (CanMove P Queen → ⊥)
+pub no_move : (P : State) → (CanMove P Pawn → ⊥) → (CanMove P Knight → ⊥) → (CanMove P Bishop → ⊥)
+    → (CanMove P Rook → ⊥) → (CanMove P Queen → ⊥)
     → (CanMove P King → ⊥) → HasMove P → ⊥
 no_move P pawn knight bishop rook queen king h =
     let some = moving P h in
@@ -42,16 +45,19 @@ pub same_back : (side : Side) (a b n : ℕ) → IsForward side a n → IsForward
 same_back White a b n e f = omega arith
 same_back Black a b n e f = omega arith
 
-pub between_low : (side : Side) (a n b : ℕ) → IsForward side a n → IsForward side n b → 1 ≤ b → 1 ≤ n
+pub between_low : (side : Side) (a n b : ℕ) → IsForward side a n → IsForward side n b → 1 ≤ b
+    → 1 ≤ n
 between_low White a n b first second low = omega arith
 between_low Black a n b first second low = omega arith
 
-pub between_high : (side : Side) (a n b : ℕ) → IsForward side a n → IsForward side n b → a ≤ 8 → b ≤ 8 → n ≤ 8
+pub between_high : (side : Side) (a n b : ℕ) → IsForward side a n → IsForward side n b → a ≤ 8
+    → b ≤ 8 → n ≤ 8
 between_high White a n b first second high top = omega arith
 between_high Black a n b first second high top = omega arith
 
 -- where no square is straight ahead a pawn goes nowhere
-pub no_goal : (P : State) (s : Place) (side : Side) → IsOnBoard s → side ≡ P.turn → IsSquareAhead side s None → (t : Place) → IsOnBoard t → IsPawnGoal P s t → ⊥
+pub no_goal : (P : State) (s : Place) (side : Side) → IsOnBoard s → side ≡ P.turn
+    → IsSquareAhead side s None → (t : Place) → IsOnBoard t → IsPawnGoal P s t → ⊥
 no_goal P s side on turn none t there goal =
     let next = subst (λ (a : Side). IsSquareAhead a s None) turn none in
     elim goal.1 [
@@ -62,7 +68,8 @@ no_goal P s side on turn none t there goal =
             file_low = on.file_low;
             file_high = on.file_high;
             rank_low = between_low P.turn s.rank two.0 t.rank two.1 two.2 there.rank_low;
-            rank_high = between_high P.turn s.rank two.0 t.rank two.1 two.2 on.rank_high there.rank_high;
+            rank_high =
+                between_high P.turn s.rank two.0 t.rank two.1 two.2 on.rank_high there.rank_high;
           })
           refl two.1
     ]
@@ -75,10 +82,12 @@ found_move P other h = (h.0, h.3.0, h.3.2)
 abbrev pub CanBecome : State → Place → Place → Kind → Type 0
 CanBecome P s t other = IsLegal P (record { from = s; to = t; promote = Some other; castle = None })
 
-become_by : (P : State) (s t : Place) (found other : Kind) → found ≡ other → CanBecome P s t found → CanBecome P s t other
+become_by : (P : State) (s t : Place) (found other : Kind) → found ≡ other → CanBecome P s t found
+    → CanBecome P s t other
 become_by P s t found other e legal = subst (λ (k : Kind). CanBecome P s t k) e legal
 
-pub becomes_knight : (P : State) (s t : Place) → (CanBecome P s t Queen → ⊥) → (CanBecome P s t Rook → ⊥) → (CanBecome P s t Bishop → ⊥)
+pub becomes_knight : (P : State) (s t : Place) → (CanBecome P s t Queen → ⊥)
+    → (CanBecome P s t Rook → ⊥) → (CanBecome P s t Bishop → ⊥)
     → CanPromote P s t → CanBecome P s t Knight
 becomes_knight P s t queen rook bishop (None, none, legal) = absurd none
 becomes_knight P s t queen rook bishop (Some found, is, legal) = elim is [

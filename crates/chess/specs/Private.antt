@@ -1,4 +1,5 @@
--- Private words: what the code equals on the way, and what its loops keep. No public contract cites them.
+-- Private words: what the code equals on the way, and what its loops keep. No public contract cites
+-- them.
 pub mod BitWords
 pub mod PseudoAttacks
 pub mod Cells

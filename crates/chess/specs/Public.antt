@@ -1,4 +1,5 @@
--- What a reader must believe: the Laws of Chess, FEN and SAN. In the order in which they are best read.
+-- What a reader must believe: the Laws of Chess, FEN and SAN. In the order in which they are best
+-- read.
 pub mod Squares
 pub mod Placements
 pub mod Attacks

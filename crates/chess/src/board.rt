@@ -1,6 +1,7 @@
 //! What a board is: a map from squares to men.
 ghost use Rattle.std.specs.Prelude.{◌≡◌, ◌↔◌, IsTrue, None, Some};
-ghost use Rattle.chess.specs.Public.Placements.{Placement, no_men, man_at, with_man, opposite, AreOnBoard, IsEmpty, IsOccupiedBy};
+ghost use Rattle.chess.specs.Public.Placements.{Placement, no_men, man_at, with_man, opposite};
+ghost use Rattle.chess.specs.Public.Placements.{AreOnBoard, IsEmpty, IsOccupiedBy};
 ghost use Rattle.chess.specs.Public.Attacks.{IsAttacked};
 ghost use Rattle.chess.specs.Public.Start.{initial_men};
 ghost use Rattle.chess.specs.Public.Sets.{IsReachOf, IsSquaresOf, HoldsExactly, IsAttacker};
@@ -44,9 +45,11 @@ pub trait Board: Copy {
     fn put(&mut self, square: Square, man: Option<Man>)
         ensures { men self.new ≡ with_man (men self.old) square man };
 
-    /// Takes the men off `taken` and `from`, and puts that man, or none, on `to`. No other square changes.
+    /// Takes the men off `taken` and `from`, and puts that man, or none, on `to`. No other square
+    /// changes.
     fn move_piece(&mut self, man: Option<Man>, from: Square, taken: Square, to: Square)
-        ensures { men self.new ≡ with_man (with_man (with_man (men self.old) taken None) from None) to man };
+        ensures { men self.new
+            ≡ with_man (with_man (with_man (men self.old) taken None) from None) to man };
 
     /// Whether no man stands on the square.
     fn is_empty(&self, square: Square) -> bool
@@ -60,7 +63,8 @@ pub trait Board: Copy {
     fn attacked(&self, square: Square, side: Side) -> bool
         ensures { IsTrue result ↔ IsAttacked (men self.now) side square };
 
-    /// Whether some man of the other side attacks the square once that man is moved so, as `move_piece` does it. The board stays as it is.
+    /// Whether some man of the other side attacks the square once that man is moved so, as
+    /// `move_piece` does it. The board stays as it is.
     fn attacked_after(
         &self,
         square: Square,
@@ -69,9 +73,13 @@ pub trait Board: Copy {
         taken: Square,
         to: Square,
     ) -> bool
-        ensures { IsTrue result ↔ IsAttacked (with_man (with_man (with_man (men self.now) taken None) from None) to (Some man)) (opposite man.side) square };
+        ensures { IsTrue result
+            ↔ IsAttacked
+            (with_man (with_man (with_man (men self.now) taken None) from None) to (Some man))
+            (opposite man.side) square };
 
-    /// The squares that the man on the square attacks; the empty set where there is none (Laws 3.2 to 3.8).
+    /// The squares that the man on the square attacks; the empty set where there is none (Laws 3.2
+    /// to 3.8).
     fn reach(&self, square: Square) -> SquareSet
         ensures { IsReachOf (men self.now) square result };
 

@@ -8,7 +8,8 @@ use crate::position::Position;
 impl<B: Board> Position<B> {
     /// On how many squares that man stands.
     pub fn count(&self, man: Man) -> u32
-        ensures { (squares : Places) × IsSquaresOf self.now.men man squares × (result ≡ size_of squares) }
+        ensures { (squares : Places) × IsSquaresOf self.now.men man squares
+            × (result ≡ size_of squares) }
     {
         self.squares_of(man).count()
     }

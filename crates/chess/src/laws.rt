@@ -1,7 +1,14 @@
 //! What holds of every text and position, whatever reads it. Each law is the contract of a function
 //! that does nothing.
 
-ghost use Rattle.chess.specs.Public.Laws.{TextSpellsOnePosition, TextHasOneAnswer, SoundPositionsAreRead, FenIsReadBack, PositionHasOneText, EachPositionHasAText, InitialPositionIsOne, InitialPositionIsSound, MovesKeepPositionsSound, SanNamesItsMove, MoveHasOneText, EachMoveHasAText, EachTextNamesOneNoneOrSeveral, SpelledMenAreOnBoard, MenStayOnBoard, EachTextIsReadOrRefused, TextHasOneRefusal};
+ghost use Rattle.chess.specs.Public.Laws.{TextSpellsOnePosition, TextHasOneAnswer};
+ghost use Rattle.chess.specs.Public.Laws.{SoundPositionsAreRead, FenIsReadBack, PositionHasOneText};
+ghost use Rattle.chess.specs.Public.Laws.{EachPositionHasAText, InitialPositionIsOne};
+ghost use Rattle.chess.specs.Public.Laws.{InitialPositionIsSound, MovesKeepPositionsSound};
+ghost use Rattle.chess.specs.Public.Laws.{SanNamesItsMove, MoveHasOneText, EachMoveHasAText};
+ghost use Rattle.chess.specs.Public.Laws.{EachTextNamesOneNoneOrSeveral, SpelledMenAreOnBoard};
+ghost use Rattle.chess.specs.Public.Laws.{MenStayOnBoard, EachTextIsReadOrRefused};
+ghost use Rattle.chess.specs.Public.Laws.{TextHasOneRefusal};
 
 /// A text spells at most one position in FEN, and none that is refused.
 pub fn one_position()

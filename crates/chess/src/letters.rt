@@ -1,4 +1,5 @@
-//! The letters of men and squares, read, and written into a text of limited length (PGN 8.2.3.1, 8.2.3.2, 16.1.3.1).
+//! The letters of men and squares, read, and written into a text of limited length (PGN 8.2.3.1,
+//! 8.2.3.2, 16.1.3.1).
 ghost use Rattle.std.specs.Prelude.{◌≡◌, MatchOption, ◌+◌, ◌≤◌, ◌<◌, ◌++◌, ◌∷◌, []};
 ghost use Rattle.arrayvec.specs.ArrayString.{array_string_len};
 ghost use Rattle.chess.specs.Public.Letters.{kind_letter, man_letter, square_text};
@@ -23,7 +24,8 @@ const N: Option<Kind> = Some(Kind::Knight);
 
 const P: Option<Kind> = Some(Kind::Pawn);
 
-/// The kind of each byte that is a letter of one, in upper case. The proof of `kind_of` compares all 256 with `kind_letter`.
+/// The kind of each byte that is a letter of one, in upper case. The proof of `kind_of` compares
+/// all 256 with `kind_letter`.
 static KINDS: [Option<Kind>; 256] = [
     // from 0x00
     O, O, O, O, O, O, O, O, O, O, O, O, O, O, O, O,
@@ -74,10 +76,12 @@ pub(crate) fn kind_letter(kind: Kind) -> u8
     }
 }
 
-/// The kind of that letter in upper case, if there is one: by a table, so that no jump depends on the letter.
+/// The kind of that letter in upper case, if there is one: by a table, so that no jump depends on
+/// the letter.
 #[inline(always)]
 pub(crate) fn kind_of(letter: u8) -> Option<Kind>
-    ensures found { MatchOption result ((other : Kind) → kind_letter other ≡ letter → ⊥) (λ kind. kind_letter kind ≡ letter) }
+    ensures found { MatchOption result ((other : Kind) → kind_letter other ≡ letter
+        → ⊥) (λ kind. kind_letter kind ≡ letter) }
     ensures answer { result ≡ kind_of letter }
 {
     KINDS[letter as usize]
@@ -95,7 +99,8 @@ pub(crate) fn man_letter(man: Man) -> u8
     }
 }
 
-/// Appends an ASCII byte. The remainder is the byte, and lets the compiler see that it takes one byte of text.
+/// Appends an ASCII byte. The remainder is the byte, and lets the compiler see that it takes one
+/// byte of text.
 pub(crate) fn push_byte<const CAP: usize>(out: &mut ArrayString<CAP>, byte: u8)
     requires ascii { byte < 128 }
     requires room { array_string_len out.old < CAP }

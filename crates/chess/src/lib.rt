@@ -1,6 +1,7 @@
 //! Chess by the FIDE Laws: boards, positions, legal moves, FEN and SAN. No call takes memory.
 //!
-//! The position after the one legal move that a word names; none where the word names none or several:
+//! The position after the one legal move that a word names; none where the word names none or
+//! several:
 //!
 //! ```text
 //! fn after_word(fen: &[u8], word: &[u8]) -> Option<Position<Bits>> {

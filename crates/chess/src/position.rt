@@ -9,7 +9,8 @@ ghost use Rattle.chess.specs.Public.Sets.{IsReachOf, IsSquaresOf, HoldsExactly, 
 use crate::board::{Board, CastlingRights, Man, Side, Square, SquareSet, Wing};
 use std::marker::Model;
 
-/// A position. Contracts see the men, the side to move, the castling rights, the en passant square and the two counts; every
+/// A position. Contracts see the men, the side to move, the castling rights, the en passant square
+/// and the two counts; every
 /// position keeps the facts of `IsSound`.
 #[derive(Drop)]
 pub struct Position<B: Board> {
@@ -89,7 +90,8 @@ impl<B: Board> Position<B> {
         }
     }
 
-    /// Every position keeps the facts of `IsSound`, however it was come by: a caller that asks knows them. Nothing is done.
+    /// Every position keeps the facts of `IsSound`, however it was come by: a caller that asks
+    /// knows them. Nothing is done.
     pub fn invariant(&self)
         ensures { IsSound self.now }
     {

@@ -26,7 +26,8 @@ impl Read for Source {
     }
 }
 
-/// Moves on by at most `most` bytes in a file whose end is known, and answers by how many; pipes and devices are to be read.
+/// Moves on by at most `most` bytes in a file whose end is known, and answers by how many; pipes
+/// and devices are to be read.
 fn move_on(file: &mut File, most: u64) -> io::Result<u64>
     ensures { IfOk result (λ count. count ≤ most) }
 {

@@ -39,7 +39,8 @@ impl StatusLine {
         self.rt.stderr().is_terminal()
     }
 
-    /// Draws it in place of what it was. A fault in that is ignored: the line is no part of what is reported.
+    /// Draws it in place of what it was. A fault in that is ignored: the line is no part of what is
+    /// reported.
     fn draw(&self, text: &str) {
         let _ = self.rt.eprint(text);
         self.is_drawn.set(true);
@@ -157,7 +158,8 @@ pub struct Pace {
 }
 
 impl Pace {
-    /// That of a run that begins now, where progress is asked for or not; none where the clock gives no time.
+    /// That of a run that begins now, where progress is asked for or not; none where the clock
+    /// gives no time.
     pub fn new(rt: &HostRuntime, asked: bool) -> Option<Self> {
         let begun = Instant::now(rt).ok()?;
         let wait = if asked { 0 } else { PATIENCE };

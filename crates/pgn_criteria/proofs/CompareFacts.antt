@@ -7,8 +7,10 @@ use Rattle.pgn_criteria.specs.Public.Comparing.{Allows, Stands}
 use Rattle.pgn_criteria.specs.declared.compare.Relation.{Relation}
 
 -- contents have one value, so their values decide
-pub stands_so : (relation : Relation) (given text : List ℕ) (r : Bool) → IsContents given → IsContents text
-    → (IsTrue r ↔ Allows relation (value_of given) (value_of text)) → IsTrue r ↔ Stands relation given text
+pub stands_so : (relation : Relation) (given text : List ℕ) (r : Bool) → IsContents given
+    → IsContents text
+    → (IsTrue r ↔ Allows relation (value_of given) (value_of text))
+    → IsTrue r ↔ Stands relation given text
 stands_so relation given text r of_given of_text reports =
     let first = has_value given of_given in
     let second = has_value text of_text in (
@@ -22,6 +24,8 @@ stands_so relation given text r of_given of_text reports =
         allowed = reports.0 t;
       },
       λ stands. reports.1
-          (subst (λ v. Allows relation v (value_of text)) (one_value given stands.value stands.signs stands.has)
-          (subst (Allows relation stands.value) (one_value text stands.other stands.other_signs stands.other_has) stands.allowed)),
+          (subst (λ v. Allows relation v (value_of text))
+          (one_value given stands.value stands.signs stands.has)
+          (subst (Allows relation stands.value)
+          (one_value text stands.other stands.other_signs stands.other_has) stands.allowed)),
     )

@@ -1,75 +1,122 @@
 -- The text of a condition begins and ends with a solid byte, and is that of one condition.
-use Rattle.std.proofs.Common.{◌≡◌, ℕ, Bool, true, false, List, ◌++◌, IsTrue, refl, sym, ap, ◌∙◌, subst, inl, inr}
-use Rattle.std.specs.Prelude.{codes, ◌==◌}
+use Rattle.std.proofs.Common.{◌≡◌, ℕ, Bool, true, false, List, ◌++◌, IsTrue, refl, sym, ap, ◌∙◌}
+use Rattle.std.proofs.Common.{subst, inl, inr}
+use Rattle.std.specs.Prelude.{codes}
 use Rattle.pgn_criteria.specs.Public.Mirrors.{can_be_mirrored}
-use Rattle.pgn_criteria.specs.Private.Reading.{core_of, run_of, after_word}
-use Rattle.pgn_criteria.specs.Public.Lines.{SpellsTaken, SpellsTurned, SpellsCondition, Spells, IsLine}
+use Rattle.pgn_criteria.specs.Private.Reading.{core_of, run_of, after_word, ReadsWord}
+use Rattle.pgn_criteria.specs.Public.Lines.{SpellsGame, SpellsPosition, SpellsMove, SpellsSpan}
+use Rattle.pgn_criteria.specs.Public.Lines.{SpellsTaken, SpellsTurned, SpellsCondition, Spells}
+use Rattle.pgn_criteria.specs.Public.Lines.{IsLine}
 use Rattle.pgn_criteria.specs.declared.condition.Condition.{Condition}
-use Rattle.pgn_criteria.specs.declared.condition.Claim.{Claim}
+use Rattle.pgn_criteria.specs.declared.condition.Condition.TheVariants.{Game, Position, Move, Span}
+use Rattle.pgn_criteria.specs.declared.condition.PositionClaim.{PositionClaim}
 use Rattle.pgn_criteria.specs.declared.line.Meaning.{Meaning}
 use Rattle.pgn_criteria.specs.declared.line.Meaning.TheVariants.{Nothing, Or, Asks}
-use Rattle.pgn_criteria.proofs.SolidFacts.{BeginsSolid, EndsSolid, ends_after, begins_some, word_read, word_spelled}
-use Rattle.pgn_criteria.proofs.ClaimFacts.{claim_begins, claim_ends, ends_as, claim_either, not_read, total}
+use Rattle.pgn_criteria.proofs.SolidFacts.{BeginsSolid, EndsSolid, ends_after, begins_some}
+use Rattle.pgn_criteria.proofs.SolidFacts.{word_read, word_spelled}
+use Rattle.pgn_criteria.proofs.ClaimFacts.{games_are, positions_are, moves_are, spans_are}
+use Rattle.pgn_criteria.proofs.ClaimFacts.{claim_begins, taken_begins, taken_ends, taken_either}
+use Rattle.pgn_criteria.proofs.ClaimFacts.{ends_as}
 use Rattle.pgn_criteria.proofs.CoreFacts.{core_about, solid_core, empty_core, comment_core}
 
-taken_begins : (text : List ℕ) (denied : Bool) (claim : Claim (List ℕ)) → SpellsTaken text denied claim → BeginsSolid text
-taken_begins text false claim spells = claim_begins text claim spells
-taken_begins text true claim (gap, own, is, g, of, spells) = (110, _, is, refl)
+turned_begins : (text : List ℕ) (either denied : Bool) (claim : PositionClaim (List ℕ))
+    → SpellsTurned text either denied claim → BeginsSolid text
+turned_begins text false denied claim spells =
+    taken_begins SpellsPosition positions_are text denied claim spells
+turned_begins text true denied claim (own, (gap, is, g), of, spells) = (101, _, is, refl)
 
-condition_begins : (text : List ℕ) (condition : Condition (List ℕ)) → SpellsCondition text condition → BeginsSolid text
-condition_begins text condition spells = begins condition.is_either spells
-  where
-    begins : (either : Bool) → SpellsTurned text either condition.is_denied condition.claim → BeginsSolid text
-    begins false spells = taken_begins text condition.is_denied condition.claim spells
-    begins true (gap, own, is, g, of, spells) = (101, _, is, refl)
+condition_begins : (text : List ℕ) (condition : Condition (List ℕ)) → SpellsCondition text condition
+    → BeginsSolid text
+condition_begins text (Game own) spells =
+    taken_begins SpellsGame games_are text own.is_denied own.claim spells
+condition_begins text (Position own) spells =
+    turned_begins text own.is_either own.is_denied own.claim spells
+condition_begins text (Move own) spells =
+    taken_begins SpellsMove moves_are text own.is_denied own.claim spells
+condition_begins text (Span claim) spells = claim_begins SpellsSpan spans_are text claim spells
 
-taken_ends : (text : List ℕ) (denied : Bool) (claim : Claim (List ℕ)) → SpellsTaken text denied claim → EndsSolid text
-taken_ends text false claim spells = claim_ends text claim spells
-taken_ends text true claim (gap, own, is, g, of, spells) =
-    ends_as text _ is (ends_after (codes "not") (gap ++ own) (ends_after gap own (claim_ends own claim spells)))
+turned_ends : (text : List ℕ) (either denied : Bool) (claim : PositionClaim (List ℕ))
+    → SpellsTurned text either denied claim → EndsSolid text
+turned_ends text false denied claim spells =
+    taken_ends SpellsPosition positions_are text denied claim spells
+turned_ends text true denied claim (own, (gap, is, g), of, spells) =
+    ends_as text _ is (ends_after (codes "either") (gap
+    ++ own) (ends_after gap own
+    (taken_ends SpellsPosition positions_are own denied claim spells)))
 
-condition_ends : (text : List ℕ) (condition : Condition (List ℕ)) → SpellsCondition text condition → EndsSolid text
-condition_ends text condition spells = ends condition.is_either spells
-  where
-    ends : (either : Bool) → SpellsTurned text either condition.is_denied condition.claim → EndsSolid text
-    ends false spells = taken_ends text condition.is_denied condition.claim spells
-    ends true (gap, own, is, g, of, spells) =
-        ends_as text _ is (ends_after (codes "either") (gap ++ own) (ends_after gap own (taken_ends own condition.is_denied condition.claim spells)))
+condition_ends : (text : List ℕ) (condition : Condition (List ℕ)) → SpellsCondition text condition
+    → EndsSolid text
+condition_ends text (Game own) spells =
+    taken_ends SpellsGame games_are text own.is_denied own.claim spells
+condition_ends text (Position own) spells =
+    turned_ends text own.is_either own.is_denied own.claim spells
+condition_ends text (Move own) spells =
+    taken_ends SpellsMove moves_are text own.is_denied own.claim spells
+condition_ends text (Span claim) spells = spans_are.ends text claim spells
 
 -- a condition with `either` is read after its first word, and the other way round
-pub either_read : (text : List ℕ) (denied : Bool) (claim : Claim (List ℕ)) → SpellsTurned text true denied claim
-    → (run_of text ≡ codes "either") × IsTrue (can_be_mirrored claim) × SpellsTaken (after_word text) denied claim
-either_read text denied claim (gap, own, is, g, of, spells) =
-    let parts = word_read text (codes "either") gap own is refl g (taken_begins own denied claim spells) in
-    (parts.0, of, subst (λ x. SpellsTaken x denied claim) (sym parts.1) spells)
+pub either_read : (text : List ℕ) (denied : Bool) (claim : PositionClaim (List ℕ))
+    → SpellsTurned text true denied claim
+    → (run_of text ≡ codes "either") × IsTrue (can_be_mirrored claim)
+    × SpellsTaken SpellsPosition (after_word text) denied claim
+either_read text denied claim (own, (gap, is, g), of, spells) =
+    let parts =
+    word_read text (codes "either") gap own is refl g
+    (taken_begins SpellsPosition positions_are own denied claim spells) in
+    (parts.0, of, subst (λ x. SpellsTaken SpellsPosition x denied claim) (sym parts.1) spells)
 
-pub either_spelled : (text own : List ℕ) (denied : Bool) (claim : Claim (List ℕ)) → run_of text ≡ codes "either" → own ≡ after_word text → IsTrue (can_be_mirrored claim)
-    → SpellsTaken own denied claim → SpellsTurned text true denied claim
-either_spelled text own denied claim run after of spells =
-    let two = word_spelled text (codes "either") own run (sym after) (begins_some own (taken_begins own denied claim spells)) in (two.0, own, two.1, two.2, of, spells)
+-- where a condition on a position is read: after `either`, or the text itself
+pub turned_own : (text : List ℕ) (either denied : Bool) (claim : PositionClaim (List ℕ))
+    → SpellsTurned text either denied claim
+    → (own : List ℕ) × ReadsWord (codes "either") text either own
+    × SpellsTaken SpellsPosition own denied claim
+turned_own text false denied claim spells = (
+  text,
+  (λ run. taken_either SpellsPosition positions_are text denied claim run spells, refl),
+  spells,
+)
+turned_own text true denied claim spells =
+    let own = either_read text denied claim spells in (after_word text, (own.0, refl), own.2)
 
--- and any other is read without it
-pub taken_either : (text : List ℕ) (denied : Bool) (claim : Claim (List ℕ)) → run_of text ≡ codes "either" → SpellsTaken text denied claim → ⊥
-taken_either text false claim run spells = claim_either text claim run spells
-taken_either text true claim run spells = let clash : false ≡ true = ap (λ x. total x == 337) (sym run ∙ (not_read text claim spells).0) in cc
+pub either_spelled : (text own : List ℕ) (denied : Bool) (claim : PositionClaim (List ℕ))
+    → run_of text ≡ codes "either" → own ≡ after_word text
+    → IsTrue (can_be_mirrored claim) → SpellsTaken SpellsPosition own denied claim
+    → SpellsTurned text true denied claim
+either_spelled text own denied claim run after of spells = (
+  own,
+  word_spelled text (codes "either") own run (sym after)
+      (begins_some own (taken_begins SpellsPosition positions_are own denied claim spells)),
+  of,
+  spells,
+)
 
 -- a line's meaning is spelled by its core
-pub line_read : (line : List ℕ) (means : Meaning (List ℕ)) → IsLine line means → Spells (core_of line) means
+pub line_read : (line : List ℕ) (means : Meaning (List ℕ)) → IsLine line means
+    → Spells (core_of line) means
 line_read line means is = by_meaning means is.spells
   where
     core : BeginsSolid is.text → EndsSolid is.text → core_of line ≡ is.text
-    core begins ends = solid_core line is.before is.text is.after is.last is.whole is.blank_before is.blank_after is.end begins ends
+    core begins ends =
+        solid_core line is.before is.text is.after is.last is.whole is.blank_before is.blank_after
+        is.end begins ends
 
     by_meaning : (means : Meaning (List ℕ)) → Spells is.text means → Spells (core_of line) means
-    by_meaning Nothing (inl none) = inl (empty_core line is.before is.text is.after is.last is.whole is.blank_before is.blank_after is.end none)
+    by_meaning Nothing (inl none) =
+        inl (empty_core line is.before is.text is.after is.last is.whole is.blank_before
+        is.blank_after is.end none)
     by_meaning Nothing (inr comment) =
-        inr (comment_core line is.before (comment.0 ++ (is.after ++ is.last)) (is.whole ∙ ap (λ x. is.before ++ (x ++ (is.after ++ is.last))) comment.1) is.blank_before)
-    by_meaning Or or = core (111, _, or, refl) (ends_as is.text _ or (codes "o", 114, refl, refl)) ∙ or
+        inr (comment_core line is.before (comment.0 ++ (is.after ++ is.last)) (is.whole
+        ∙ ap (λ x. is.before ++ (x ++ (is.after ++ is.last))) comment.1) is.blank_before)
+    by_meaning Or or = core (111, _, or, refl) (ends_as is.text _ or (codes "o", 114, refl, refl))
+        ∙ or
     by_meaning (Asks condition) spells =
-        subst (λ x. SpellsCondition x condition) (sym (core (condition_begins is.text condition spells) (condition_ends is.text condition spells))) spells
+        subst (λ x. SpellsCondition x condition)
+        (sym (core (condition_begins is.text condition spells)
+        (condition_ends is.text condition spells))) spells
 
 -- and the other way round
-pub line_spelled : (line : List ℕ) (means : Meaning (List ℕ)) → Spells (core_of line) means → IsLine line means
+pub line_spelled : (line : List ℕ) (means : Meaning (List ℕ)) → Spells (core_of line) means
+    → IsLine line means
 line_spelled line means spells =
     let about = core_about line in
     record {

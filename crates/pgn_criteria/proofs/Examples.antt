@@ -1,5 +1,6 @@
 -- What the definitions say of values, ranks and words that every reader can check.
-use Rattle.std.proofs.Common.{◌≡◌, ◌≤◌, ◌==◌, ℕ, List, [], ◌∷◌, Option, Some, None, true, false, refl, ap, arith, codes, get_or, drop, ◌++◌, length, inl, inr}
+use Rattle.std.proofs.Common.{◌≡◌, ◌≤◌, ◌==◌, ℕ, List, [], ◌∷◌, Option, Some, None, true, false}
+use Rattle.std.proofs.Common.{refl, ap, arith, codes, get_or, drop, ◌++◌, length, inl, inr}
 use Rattle.std.proofs.lemmas.Option.{slice_get_within}
 use Rattle.std.specs.declared.cmp.Ordering.TheVariants as order
 use Rattle.chess.specs.Public.Letters.{man_letter}
@@ -12,7 +13,8 @@ use Rattle.pgn_text.specs.Public.Strings.{Single, Escaped}
 use Rattle.pgn_criteria.specs.Public.Comparing.{number_in, order_of, Allows, Stands}
 use Rattle.pgn_criteria.specs.Public.Patterns.{CanBeSplit, IsStretch}
 use Rattle.pgn_criteria.specs.Private.Items.{items_of}
-use Rattle.pgn_criteria.specs.Public.Patterns.IsStretch.{spelled, any, occupied, white, black, many, among, other}
+use Rattle.pgn_criteria.specs.Public.Patterns.IsStretch.{spelled, any, occupied, white, black, many}
+use Rattle.pgn_criteria.specs.Public.Patterns.IsStretch.{among, other}
 use Rattle.pgn_criteria.specs.Public.Materials.{is_man}
 use Rattle.pgn_criteria.specs.Public.Materials as material
 use Rattle.pgn_criteria.specs.Public.Mirrors.{across, beside}
@@ -22,7 +24,8 @@ use Rattle.pgn_criteria.specs.Public.Meeting.{IsFirst}
 use Rattle.pgn_criteria.proofs.EndFacts.{ends_in, like_ends}
 use Rattle.pgn_criteria.proofs.MoveFacts.{byte_back}
 use Rattle.pgn_criteria.specs.declared.compare.Relation.TheVariants.{Equal, Has, Begins}
-use Rattle.pgn_criteria.specs.declared.material.Limit.TheVariants.{Exactly, AtLeast, AtMost, AnyNumber}
+use Rattle.pgn_criteria.specs.declared.material.Limit.TheVariants.{Exactly, AtLeast, AtMost}
+use Rattle.pgn_criteria.specs.declared.material.Limit.TheVariants.{AnyNumber}
 
 -- numbers have 1 to 18 digits and nothing else
 nine : number_in (codes "9") ≡ Some 9
@@ -56,7 +59,8 @@ same_number = refl
 by_byte : order_of (codes "9.1") (codes "10") ≡ order.Greater
 by_byte = refl
 
-by_byte_at_nineteen : order_of (codes "999999999999999999") (codes "1000000000000000000") ≡ order.Greater
+by_byte_at_nineteen : order_of (codes "999999999999999999") (codes "1000000000000000000")
+    ≡ order.Greater
 by_byte_at_nineteen = refl
 
 a_beginning : order_of (codes "ab") (codes "abc") ≡ order.Less
@@ -100,9 +104,11 @@ has_at_the_end = (codes "a", [], refl)
 
 has_no_letter : Allows Has (codes "ab") (codes "x") → ⊥
 has_no_letter ([], back, is) = let e : true ≡ false = ap (λ bytes. get_or bytes 0 0 == 97) is in cc
-has_no_letter (a ∷ [], back, is) = let e : true ≡ false = ap (λ bytes. get_or bytes 1 0 == 98) is in cc
+has_no_letter (a ∷ [], back, is) = let e : true ≡ false = ap (λ bytes. get_or bytes 1 0 == 98) is in
+    cc
 has_no_letter (a ∷ b ∷ [], back, is) = let e : [] ≡ 120 ∷ back = ap (drop 2) is in cc
-has_no_letter (a ∷ b ∷ c ∷ front, back, is) = let e : [] ≡ c ∷ (front ++ (120 ∷ back)) = ap (drop 2) is in cc
+has_no_letter (a ∷ b ∷ c ∷ front, back, is) = let e : [] ≡ c ∷ (front ++ (120 ∷ back)) =
+    ap (drop 2) is in cc
 
 has_the_empty_text : Allows Has [] []
 has_the_empty_text = ([], [], refl)
@@ -136,13 +142,21 @@ pawns_after_an_empty_square =
           pawn ∷ pawn ∷ [],
           refl,
           spelled 80 (pawn ∷ []) p,
-          (pawn ∷ [], pawn ∷ [], refl, spelled 80 (pawn ∷ []) p, (pawn ∷ [], [], refl, spelled 80 (pawn ∷ []) p, refl)),
+          (
+            pawn ∷ [],
+            pawn ∷ [],
+            refl,
+            spelled 80 (pawn ∷ []) p,
+            (pawn ∷ [], [], refl, spelled 80 (pawn ∷ []) p, refl),
+          ),
         ),
       ),
     )
 
--- ?!Aa5: any square, a man, a man of White, a man of Black, five empty squares would be nine: *?!Aa4* takes eight
-each_sign : CanBeSplit (items_of (codes "*?!Aa4*")) (None ∷ black_rook ∷ pawn ∷ black_rook ∷ None ∷ None ∷ None ∷ None ∷ [])
+-- ?!Aa5: any square, a man, a man of White, a man of Black, five empty squares would be nine:
+-- *?!Aa4* takes eight
+each_sign : CanBeSplit (items_of (codes "*?!Aa4*")) (None ∷ black_rook ∷ pawn ∷ black_rook ∷ None
+    ∷ None ∷ None ∷ None ∷ [])
 each_sign =
     let four : IsSquares 52 (None ∷ None ∷ None ∷ None ∷ []) = step 4 (omega arith) (omega arith) in (
       [],
@@ -169,7 +183,13 @@ each_sign =
               None ∷ None ∷ None ∷ None ∷ [],
               refl,
               black (record { side = Black; kind = Rook }) refl,
-              (None ∷ None ∷ None ∷ None ∷ [], [], refl, spelled 52 (None ∷ None ∷ None ∷ None ∷ []) four, ([], [], refl, many [], refl)),
+              (
+                None ∷ None ∷ None ∷ None ∷ [],
+                [],
+                refl,
+                spelled 52 (None ∷ None ∷ None ∷ None ∷ []) four,
+                ([], [], refl, many [], refl),
+              ),
             ),
           ),
         ),
@@ -183,21 +203,35 @@ each_set = (
   None ∷ black_rook ∷ [],
   refl,
   among (codes "QP") (record { side = White; kind = Pawn }) ((λ none. cc), refl) refl,
-  (None ∷ [], black_rook ∷ [], refl, other (codes "p") None ((λ none. cc), refl) (λ man is. cc), (black_rook ∷ [], [], refl, many (black_rook ∷ []), refl)),
+  (
+    None ∷ [],
+    black_rook ∷ [],
+    refl,
+    other (codes "p") None ((λ none. cc), refl) (λ man is. cc),
+    (black_rook ∷ [], [], refl, many (black_rook ∷ []), refl),
+  ),
 )
 
 -- [^pp] takes a rook of Black too: the letter may stand twice
 other_man : IsStretch (codes "[^pp]") (black_rook ∷ [])
-other_man = other (codes "pp") black_rook ((λ none. cc), refl) (λ man is. let same : man ≡ record { side = Black; kind = Rook } = cc in ap (λ (m : Man). has_byte (man_letter m) (codes "pp")) same)
+other_man =
+    other (codes "pp") black_rook (
+      (λ none. cc),
+      refl,
+    ) (λ man is. let same : man ≡ record { side = Black; kind = Rook } = cc in
+    ap (λ (m : Man). has_byte (man_letter m) (codes "pp")) same)
 
 -- men are distinguished by kind and by side
-own_man : is_man (record { side = White; kind = King }) (Some (record { side = White; kind = King })) ≡ true
+own_man : is_man (record { side = White; kind = King })
+    (Some (record { side = White; kind = King })) ≡ true
 own_man = refl
 
-other_side : is_man (record { side = White; kind = King }) (Some (record { side = Black; kind = King })) ≡ false
+other_side : is_man (record { side = White; kind = King })
+    (Some (record { side = Black; kind = King })) ≡ false
 other_side = refl
 
-other_kind : is_man (record { side = White; kind = King }) (Some (record { side = White; kind = Queen })) ≡ false
+other_kind : is_man (record { side = White; kind = King })
+    (Some (record { side = White; kind = Queen })) ≡ false
 other_kind = refl
 
 no_man : is_man (record { side = White; kind = King }) None ≡ false
@@ -231,23 +265,38 @@ mate_left_out = refl
 
 -- * stands for any bytes, also for none, and each other byte for itself
 takes_on_f3 : IsLike (codes "*xf3") (codes "Bxf3")
-takes_on_f3 = inl (refl, (codes "B", codes "xf3", refl, inr (codes "f3", refl, inr (codes "3", refl, inr ([], refl, refl)))))
+takes_on_f3 =
+    inl (
+      refl,
+      (
+        codes "B",
+        codes "xf3",
+        refl,
+        inr (codes "f3", refl, inr (codes "3", refl, inr ([], refl, refl))),
+      ),
+    )
 
 castles_short : IsLike (codes "O-O*") (codes "O-O")
-castles_short = inr (codes "-O", refl, inr (codes "O", refl, inr ([], refl, inl (refl, ([], [], refl, refl)))))
+castles_short =
+    inr (codes "-O", refl, inr (codes "O", refl, inr ([], refl, inl (refl, ([], [], refl, refl)))))
 
 not_on_h8 : IsLike (codes "*h8") (codes "Rh7") → ⊥
 not_on_h8 like =
     let ends = like_ends (codes "*h") 56 (codes "Rh7") (λ e. absurd (omega (arith, e))) like in
-    let same : 56 ≡ 55 = ends_in (codes "Rh7") (codes "Rh") 56 55 refl ends in absurd (omega (arith, same))
+    let same : 56 ≡ 55 = ends_in (codes "Rh7") (codes "Rh") 56 55 refl ends in
+    absurd (omega (arith, same))
 
 no_cross : IsLike (codes "x*") (codes "Nf3") → ⊥
-no_cross like = let same = (byte_back (codes "*") 120 78 (codes "f3") (λ e. absurd (omega (arith, e))) like).0 in absurd (omega (arith, same))
+no_cross like = let same =
+    (byte_back (codes "*") 120 78 (codes "f3") (λ e. absurd (omega (arith, e))) like).0 in
+    absurd (omega (arith, same))
 
 no_letter_between : IsLike (codes "Ne2") (codes "Nge2") → ⊥
 no_letter_between like =
-    let after = (byte_back (codes "e2") 78 78 (codes "ge2") (λ e. absurd (omega (arith, e))) like).1 in
-    let same = (byte_back (codes "2") 101 103 (codes "e2") (λ e. absurd (omega (arith, e))) after).0 in absurd (omega (arith, same))
+    let after = (byte_back (codes "e2") 78 78 (codes "ge2") (λ e. absurd (omega (arith, e))) like).1
+    in
+    let same = (byte_back (codes "2") 101 103 (codes "e2") (λ e. absurd (omega (arith, e))) after).0
+    in absurd (omega (arith, same))
 
 -- no move leads to the first position of a main line, and none follows the last
 none_before : (replay : Replay) (word : List ℕ) → IsReachedBy replay 0 word → ⊥
@@ -255,7 +304,8 @@ none_before replay word (before, is, goes) = absurd (omega (arith, is))
 
 none_after : (replay : Replay) (word : List ℕ) → GoesOnBy replay (length replay.played) word → ⊥
 none_after replay word goes =
-    let within = slice_get_within replay.played (length replay.played) goes.move goes.played in absurd (omega (arith, within))
+    let within = slice_get_within replay.played (length replay.played) goes.move goes.played in
+    absurd (omega (arith, within))
 
 -- the first of the numbers 1 to 5 that is 3 or more is 3; none is found between 2 and 1
 third : IsFirst (λ n. 3 ≤ n) 1 5 (Some 3)

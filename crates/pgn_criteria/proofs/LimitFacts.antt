@@ -1,5 +1,7 @@
--- Letters of kinds with their limits: what spells them is cut as they are read, and the other way round.
-use Rattle.std.proofs.Common.{◌≡◌, ◌≢◌, ◌≤◌, ℕ, Bool, true, false, List, [], ◌∷◌, ◌++◌, refl, sym, ap, ◌∙◌, subst, IsTrue, inl, inr, arith}
+-- Letters of kinds with their limits: what spells them is cut as they are read, and the other way
+-- round.
+use Rattle.std.proofs.Common.{◌≡◌, ◌≢◌, ◌≤◌, ℕ, Bool, true, false, List, [], ◌∷◌, ◌++◌, refl, sym}
+use Rattle.std.proofs.Common.{ap, ◌∙◌, subst, IsTrue, inl, inr, arith}
 use Rattle.std.specs.Prelude.{map, ◌+◌, ◌-◌, ◌==◌, ◌||◌, ◌&&◌, not, nat_le, if◌then◌else◌}
 use Rattle.std.specs.List.{list_all}
 use Rattle.std.proofs.lemmas.Bool.{and_parts, not-true, eqb-true, and_from, eq-eqb}
@@ -9,11 +11,13 @@ use Rattle.chess.specs.Public.Fen.{is_digit, has_byte, is_distinct}
 use Rattle.chess.specs.Public.Letters.{kind_letter}
 use Rattle.chess.specs.declared.board.man.Kind.{Kind}
 use Rattle.chess.specs.declared.board.man.Kind.TheVariants.{King, Queen, Rook, Bishop, Knight, Pawn}
-use Rattle.pgn_criteria.specs.Public.Lines.{SpellsLimit, one, exactly, at_least, at_most, any, SpellsEntries, IsLimitIn, SpellsLimits}
+use Rattle.pgn_criteria.specs.Public.Lines.{SpellsLimit, one, exactly, at_least, at_most, any}
+use Rattle.pgn_criteria.specs.Public.Lines.{SpellsEntries, IsLimitIn, SpellsLimits}
 use Rattle.pgn_criteria.specs.Public.Materials.{limit_of}
 use Rattle.pgn_criteria.specs.Private.Reading.{AreEntries, digit_limit, first_limit, limit_after}
 use Rattle.pgn_criteria.specs.declared.material.Limit.{Limit}
-use Rattle.pgn_criteria.specs.declared.material.Limit.TheVariants.{Exactly, AtLeast, AtMost, AnyNumber}
+use Rattle.pgn_criteria.specs.declared.material.Limit.TheVariants.{Exactly, AtLeast, AtMost}
+use Rattle.pgn_criteria.specs.declared.material.Limit.TheVariants.{AnyNumber}
 use Rattle.pgn_criteria.specs.declared.material.Limits.{Limits}
 use Rattle.pgn_criteria.proofs.SolidFacts.{is_solid, AreSolid}
 use Rattle.pgn_game.proofs.MoveTexts.{same_letter}
@@ -53,17 +57,21 @@ limit_low own limit any = refl
 low_other : (b : ℕ) (letter : ℕ) → is_low b ≡ true → is_high letter ≡ true → (b == letter) ≡ false
 low_other b letter low high = grind (arith, nat_tests)
 
-has_after_low : (letter : ℕ) (own rest : List ℕ) → is_high letter ≡ true → IsTrue (list_all is_low own) → has_byte letter (own ++ rest) ≡ has_byte letter rest
+has_after_low : (letter : ℕ) (own rest : List ℕ) → is_high letter ≡ true
+    → IsTrue (list_all is_low own) → has_byte letter (own ++ rest) ≡ has_byte letter rest
 has_after_low letter [] rest high low = refl
 has_after_low letter (b ∷ own) rest high low =
     let parts : (is_low b ≡ true) × (list_all is_low own ≡ true) = and_parts _ _ low in
-    ap (λ t. t || has_byte letter (own ++ rest)) (low_other b letter parts.0 high) ∙ has_after_low letter own rest high parts.1
+    ap (λ t. t || has_byte letter (own ++ rest)) (low_other b letter parts.0 high)
+    ∙ has_after_low letter own rest high parts.1
 
-limit_after_low : (letter : ℕ) (own rest : List ℕ) → is_high letter ≡ true → IsTrue (list_all is_low own) → limit_after letter (own ++ rest) ≡ limit_after letter rest
+limit_after_low : (letter : ℕ) (own rest : List ℕ) → is_high letter ≡ true
+    → IsTrue (list_all is_low own) → limit_after letter (own ++ rest) ≡ limit_after letter rest
 limit_after_low letter [] rest high low = refl
 limit_after_low letter (b ∷ own) rest high low =
     let parts : (is_low b ≡ true) × (list_all is_low own ≡ true) = and_parts _ _ low in
-    ap (λ t. if t then (first_limit (own ++ rest)).0 else limit_after letter (own ++ rest)) (low_other b letter parts.0 high)
+    ap (λ t. if t then (first_limit (own ++ rest)).0
+    else limit_after letter (own ++ rest)) (low_other b letter parts.0 high)
     ∙ limit_after_low letter own rest high parts.1
 
 -- the text ends, or goes on with a high byte
@@ -71,9 +79,11 @@ abbrev pub begins_high : List ℕ → Bool
 begins_high [] = true
 begins_high (b ∷ x) = is_high b
 
-entries_begin : (text : List ℕ) (entries : List (Kind × Limit)) → SpellsEntries text entries → begins_high text ≡ true
+entries_begin : (text : List ℕ) (entries : List (Kind × Limit)) → SpellsEntries text entries
+    → begins_high text ≡ true
 entries_begin text [] is = ap begins_high is
-entries_begin text (entry ∷ more) (own, rest, is, limit, spells) = ap begins_high is ∙ letter_high entry.0
+entries_begin text (entry ∷ more) (own, rest, is, limit, spells) =
+    ap begins_high is ∙ letter_high entry.0
 
 digit_star : (n : ℕ) → (48 + n == 42) ≡ false
 digit_star n = grind (arith, nat_tests)
@@ -86,8 +96,10 @@ digit_number n = omega arith
 
 digit_first : (n : ℕ) (x : List ℕ) → n ≤ 9 → first_limit ((48 + n) ∷ x) ≡ digit_limit n x
 digit_first n x h =
-    ap (λ t. if t then (AnyNumber, x) else if is_digit (48 + n) then digit_limit (48 + n - 48) x else (Exactly 1, (48 + n) ∷ x)) (digit_star n)
-    ∙ ap (λ t. if t then digit_limit (48 + n - 48) x else (Exactly 1, (48 + n) ∷ x)) (digit_digit n h)
+    ap (λ t. if t then (AnyNumber, x) else if is_digit (48 + n) then digit_limit (48 + n - 48) x
+    else (Exactly 1, (48 + n) ∷ x)) (digit_star n)
+    ∙ ap (λ t. if t then digit_limit (48 + n - 48) x
+    else (Exactly 1, (48 + n) ∷ x)) (digit_digit n h)
     ∙ ap (λ m. digit_limit m x) (digit_number n)
 
 -- what follows a limit is none of its bytes
@@ -97,20 +109,24 @@ high_other b other high low = grind (arith, nat_tests)
 high_digit : (b : ℕ) → is_high b ≡ true → is_digit b ≡ false
 high_digit b high = grind (arith, nat_tests)
 
-digit_end : (n : ℕ) (rest : List ℕ) → begins_high rest ≡ true → digit_limit n rest ≡ (Exactly n, rest)
+digit_end : (n : ℕ) (rest : List ℕ) → begins_high rest ≡ true
+    → digit_limit n rest ≡ (Exactly n, rest)
 digit_end n [] high = refl
 digit_end n (b ∷ x) high =
-    ap (λ t. if t then (AtLeast n, x) else if b == 45 then (AtMost n, x) else (Exactly n, b ∷ x)) (high_other b 43 high (omega arith))
+    ap (λ t. if t then (AtLeast n, x) else if b == 45 then (AtMost n, x)
+    else (Exactly n, b ∷ x)) (high_other b 43 high (omega arith))
     ∙ ap (λ t. if t then (AtMost n, x) else (Exactly n, b ∷ x)) (high_other b 45 high (omega arith))
 
 no_limit : (rest : List ℕ) → begins_high rest ≡ true → first_limit rest ≡ (Exactly 1, rest)
 no_limit [] high = refl
 no_limit (b ∷ x) high =
-    ap (λ t. if t then (AnyNumber, x) else if is_digit b then digit_limit (b - 48) x else (Exactly 1, b ∷ x)) (high_other b 42 high (omega arith))
+    ap (λ t. if t then (AnyNumber, x) else if is_digit b then digit_limit (b - 48) x
+    else (Exactly 1, b ∷ x)) (high_other b 42 high (omega arith))
     ∙ ap (λ t. if t then digit_limit (b - 48) x else (Exactly 1, b ∷ x)) (high_digit b high)
 
 -- a limit before the end or a letter is cut as it is spelled
-limit_read : (own rest : List ℕ) (limit : Limit) → SpellsLimit own limit → begins_high rest ≡ true → first_limit (own ++ rest) ≡ (limit, rest)
+limit_read : (own rest : List ℕ) (limit : Limit) → SpellsLimit own limit → begins_high rest ≡ true
+    → first_limit (own ++ rest) ≡ (limit, rest)
 limit_read own rest limit one high = no_limit rest high
 limit_read own rest limit (exactly n h) high = digit_first n rest h ∙ digit_end n rest high
 limit_read own rest limit (at_least n h) high = digit_first n (43 ∷ rest) h
@@ -124,26 +140,35 @@ IsCut front x f = (own : List ℕ) × (x ≡ own ++ f.1) × SpellsLimit (front +
 digit_spelled : (n : ℕ) (x : List ℕ) → n ≤ 9 → IsCut ((48 + n) ∷ []) x (digit_limit n x)
 digit_spelled n [] h = ([], refl, exactly n h)
 digit_spelled n (b ∷ x) h =
-    elim (b == 43) as (λ t. (b == 43) ≡ t → IsCut ((48 + n) ∷ []) (b ∷ x) (if t then (AtLeast n, x) else if b == 45 then (AtMost n, x) else (Exactly n, b ∷ x))) [
+    elim (b == 43) as (λ t. (b == 43) ≡ t
+    → IsCut ((48 + n) ∷ []) (b ∷ x) (if t then (AtLeast n, x) else if b == 45 then (AtMost n, x)
+    else (Exactly n, b ∷ x))) [
       | true ↦ λ plus. (43 ∷ [], ap (λ a. a ∷ x) (eqb-true b 43 plus), at_least n h)
-      | false ↦ λ other. elim (b == 45) as (λ t. (b == 45) ≡ t → IsCut ((48 + n) ∷ []) (b ∷ x) (if t then (AtMost n, x) else (Exactly n, b ∷ x))) [
-        | true ↦ λ minus. (45 ∷ [], ap (λ a. a ∷ x) (eqb-true b 45 minus), at_most n h)
-        | false ↦ λ neither. ([], refl, exactly n h)
-      ] refl
+      | false ↦ λ other. elim (b == 45) as (λ t. (b == 45) ≡ t
+          → IsCut ((48 + n) ∷ []) (b ∷ x) (if t then (AtMost n, x) else (Exactly n, b ∷ x))) [
+            | true ↦ λ minus. (45 ∷ [], ap (λ a. a ∷ x) (eqb-true b 45 minus), at_most n h)
+            | false ↦ λ neither. ([], refl, exactly n h)
+          ] refl
     ] refl
 
 limit_spelled : (x : List ℕ) → IsCut [] x (first_limit x)
 limit_spelled [] = ([], refl, one)
 limit_spelled (b ∷ x) =
-    elim (b == 42) as (λ t. (b == 42) ≡ t → IsCut [] (b ∷ x) (if t then (AnyNumber, x) else if is_digit b then digit_limit (b - 48) x else (Exactly 1, b ∷ x))) [
+    elim (b == 42) as (λ t. (b == 42) ≡ t
+    → IsCut [] (b ∷ x) (if t then (AnyNumber, x) else if is_digit b then digit_limit (b - 48) x
+    else (Exactly 1, b ∷ x))) [
       | true ↦ λ star. (42 ∷ [], ap (λ a. a ∷ x) (eqb-true b 42 star), any)
-      | false ↦ λ other. elim (is_digit b) as (λ t. is_digit b ≡ t → IsCut [] (b ∷ x) (if t then digit_limit (b - 48) x else (Exactly 1, b ∷ x))) [
-        | true ↦ λ digit.
-            let number : 48 + (b - 48) ≡ b = digit_back b digit in
-            let f = digit_spelled (b - 48) x (digit_small b digit) in
-            (b ∷ f.0, ap (λ y. b ∷ y) f.1, subst (λ a. SpellsLimit (a ∷ f.0) (digit_limit (b - 48) x).0) number f.2)
-        | false ↦ λ neither. ([], refl, one)
-      ] refl
+      | false ↦ λ other. elim (is_digit b) as (λ t. is_digit b ≡ t
+          → IsCut [] (b ∷ x) (if t then digit_limit (b - 48) x else (Exactly 1, b ∷ x))) [
+            | true ↦ λ digit.
+                let number : 48 + (b - 48) ≡ b = digit_back b digit in
+                let f = digit_spelled (b - 48) x (digit_small b digit) in (
+                  b ∷ f.0,
+                  ap (λ y. b ∷ y) f.1,
+                  subst (λ a. SpellsLimit (a ∷ f.0) (digit_limit (b - 48) x).0) number f.2,
+                )
+            | false ↦ λ neither. ([], refl, one)
+          ] refl
     ] refl
   where
     digit_back : (b : ℕ) → is_digit b ≡ true → 48 + (b - 48) ≡ b
@@ -160,12 +185,14 @@ pub record IsEntry (b : ℕ) (x : List ℕ) (entries : List (Kind × Limit)) : T
   pub entries_are : entries ≡ (kind, (first_limit x).0) ∷ more
   pub spells : SpellsEntries (first_limit x).1 more
 
-pub entry_read : (b : ℕ) (x : List ℕ) (entries : List (Kind × Limit)) → SpellsEntries (b ∷ x) entries → IsEntry b x entries
+pub entry_read : (b : ℕ) (x : List ℕ) (entries : List (Kind × Limit))
+    → SpellsEntries (b ∷ x) entries → IsEntry b x entries
 entry_read b x [] is = let none : b ∷ x ≡ [] = is in absurd (cc)
 entry_read b x (entry ∷ more) (own, rest, is, limit, spells) =
     let head : b ≡ kind_letter entry.0 = cc in
     let tail : x ≡ own ++ rest = cc in
-    let cut : first_limit x ≡ (entry.1, rest) = ap first_limit tail ∙ limit_read own rest entry.1 limit (entries_begin rest more spells) in
+    let cut : first_limit x ≡ (entry.1, rest) =
+    ap first_limit tail ∙ limit_read own rest entry.1 limit (entries_begin rest more spells) in
     record {
       kind = entry.0;
       more = more;
@@ -174,60 +201,82 @@ entry_read b x (entry ∷ more) (own, rest, is, limit, spells) =
       spells = subst (λ (f : Limit × List ℕ). SpellsEntries f.1 more) (sym cut) spells;
     }
 
-pub entry_spelled : (kind : Kind) (x : List ℕ) (more : List (Kind × Limit)) → SpellsEntries (first_limit x).1 more
+pub entry_spelled : (kind : Kind) (x : List ℕ) (more : List (Kind × Limit))
+    → SpellsEntries (first_limit x).1 more
     → SpellsEntries (kind_letter kind ∷ x) ((kind, (first_limit x).0) ∷ more)
 entry_spelled kind x more spells =
-    let f = limit_spelled x in (f.0, (first_limit x).1, ap (λ y. kind_letter kind ∷ y) f.1, f.2, spells)
+    let f = limit_spelled x in
+    (f.0, (first_limit x).1, ap (λ y. kind_letter kind ∷ y) f.1, f.2, spells)
 
 -- a letter stands in the text where one of the entries has it
 abbrev pub letters : List (Kind × Limit) → List ℕ
 letters entries = map (λ entry. kind_letter entry.0) entries
 
-has_letter : (letter : ℕ) (text : List ℕ) (entries : List (Kind × Limit)) → is_high letter ≡ true → SpellsEntries text entries → has_byte letter text ≡ has_byte letter (letters entries)
+has_letter : (letter : ℕ) (text : List ℕ) (entries : List (Kind × Limit)) → is_high letter ≡ true
+    → SpellsEntries text entries → has_byte letter text ≡ has_byte letter (letters entries)
 has_letter letter text [] high is = ap (has_byte letter) is
 has_letter letter text (entry ∷ more) high (own, rest, is, limit, spells) =
     ap (has_byte letter) is
-    ∙ ap (λ t. kind_letter entry.0 == letter || t) (has_after_low letter own rest high (limit_low own entry.1 limit) ∙ has_letter letter rest more high spells)
+    ∙ ap (λ t. kind_letter entry.0 == letter
+    || t) (has_after_low letter own rest high (limit_low own entry.1 limit)
+    ∙ has_letter letter rest more high spells)
 
 -- entries begin with one whose letter does not stand in the rest
 pub entries_read : (b : ℕ) (x : List ℕ) → AreEntries (b ∷ x)
-    → ((kind : Kind) × (b ≡ kind_letter kind)) × (has_byte b (first_limit x).1 ≡ false) × AreEntries (first_limit x).1
+    → ((kind : Kind) × (b ≡ kind_letter kind)) × (has_byte b (first_limit x).1 ≡ false)
+    × AreEntries (first_limit x).1
 entries_read b x (entries, spells, distinct) =
     let e = entry_read b x entries spells in
-    let parts : (not (has_byte (kind_letter e.kind) (letters e.more)) ≡ true) × (is_distinct (letters e.more) ≡ true) =
-    and_parts _ _ (subst (λ (es : List (Kind × Limit)). is_distinct (letters es) ≡ true) e.entries_are distinct) in
+    let parts : (not (has_byte (kind_letter e.kind) (letters e.more)) ≡ true)
+    × (is_distinct (letters e.more) ≡ true) =
+    and_parts _ _ (subst (λ (es : List (Kind × Limit)). is_distinct (letters es)
+    ≡ true) e.entries_are distinct) in
     let other : has_byte (kind_letter e.kind) (letters e.more) ≡ false = not-true _ parts.0 in (
       (e.kind, e.letter_is),
-      ap (λ a. has_byte a (first_limit x).1) e.letter_is ∙ has_letter (kind_letter e.kind) (first_limit x).1 e.more (letter_high e.kind) e.spells ∙ other,
+      ap (λ a. has_byte a (first_limit x).1) e.letter_is
+          ∙ has_letter (kind_letter e.kind) (first_limit x).1 e.more (letter_high e.kind) e.spells
+          ∙ other,
       (e.more, e.spells, parts.1),
     )
 
-pub entries_spelled : (b : ℕ) (x : List ℕ) (kind : Kind) → b ≡ kind_letter kind → has_byte b (first_limit x).1 ≡ false → AreEntries (first_limit x).1 → AreEntries (b ∷ x)
+pub entries_spelled : (b : ℕ) (x : List ℕ) (kind : Kind) → b ≡ kind_letter kind
+    → has_byte b (first_limit x).1 ≡ false → AreEntries (first_limit x).1 → AreEntries (b ∷ x)
 entries_spelled b x kind is other (more, spells, distinct) =
     let absent : has_byte (kind_letter kind) (letters more) ≡ false =
-    sym (has_letter (kind_letter kind) (first_limit x).1 more (letter_high kind) spells) ∙ ap (λ a. has_byte a (first_limit x).1) (sym is) ∙ other in
-    subst (λ a. AreEntries (a ∷ x)) (sym is)
-    ((kind, (first_limit x).0) ∷ more, entry_spelled kind x more spells, and_from _ _ (ap not absent) distinct)
+    sym (has_letter (kind_letter kind) (first_limit x).1 more (letter_high kind) spells)
+    ∙ ap (λ a. has_byte a (first_limit x).1) (sym is) ∙ other in
+    subst (λ a. AreEntries (a ∷ x)) (sym is) (
+      (kind, (first_limit x).0) ∷ more,
+      entry_spelled kind x more spells,
+      and_from _ _ (ap not absent) distinct,
+    )
 
 -- the entries of a text give each kind the limit after its letter
-pub entries_give : (text : List ℕ) (entries : List (Kind × Limit)) → SpellsEntries text entries → (kind : Kind) → IsLimitIn entries kind (limit_after (kind_letter kind) text)
+pub entries_give : (text : List ℕ) (entries : List (Kind × Limit)) → SpellsEntries text entries
+    → (kind : Kind) → IsLimitIn entries kind (limit_after (kind_letter kind) text)
 entries_give text [] is kind = ap (limit_after (kind_letter kind)) is
 entries_give text (entry ∷ more) (own, rest, is, limit, spells) kind =
     subst (IsLimitIn (entry ∷ more) kind) (sym (ap (limit_after (kind_letter kind)) is))
-    (elim (kind_letter entry.0 == kind_letter kind) as (λ t. (kind_letter entry.0 == kind_letter kind) ≡ t
-    → IsLimitIn (entry ∷ more) kind (if t then (first_limit (own ++ rest)).0 else limit_after (kind_letter kind) (own ++ rest))) [
+    (elim (kind_letter entry.0 == kind_letter kind) as (λ t.
+    (kind_letter entry.0 == kind_letter kind) ≡ t
+    → IsLimitIn (entry ∷ more) kind (if t then (first_limit (own ++ rest)).0
+    else limit_after (kind_letter kind) (own ++ rest))) [
       | true ↦ λ same. inl (
         same_letter entry.0 kind (eqb-true _ _ same),
-        ap (λ (f : Limit × List ℕ). f.0) (limit_read own rest entry.1 limit (entries_begin rest more spells)),
+        ap (λ (f : Limit × List ℕ).
+            f.0) (limit_read own rest entry.1 limit (entries_begin rest more spells)),
       )
       | false ↦ λ other. inr (
         (λ e. let clash : true ≡ false = sym (eq-eqb _ _ (ap kind_letter e)) ∙ other in cc),
-        subst (IsLimitIn more kind) (sym (limit_after_low (kind_letter kind) own rest (letter_high kind) (limit_low own entry.1 limit))) (entries_give rest more spells kind),
+        subst (IsLimitIn more kind)
+            (sym (limit_after_low (kind_letter kind) own rest (letter_high kind)
+            (limit_low own entry.1 limit))) (entries_give rest more spells kind),
       )
     ] refl)
 
 -- and no other limit
-one_limit : (entries : List (Kind × Limit)) (kind : Kind) (a b : Limit) → IsLimitIn entries kind a → IsLimitIn entries kind b → a ≡ b
+one_limit : (entries : List (Kind × Limit)) (kind : Kind) (a b : Limit) → IsLimitIn entries kind a
+    → IsLimitIn entries kind b → a ≡ b
 one_limit [] wanted a b is has = is ∙ sym has
 one_limit (entry ∷ more) wanted a b (inl is) (inl has) = is.1 ∙ sym has.1
 one_limit (entry ∷ more) wanted a b (inl is) (inr has) = absurd (has.0 is.0)
@@ -243,27 +292,34 @@ limits_some text limits ([], some, spells, distinct, each) none = some refl
 limits_some text limits (entry ∷ more, some, (own, rest, is, limit, spells), distinct, each) none =
     let clash : kind_letter entry.0 ∷ (own ++ rest) ≡ [] = sym is ∙ none in cc
 
-pub limits_given : (text : List ℕ) (limits : Limits) → SpellsLimits text limits → (kind : Kind) → limit_of limits kind ≡ limit_after (kind_letter kind) text
+pub limits_given : (text : List ℕ) (limits : Limits) → SpellsLimits text limits → (kind : Kind)
+    → limit_of limits kind ≡ limit_after (kind_letter kind) text
 limits_given text limits (entries, some, spells, distinct, each) kind =
-    one_limit entries kind (limit_of limits kind) (limit_after (kind_letter kind) text) (each kind) (entries_give text entries spells kind)
+    one_limit entries kind (limit_of limits kind) (limit_after (kind_letter kind) text) (each kind)
+    (entries_give text entries spells kind)
 
-pub limits_spelled : (text : List ℕ) (limits : Limits) → text ≢ [] → AreEntries text → ((kind : Kind) → limit_of limits kind ≡ limit_after (kind_letter kind) text)
+pub limits_spelled : (text : List ℕ) (limits : Limits) → text ≢ [] → AreEntries text
+    → ((kind : Kind) → limit_of limits kind ≡ limit_after (kind_letter kind) text)
     → SpellsLimits text limits
 limits_spelled text limits some (entries, spells, distinct) each = (
   entries,
   (λ none. some (subst (SpellsEntries text) none spells)),
   spells,
   distinct,
-  (λ kind. subst (IsLimitIn entries kind) (sym (each kind)) (entries_give text entries spells kind)),
+  (λ kind.
+      subst (IsLimitIn entries kind) (sym (each kind)) (entries_give text entries spells kind)),
 )
 
 -- their texts are solid
-entries_solid : (text : List ℕ) (entries : List (Kind × Limit)) → SpellsEntries text entries → AreSolid text
+entries_solid : (text : List ℕ) (entries : List (Kind × Limit)) → SpellsEntries text entries
+    → AreSolid text
 entries_solid text [] is = ap (list_all is_solid) is
 entries_solid text (entry ∷ more) (own, rest, is, limit, spells) =
     ap (list_all is_solid) is
-    ∙ and_from (is_solid (kind_letter entry.0)) (list_all is_solid (own ++ rest)) (high_solid (kind_letter entry.0) (letter_high entry.0))
-    (list_all-append is_solid own rest ∙ and_from _ _ (all_low own (limit_low own entry.1 limit)) (entries_solid rest more spells))
+    ∙ and_from (is_solid (kind_letter entry.0)) (list_all is_solid (own ++ rest))
+    (high_solid (kind_letter entry.0) (letter_high entry.0))
+    (list_all-append is_solid own rest
+    ∙ and_from _ _ (all_low own (limit_low own entry.1 limit)) (entries_solid rest more spells))
   where
     all_low : (x : List ℕ) → IsTrue (list_all is_low x) → AreSolid x
     all_low [] low = refl

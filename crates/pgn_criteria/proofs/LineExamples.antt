@@ -1,5 +1,6 @@
 -- What the definitions say of lines that every reader can check.
-use Rattle.std.proofs.Common.{◌==◌, ◌≡◌, ◌≤◌, ◌<◌, ℕ, Bool, true, false, List, [], ◌∷◌, ◌++◌, length, get_or, refl, sym, ap, ◌∙◌, inl, inr, arith, codes}
+use Rattle.std.proofs.Common.{◌==◌, ◌≡◌, ◌≤◌, ◌<◌, ℕ, Bool, true, false, List, [], ◌∷◌, ◌++◌}
+use Rattle.std.proofs.Common.{length, get_or, refl, sym, ap, ◌∙◌, inl, inr, arith, codes}
 use Rattle.std.specs.Prelude.{replicate}
 use Rattle.chess.specs.Public.Fen.{parted_at}
 use Rattle.chess.specs.declared.board.man.Kind.{Kind}
@@ -7,32 +8,47 @@ use Rattle.chess.specs.declared.board.man.Kind.TheVariants.{King, Queen, Rook, B
 use Rattle.chess.specs.declared.board.man.Side.TheVariants.{White}
 use Rattle.pgn_text.specs.Public.Strings.{Single}
 use Rattle.pgn_text.specs.Public.GameTexts.{IsResult}
-use Rattle.pgn_criteria.specs.Public.Lines.{SpellsClaim, AreNames, SpellsCount, CanBeCompared, SpellsTaken, Spells, SpellsLimits, IsLimitIn, IsMoveWord, IsMoveLike, a_word, and_words, IsLine, Accepts, alternatives_of, SpellsTurned}
+use Rattle.pgn_criteria.specs.Public.Lines.{SpellsGame, SpellsPosition, SpellsMove, SpellsSpan}
+use Rattle.pgn_criteria.specs.Public.Lines.{SpellsCondition, AreNames, SpellsCount, CanBeCompared}
+use Rattle.pgn_criteria.specs.Public.Lines.{Spells, SpellsLimits, IsLimitIn, IsMoveWord, IsMoveLike}
+use Rattle.pgn_criteria.specs.Public.Lines.{a_word, and_words, IsLine, Accepts, alternatives_of}
+use Rattle.pgn_criteria.specs.Public.Lines.{SpellsTurned}
 use Rattle.pgn_criteria.specs.Public.Lines.SpellsLimit.{one, exactly, at_least, at_most, any}
 use Rattle.pgn_criteria.specs.Public.Comparing.{Compares}
 use Rattle.pgn_criteria.specs.Public.Materials.{limit_of}
 use Rattle.pgn_criteria.specs.Public.Mirrors.{can_be_mirrored}
-use Rattle.pgn_criteria.specs.declared.compare.Comparison.{Comparison}
 use Rattle.pgn_criteria.specs.declared.compare.Comparison.TheVariants.{Less, LessOrEqual}
 use Rattle.pgn_criteria.specs.declared.compare.Relation.TheVariants.{GreaterOrEqual, Has, Begins}
 use Rattle.pgn_criteria.specs.declared.material.Limit.{Limit}
-use Rattle.pgn_criteria.specs.declared.material.Limit.TheVariants.{Exactly, AtLeast, AtMost, AnyNumber}
+use Rattle.pgn_criteria.specs.declared.material.Limit.TheVariants.{Exactly, AtLeast, AtMost}
+use Rattle.pgn_criteria.specs.declared.material.Limit.TheVariants.{AnyNumber}
 use Rattle.pgn_criteria.specs.declared.material.Limits.{Limits}
 use Rattle.pgn_criteria.specs.declared.condition.Condition.{Condition}
-use Rattle.pgn_criteria.specs.declared.condition.Claim.{Claim}
-use Rattle.pgn_criteria.specs.declared.condition.Claim.TheVariants.{Tag, Moves, Plies, Result, Next, Played, For, Count, Turn, Check, Mate, Stalemate}
+use Rattle.pgn_criteria.specs.Private.Reading.{run_of}
+use Rattle.pgn_criteria.specs.Public.Conditions.{Conditions, no_conditions}
+use Rattle.pgn_criteria.specs.declared.condition.Condition.TheVariants.{Game, Position, Move, Span}
+use Rattle.pgn_criteria.specs.declared.condition.GameClaim.TheVariants.{Tag, Moves, Plies, Result}
+use Rattle.pgn_criteria.specs.declared.condition.PositionCondition.{PositionCondition}
+use Rattle.pgn_criteria.specs.declared.condition.PositionClaim.{PositionClaim}
+use Rattle.pgn_criteria.specs.declared.condition.PositionClaim.TheVariants.{Turn, Check, Mate}
+use Rattle.pgn_criteria.specs.declared.condition.PositionClaim.TheVariants.{Stalemate}
+use Rattle.pgn_criteria.specs.declared.condition.MoveClaim.TheVariants.{Next, Played}
+use Rattle.pgn_criteria.specs.declared.condition.SpanClaim.TheVariants.{For, Count}
 use Rattle.pgn_criteria.specs.declared.line.Meaning.{Meaning}
 use Rattle.pgn_criteria.specs.declared.line.Meaning.TheVariants.{Nothing, Or, Asks}
-use Rattle.pgn_criteria.proofs.ClaimFacts.{claim_not, not_read}
+use Rattle.pgn_criteria.proofs.ClaimFacts.{total, games_are, moves_are, spans_are, claim_not}
+use Rattle.pgn_criteria.proofs.ClaimFacts.{taken_either}
 use Rattle.pgn_criteria.proofs.ConditionFacts.{line_read, either_read}
+use Rattle.pgn_criteria.proofs.OneMeaning.{HasKind, one_kind, kind, condition_kind}
 use Rattle.pgn_criteria.proofs.PliesFacts.{for_read}
 
 -- more blanks may stand where one stands
-turn : SpellsClaim (codes "turn  white") (Turn White)
+turn : SpellsPosition (codes "turn  white") (Turn White)
 turn = (codes "  ", refl, ((λ none. cc), refl))
 
 -- tag A >= "10"
-tag : SpellsClaim (codes "tag A >= " ++ (34 ∷ 49 ∷ 48 ∷ 34 ∷ [])) (Tag (codes "A") GreaterOrEqual (codes "10"))
+tag : SpellsGame (codes "tag A >= "
+    ++ (34 ∷ 49 ∷ 48 ∷ 34 ∷ [])) (Tag (codes "A") GreaterOrEqual (codes "10"))
 tag = (
   codes " ",
   codes " ",
@@ -47,7 +63,8 @@ tag = (
 )
 
 -- tag A begins "C"
-tag_begins : SpellsClaim (codes "tag A begins " ++ (34 ∷ 67 ∷ 34 ∷ [])) (Tag (codes "A") Begins (codes "C"))
+tag_begins : SpellsGame (codes "tag A begins "
+    ++ (34 ∷ 67 ∷ 34 ∷ [])) (Tag (codes "A") Begins (codes "C"))
 tag_begins = (
   codes " ",
   codes " ",
@@ -62,7 +79,8 @@ tag_begins = (
 )
 
 -- tag A|B begins "C" names two tags
-two_tags : SpellsClaim (codes "tag A|B begins " ++ (34 ∷ 67 ∷ 34 ∷ [])) (Tag (codes "A|B") Begins (codes "C"))
+two_tags : SpellsGame (codes "tag A|B begins "
+    ++ (34 ∷ 67 ∷ 34 ∷ [])) (Tag (codes "A|B") Begins (codes "C"))
 two_tags = (
   codes " ",
   codes " ",
@@ -77,33 +95,70 @@ two_tags = (
 )
 
 -- plies <= 50
-fifty_plies : SpellsClaim (codes "plies <= 50") (Plies LessOrEqual 50)
-fifty_plies = (codes " ", codes " ", codes "50", refl, ((λ none. cc), refl), ((λ none. cc), refl), record { digits = refl; short = (omega arith, omega arith); value = refl })
+fifty_plies : SpellsGame (codes "plies <= 50") (Plies LessOrEqual 50)
+fifty_plies = (
+  codes " ",
+  codes " ",
+  codes "50",
+  refl,
+  ((λ none. cc), refl),
+  ((λ none. cc), refl),
+  record { digits = refl; short = (omega arith, omega arith); value = refl },
+)
 
 -- five digits are no number of plies
 not_five_digits : (count : ℕ) → SpellsCount (codes "10000") count → ⊥
 not_five_digits count spells = let few : 5 ≤ 4 = spells.short.1 in absurd (omega arith)
 
 -- for 40, and count <= 9
-for_forty : SpellsClaim (codes "for 40") (For 40)
-for_forty = (codes " ", codes "40", refl, ((λ none. cc), refl), record { digits = refl; short = (omega arith, omega arith); value = refl }, omega arith)
+for_forty : SpellsSpan (codes "for 40") (For 40)
+for_forty = (
+  codes "40",
+  (codes " ", refl, ((λ none. cc), refl)),
+  record { digits = refl; short = (omega arith, omega arith); value = refl },
+  omega arith,
+)
 
-count_nine : SpellsClaim (codes "count <= 9") (Count LessOrEqual 9)
-count_nine = (codes " ", codes " ", codes "9", refl, ((λ none. cc), refl), ((λ none. cc), refl), record { digits = refl; short = (omega arith, omega arith); value = refl })
+count_nine : SpellsSpan (codes "count <= 9") (Count LessOrEqual 9)
+count_nine = (
+  codes " ",
+  codes " ",
+  codes "9",
+  refl,
+  ((λ none. cc), refl),
+  ((λ none. cc), refl),
+  record { digits = refl; short = (omega arith, omega arith); value = refl },
+)
 
 -- 0 plies in a row are not asked for
-not_for_zero : (count : ℕ) → SpellsClaim (codes "for 0") (For count) → ⊥
+not_for_zero : (count : ℕ) → SpellsSpan (codes "for 0") (For count) → ⊥
 not_for_zero count spells =
     let read = for_read (codes "for 0") count spells in
     let zero : count ≡ 0 = read.1.value in
     let some : 1 ≤ count = read.2 in omega (arith, zero, some)
 
 -- for and count are not denied
-not_denied_for : (count : ℕ) → SpellsTaken (codes "not for 3") true (For count) → ⊥
-not_denied_for count spells = let so : false ≡ true = (not_read (codes "not for 3") (For count) spells).1 in cc
+no_denied_span : (text : List ℕ) (condition : Condition (List ℕ)) → HasKind text 4
+    → run_of text ≡ codes "not" → SpellsCondition text condition → ⊥
+no_denied_span text (Span claim) of run spells =
+    claim_not SpellsSpan spans_are text claim spells run
+no_denied_span text condition of run spells =
+    let e = one_kind text (kind condition) 4 (condition_kind text condition spells) of in
+    absurd (omega arith)
 
-not_denied_count : (comparison : Comparison) (count : ℕ) → SpellsTaken (codes "not count = 3") true (Count comparison count) → ⊥
-not_denied_count comparison count spells = let so : false ≡ true = (not_read (codes "not count = 3") (Count comparison count) spells).1 in cc
+not_denied_for : (condition : Condition (List ℕ)) → SpellsCondition (codes "not for 3") condition
+    → ⊥
+not_denied_for condition =
+    let of : HasKind (codes "not for 3") 4 =
+    (false, true, _, codes "for 3", ((λ is. cc), refl), (refl, refl), refl) in
+    no_denied_span (codes "not for 3") condition of refl
+
+not_denied_count : (condition : Condition (List ℕ))
+    → SpellsCondition (codes "not count = 3") condition → ⊥
+not_denied_count condition =
+    let of : HasKind (codes "not count = 3") 4 =
+    (false, true, _, codes "count = 3", ((λ is. cc), refl), (refl, refl), refl) in
+    no_denied_span (codes "not count = 3") condition of refl
 
 -- 51 plies are not at most 50, and 50 are not fewer
 fifty_one_not_at_most : Compares LessOrEqual 51 50 → ⊥
@@ -122,14 +177,24 @@ no_last_name are = are.1.0.0 refl
 
 -- a king, two pawns or more, at most three knights, any rooks, and no man of the other kinds
 abbrev pub limits : Limits
-limits = record { king = Exactly 1; queen = Exactly 0; rook = AnyNumber; bishop = Exactly 0; knight = AtMost 3; pawn = AtLeast 2 }
+limits = record {
+  king = Exactly 1;
+  queen = Exactly 0;
+  rook = AnyNumber;
+  bishop =
+      Exactly 0;
+  knight = AtMost 3;
+  pawn = AtLeast 2;
+}
 
 abbrev pub entries : List (Kind × Limit)
-entries = (King, Exactly 1) ∷ (Pawn, AtLeast 2) ∷ (Knight, AtMost 3) ∷ (Rook, AnyNumber) ∷ (Bishop, Exactly 0) ∷ []
+entries = (King, Exactly 1) ∷ (Pawn, AtLeast 2) ∷ (Knight, AtMost 3) ∷ (Rook, AnyNumber)
+    ∷ (Bishop, Exactly 0) ∷ []
 
 named : (kind : Kind) → IsLimitIn entries kind (limit_of limits kind)
 named King = inl (refl, refl)
-named Queen = inr ((λ e. cc), inr ((λ e. cc), inr ((λ e. cc), inr ((λ e. cc), inr ((λ e. cc), refl)))))
+named Queen =
+    inr ((λ e. cc), inr ((λ e. cc), inr ((λ e. cc), inr ((λ e. cc), inr ((λ e. cc), refl)))))
 named Rook = inr ((λ e. cc), inr ((λ e. cc), inr ((λ e. cc), inl (refl, refl))))
 named Bishop = inr ((λ e. cc), inr ((λ e. cc), inr ((λ e. cc), inr ((λ e. cc), inl (refl, refl)))))
 named Knight = inr ((λ e. cc), inr ((λ e. cc), inl (refl, refl)))
@@ -163,12 +228,11 @@ side = (
 )
 
 -- words for moves
-moves : SpellsClaim (codes "moves e4 *") (Moves (codes "e4 *"))
+moves : SpellsGame (codes "moves e4 *") (Moves (codes "e4 *"))
 moves = (
-  codes " ",
-  refl,
-  ((λ none. cc), refl),
-  and_words (codes "e4") (codes " ") (codes "*") (inr (omega arith, omega arith, refl)) ((λ none. cc), refl) (a_word (codes "*") (inl refl)),
+  (codes " ", refl, ((λ none. cc), refl)),
+  and_words (codes "e4") (codes " ") (codes "*") (inr (omega arith, omega arith, refl))
+      ((λ none. cc), refl) (a_word (codes "*") (inl refl)),
 )
 
 -- a word for a move has 2 to 7 bytes
@@ -178,22 +242,25 @@ two_letters = inr (omega arith, omega arith, refl)
 seven_letters : IsMoveWord (codes "Nb1xd2e")
 seven_letters = inr (omega arith, omega arith, refl)
 
-bytes_of : (word : List ℕ) → IsMoveWord word → (word ≡ codes "*" → ⊥) → (2 ≤ length word) × (length word ≤ 7)
+bytes_of : (word : List ℕ) → IsMoveWord word → (word ≡ codes "*" → ⊥)
+    → (2 ≤ length word) × (length word ≤ 7)
 bytes_of word (inl star) other = absurd (other star)
 bytes_of word (inr (low, high, _)) other = (low, high)
 
 not_one_letter : IsMoveWord (codes "e") → ⊥
-not_one_letter is = let few : 2 ≤ 1 = (bytes_of (codes "e") is (λ star. cc)).0 in absurd (omega arith)
+not_one_letter is = let few : 2 ≤ 1 = (bytes_of (codes "e") is (λ star. cc)).0 in
+    absurd (omega arith)
 
 not_eight_letters : IsMoveWord (codes "Nb1xd2ef") → ⊥
-not_eight_letters is = let many : 8 ≤ 7 = (bytes_of (codes "Nb1xd2ef") is (λ star. cc)).1 in absurd (omega arith)
+not_eight_letters is = let many : 8 ≤ 7 = (bytes_of (codes "Nb1xd2ef") is (λ star. cc)).1 in
+    absurd (omega arith)
 
 -- a word for the move that follows, and for the one before
-next_takes : SpellsClaim (codes "next *x*") (Next (codes "*x*"))
-next_takes = (codes " ", refl, ((λ none. cc), refl), (omega arith, omega arith, refl))
+next_takes : SpellsMove (codes "next *x*") (Next (codes "*x*"))
+next_takes = ((codes " ", refl, ((λ none. cc), refl)), (omega arith, omega arith, refl))
 
-played_castling : SpellsClaim (codes "played  O-O*") (Played (codes "O-O*"))
-played_castling = (codes "  ", refl, ((λ none. cc), refl), (omega arith, omega arith, refl))
+played_castling : SpellsMove (codes "played  O-O*") (Played (codes "O-O*"))
+played_castling = ((codes "  ", refl, ((λ none. cc), refl)), (omega arith, omega arith, refl))
 
 -- such a word has 1 to 7 bytes, and no mark of check
 one_star : IsMoveLike (codes "*")
@@ -216,15 +283,19 @@ not_two_words : IsMoveLike (codes "e4 e5") → ⊥
 not_two_words is = let each : false ≡ true = is.2 in cc
 
 -- a result
-drawn : SpellsClaim (codes "result 1/2-1/2") (Result (codes "1/2-1/2"))
-drawn = (codes " ", refl, ((λ none. cc), refl), inr (inr (inl refl)))
+drawn : SpellsGame (codes "result 1/2-1/2") (Result (codes "1/2-1/2"))
+drawn = ((codes " ", refl, ((λ none. cc), refl)), inr (inr (inl refl)))
 
 -- half of a draw is none, nor is a text without bytes
 not_half : IsResult (codes "1/2") → ⊥
-not_half (inl white) = let second : get_or (codes "1/2") 1 0 ≡ 45 = ap (λ x. get_or x 1 0) white in omega arith
-not_half (inr (inl black)) = let first : get_or (codes "1/2") 0 0 ≡ 48 = ap (λ x. get_or x 0 0) black in omega arith
-not_half (inr (inr (inl draw))) = let size : length (codes "1/2") ≡ 7 = ap length draw in omega arith
-not_half (inr (inr (inr star))) = let size : length (codes "1/2") ≡ 1 = ap length star in omega arith
+not_half (inl white) = let second : get_or (codes "1/2") 1 0 ≡ 45 = ap (λ x. get_or x 1 0) white in
+    omega arith
+not_half (inr (inl black)) = let first : get_or (codes "1/2") 0 0 ≡ 48 =
+    ap (λ x. get_or x 0 0) black in omega arith
+not_half (inr (inr (inl draw))) = let size : length (codes "1/2") ≡ 7 = ap length draw in
+    omega arith
+not_half (inr (inr (inr star))) = let size : length (codes "1/2") ≡ 1 = ap length star in
+    omega arith
 
 not_no_result : IsResult [] → ⊥
 not_no_result (inl white) = cc
@@ -233,13 +304,13 @@ not_no_result (inr (inr (inl draw))) = cc
 not_no_result (inr (inr (inr star))) = cc
 
 -- a claim that is to be so, and one that is denied
-abbrev pub so : Claim (List ℕ) → Condition (List ℕ)
+abbrev pub so : PositionClaim (List ℕ) → PositionCondition (List ℕ)
 so claim = record { is_either = false; is_denied = false; claim = claim }
 
-abbrev pub denied : Claim (List ℕ) → Condition (List ℕ)
+abbrev pub denied : PositionClaim (List ℕ) → PositionCondition (List ℕ)
 denied claim = record { is_either = false; is_denied = true; claim = claim }
 
-not_check : IsLine (codes "not check") (Asks (denied Check))
+not_check : IsLine (codes "not check") (Asks (Position (denied Check)))
 not_check = record {
   before = [];
   text = codes "not check";
@@ -249,10 +320,11 @@ not_check = record {
   blank_before = refl;
   blank_after = refl;
   end = inl refl;
-  spells = (codes " ", codes "check", refl, ((λ none. cc), refl), refl, refl);
+  spells = (codes "check", (codes " ", refl, ((λ none. cc), refl)), refl);
 }
 
-not_decided : IsLine (codes "not result *") (Asks (denied (Result (codes "*"))))
+not_decided : IsLine (codes "not result *")
+    (Asks (Game (record { is_denied = true; claim = Result (codes "*") })))
 not_decided = record {
   before = [];
   text = codes "not result *";
@@ -262,10 +334,15 @@ not_decided = record {
   blank_before = refl;
   blank_after = refl;
   end = inl refl;
-  spells = (codes " ", codes "result *", refl, ((λ none. cc), refl), refl, (codes " ", refl, ((λ none. cc), refl), inr (inr (inr refl))));
+  spells = (
+    codes "result *",
+    (codes " ", refl, ((λ none. cc), refl)),
+    ((codes " ", refl, ((λ none. cc), refl)), inr (inr (inr refl))),
+  );
 }
 
-not_promoted : IsLine (codes "not next *=Q") (Asks (denied (Next (codes "*=Q"))))
+not_promoted : IsLine (codes "not next *=Q")
+    (Asks (Move (record { is_denied = true; claim = Next (codes "*=Q") })))
 not_promoted = record {
   before = [];
   text = codes "not next *=Q";
@@ -275,30 +352,38 @@ not_promoted = record {
   blank_before = refl;
   blank_after = refl;
   end = inl refl;
-  spells = (codes " ", codes "next *=Q", refl, ((λ none. cc), refl), refl, (codes " ", refl, ((λ none. cc), refl), (omega arith, omega arith, refl)));
+  spells = (
+    codes "next *=Q",
+    (codes " ", refl, ((λ none. cc), refl)),
+    ((codes " ", refl, ((λ none. cc), refl)), (omega arith, omega arith, refl)),
+  );
 }
+
+kind_some : (condition : Condition (List ℕ)) → kind condition ≡ 0 → ⊥
+kind_some (Span claim) none = cc
+kind_some condition none = cc
 
 -- `not` is written once
 not_twice : (means : Meaning (List ℕ)) → IsLine (codes "not not check") means → ⊥
 not_twice means is = no_meaning means (line_read (codes "not not check") means is)
   where
-    no_claim : (denied : Bool) (claim : Claim (List ℕ)) → SpellsTaken (codes "not not check") denied claim → ⊥
-    no_claim false claim spells = claim_not (codes "not not check") claim refl spells
-    no_claim true claim spells = claim_not (codes "not check") claim refl (not_read (codes "not not check") claim spells).2
-
-    no_condition : (either taken : Bool) (claim : Claim (List ℕ)) → SpellsTurned (codes "not not check") either taken claim → ⊥
-    no_condition false taken claim spells = no_claim taken claim spells
-    no_condition true taken claim spells =
-        let clash : false ≡ true = ap (λ x. get_or x 0 0 == 101) (either_read (codes "not not check") taken claim spells).0 in cc
+    of_none : HasKind (codes "not not check") 0
+    of_none = (false, true, _, codes "not check", ((λ is. cc), refl), (refl, refl), refl)
 
     no_meaning : (means : Meaning (List ℕ)) → Spells (codes "not not check") means → ⊥
     no_meaning Nothing (inl none) = cc
-    no_meaning Nothing (inr comment) = let first : get_or (codes "not not check") 0 0 ≡ 35 = ap (λ x. get_or x 0 0) comment.1 in omega arith
+    no_meaning Nothing (inr comment) = let first : get_or (codes "not not check") 0 0 ≡ 35 =
+        ap (λ x. get_or x 0 0) comment.1 in omega arith
     no_meaning Or or = let short : length (codes "not not check") ≡ 2 = ap length or in omega arith
-    no_meaning (Asks condition) spells = no_condition condition.is_either condition.is_denied condition.claim spells
+    no_meaning (Asks condition) spells =
+        let text = codes "not not check" in
+        let e : kind condition ≡ 0 =
+        one_kind text (kind condition) 0 (condition_kind text condition spells) of_none in
+        kind_some condition e
 
 -- a line with `either`
-either_turn : IsLine (codes "either not turn white") (Asks (record { is_either = true; is_denied = true; claim = Turn White }))
+either_turn : IsLine (codes "either not turn white")
+    (Asks (Position (record { is_either = true; is_denied = true; claim = Turn White })))
 either_turn = record {
   before = [];
   text = codes "either not turn white";
@@ -308,34 +393,74 @@ either_turn = record {
   blank_before = refl;
   blank_after = refl;
   end = inl refl;
-  spells = (codes " ", codes "not turn white", refl, ((λ none. cc), refl), refl, (codes " ", codes "turn white", refl, ((λ none. cc), refl), refl, (codes " ", refl, ((λ none. cc), refl))));
+  spells = (
+    codes "not turn white",
+    (codes " ", refl, ((λ none. cc), refl)),
+    refl,
+    (
+      codes "turn white",
+      (codes " ", refl, ((λ none. cc), refl)),
+      (codes " ", refl, ((λ none. cc), refl)),
+    ),
+  );
 }
 
 -- check is not seen from the other side
-not_either_check : (taken : Bool) (claim : Claim (List ℕ)) → SpellsTurned (codes "either check") true taken claim → claim ≡ Check → ⊥
+not_either_check : (taken : Bool) (claim : PositionClaim (List ℕ))
+    → SpellsTurned (codes "either check") true taken claim → claim ≡ Check → ⊥
 not_either_check taken claim spells is =
-    let so : false ≡ true = ap (λ (c : Claim (List ℕ)). can_be_mirrored c) (sym is) ∙ (either_read (codes "either check") taken claim spells).1 in cc
+    let so : false ≡ true = ap (λ (c : PositionClaim (List ℕ)). can_be_mirrored c) (sym is)
+    ∙ (either_read (codes "either check") taken claim spells).1 in cc
 
--- nor are moves and results
-not_either_next : (taken : Bool) (word : List ℕ) → SpellsTurned (codes "either next e4") true taken (Next word) → ⊥
-not_either_next taken word spells = let so : false ≡ true = (either_read (codes "either next e4") taken (Next word) spells).1 in cc
+-- nor is what is on no position
+no_either : (text : List ℕ) (condition : Condition (List ℕ)) (of : ℕ) → HasKind text of
+    → (of ≡ 2 → ⊥) → run_of text ≡ codes "either" → SpellsCondition text condition → ⊥
+no_either text (Position own) of is other run spells =
+    other (one_kind text of 2 is (condition_kind text (Position own) spells))
+no_either text (Game own) of is other run spells =
+    taken_either SpellsGame games_are text own.is_denied own.claim run spells
+no_either text (Move own) of is other run spells =
+    taken_either SpellsMove moves_are text own.is_denied own.claim run spells
+no_either text (Span claim) of is other run spells =
+    taken_either SpellsSpan spans_are text false claim run spells
 
-not_either_played : (taken : Bool) (word : List ℕ) → SpellsTurned (codes "either played e4") true taken (Played word) → ⊥
-not_either_played taken word spells = let so : false ≡ true = (either_read (codes "either played e4") taken (Played word) spells).1 in cc
+abbrev NoEither : List ℕ → Type 0
+NoEither own = (condition : Condition (List ℕ)) → SpellsCondition (codes "either " ++ own) condition
+    → ⊥
 
-not_either_result : (taken : Bool) (result : List ℕ) → SpellsTurned (codes "either result 1-0") true taken (Result result) → ⊥
-not_either_result taken result spells = let so : false ≡ true = (either_read (codes "either result 1-0") taken (Result result) spells).1 in cc
+not_either_next : NoEither (codes "next e4")
+not_either_next condition =
+    no_either (codes "either next e4") condition 3
+    (true, false, codes "next e4", _, (refl, refl), ((λ is. cc), refl), refl) (λ is. cc) refl
 
--- nor are for and count
-not_either_for : (taken : Bool) (count : ℕ) → SpellsTurned (codes "either for 3") true taken (For count) → ⊥
-not_either_for taken count spells = let so : false ≡ true = (either_read (codes "either for 3") taken (For count) spells).1 in cc
+not_either_played : NoEither (codes "played e4")
+not_either_played condition =
+    no_either (codes "either played e4") condition 3
+    (true, false, codes "played e4", _, (refl, refl), ((λ is. cc), refl), refl) (λ is. cc) refl
 
-not_either_count : (taken : Bool) (comparison : Comparison) (count : ℕ) → SpellsTurned (codes "either count = 3") true taken (Count comparison count) → ⊥
-not_either_count taken comparison count spells =
-    let so : false ≡ true = (either_read (codes "either count = 3") taken (Count comparison count) spells).1 in cc
+not_either_result : NoEither (codes "result 1-0")
+not_either_result condition =
+    no_either (codes "either result 1-0") condition 1
+    (true, false, codes "result 1-0", _, (refl, refl), ((λ is. cc), refl), refl) (λ is. cc) refl
+
+for_not : run_of (codes "for 3") ≡ codes "not" → ⊥
+for_not is = let e : total (run_of (codes "for 3")) ≡ 337 = ap total is in omega (arith, e)
+
+count_not : run_of (codes "count = 3") ≡ codes "not" → ⊥
+count_not is = let e : total (run_of (codes "count = 3")) ≡ 337 = ap total is in omega (arith, e)
+
+not_either_for : NoEither (codes "for 3")
+not_either_for condition =
+    no_either (codes "either for 3") condition 4
+    (true, false, codes "for 3", _, (refl, refl), (for_not, refl), refl) (λ is. cc) refl
+
+not_either_count : NoEither (codes "count = 3")
+not_either_count condition =
+    no_either (codes "either count = 3") condition 4
+    (true, false, codes "count = 3", _, (refl, refl), (count_not, refl), refl) (λ is. cc) refl
 
 -- blanks about a line do not count, nor does one carriage return
-ended : IsLine (32 ∷ 9 ∷ 99 ∷ 104 ∷ 101 ∷ 99 ∷ 107 ∷ 32 ∷ 13 ∷ []) (Asks (so Check))
+ended : IsLine (32 ∷ 9 ∷ 99 ∷ 104 ∷ 101 ∷ 99 ∷ 107 ∷ 32 ∷ 13 ∷ []) (Asks (Position (so Check)))
 ended = record {
   before = 32 ∷ 9 ∷ [];
   text = codes "check";
@@ -362,21 +487,39 @@ comment = record {
 }
 
 -- there is one alternative more than there are lines `or`
-no_lines : alternatives_of [] ≡ [] ∷ []
+no_lines : alternatives_of [] ≡ no_conditions ∷ []
 no_lines = refl
 
-two_or : alternatives_of (Or ∷ Or ∷ []) ≡ [] ∷ [] ∷ [] ∷ []
+two_or : alternatives_of (Or ∷ Or ∷ []) ≡ no_conditions ∷ no_conditions ∷ no_conditions ∷ []
 two_or = refl
 
-in_order : alternatives_of (Asks (so Check) ∷ Or ∷ Asks (denied Mate) ∷ Nothing ∷ Asks (so Stalemate) ∷ []) ≡ (so Check ∷ []) ∷ (denied Mate ∷ so Stalemate ∷ []) ∷ []
+-- those on positions alone
+abbrev at_positions : List (PositionCondition (List ℕ)) → Conditions
+at_positions conditions = record { games = []; positions = conditions; moves = []; spans = [] }
+
+in_order :
+    alternatives_of (Asks (Position (so Check)) ∷ Or ∷ Asks (Position (denied Mate)) ∷ Nothing
+    ∷ Asks (Position (so Stalemate)) ∷ [])
+    ≡ at_positions (so Check ∷ []) ∷ at_positions (denied Mate ∷ so Stalemate ∷ []) ∷ []
 in_order = refl
 
 -- a text without bytes has one line, which is empty, and spells one alternative without conditions
-no_bytes : Accepts [] ([] ∷ [])
+no_bytes : Accepts [] (no_conditions ∷ [])
 no_bytes = (omega arith, (Nothing ∷ [], (Nothing, [], refl, empty, refl), refl))
   where
     empty : IsLine [] Nothing
-    empty = record { before = []; text = []; after = []; last = []; whole = refl; blank_before = refl; blank_after = refl; end = inl refl; spells = inl refl }
+    empty = record {
+      before = [];
+      text = [];
+      after = [];
+      last = [];
+      whole = refl;
+      blank_before =
+          refl;
+      blank_after = refl;
+      end = inl refl;
+      spells = inl refl;
+    }
 
 -- a line feed at the end begins a last line, which is empty
 two_lines : parted_at 10 (97 ∷ 10 ∷ []) ≡ (97 ∷ []) ∷ [] ∷ []

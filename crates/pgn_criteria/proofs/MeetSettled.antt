@@ -1,5 +1,6 @@
 -- Whether a position of a sound game meets criteria is settled.
-use Rattle.std.proofs.Common.{◌≡◌, ◌<◌, ℕ, zero, suc, ◌+◌, Bool, true, false, List, [], ◌∷◌, length, Option, Some, None, refl, ap, ◌∙◌, sym, subst, inl, inr, arith}
+use Rattle.std.proofs.Common.{◌≡◌, ◌<◌, ℕ, zero, suc, ◌+◌, Bool, true, false, List, [], ◌∷◌, length}
+use Rattle.std.proofs.Common.{Option, Some, None, refl, ap, ◌∙◌, sym, subst, inl, inr, arith}
 use Rattle.std.specs.Prelude.{codes, if◌then◌else◌}
 use Rattle.std.specs.List.{slice_get}
 use Rattle.chess.specs.Public.Fen.{parted_at}
@@ -9,7 +10,8 @@ use Rattle.chess.specs.Public.Moves.{IsLegal}
 use Rattle.chess.specs.declared.moves.Move.{Move}
 use Rattle.std.proofs.lemmas.Bool.{cases_eq, cases_lt}
 use Rattle.std.proofs.lemmas.Option.{slice_get_within}
-use Rattle.chess.proofs.Settled.{Settled, settled_like, settled_both, settled_either, settled_held, cases_bytes}
+use Rattle.chess.proofs.Settled.{Settled, settled_like, settled_both, settled_either, settled_held}
+use Rattle.chess.proofs.Settled.{cases_bytes}
 use Rattle.chess.proofs.Searches.{cases_side}
 use Rattle.chess.proofs.LegalSettled.{settled_check}
 use Rattle.chess.proofs.MateSettled.{settled_mate, settled_stalemate}
@@ -19,22 +21,38 @@ use Rattle.pgn_game.specs.Public.MainLines.{main_words}
 use Rattle.pgn_game.specs.Public.Replays.{Replay}
 use Rattle.pgn_game.proofs.AnAnswer.{start_on_board}
 use Rattle.pgn_game.proofs.OnBoard.{line_on_board, line_legal}
-use Rattle.pgn_criteria.specs.Public.Meeting.{Heading, HasOneOf, IsSo, Taken, Holds, AllHold, HoldsThere, AreAll, SpanHolds, SpansHold, IsMetBy, SomeHold, Meets, is_turned, EachHold}
+use Rattle.pgn_criteria.specs.Public.Meeting.{Heading, HasOneOf, IsSoOfGame, IsSoOfMoves, IsSoAt}
+use Rattle.pgn_criteria.specs.Public.Meeting.{Taken, AllTaken, AllHold, HoldsThere, AreAll}
+use Rattle.pgn_criteria.specs.Public.Meeting.{SpanHolds, SpansHold, IsMetBy, SomeHold, Meets}
+use Rattle.pgn_criteria.specs.Public.Meeting.{is_turned, EachHold}
 use Rattle.pgn_criteria.specs.Public.Mirrors.{flipped_men, mirror}
-use Rattle.pgn_criteria.specs.Public.MoveTexts.{without_marks, FitsWord, FitsMove, FitMoves, IsLike, GoesOnBy, IsReachedBy}
+use Rattle.pgn_criteria.specs.Public.MoveTexts.{without_marks, FitsWord, FitsMove, FitMoves, IsLike}
+use Rattle.pgn_criteria.specs.Public.MoveTexts.{GoesOnBy, IsReachedBy}
 use Rattle.pgn_criteria.specs.Private.Stages.{AreLegal}
 use Rattle.pgn_criteria.specs.Public.Words.{words_of}
 use Rattle.pgn_criteria.specs.Public.Comparing.{Stands, Compares}
 use Rattle.pgn_criteria.specs.Public.Laws.{EachPositionMeetsOrDoesNot}
-use Rattle.pgn_criteria.specs.declared.condition.Condition.{Condition}
-use Rattle.pgn_criteria.specs.declared.condition.Claim.{Claim}
-use Rattle.pgn_criteria.specs.declared.condition.Claim.TheVariants.{Tag, Fen, Flip, Material, Moves, Plies, Result, Next, Played, For, Count, Turn, Check, Mate, Stalemate}
+use Rattle.pgn_criteria.specs.Public.Conditions.{Conditions}
+use Rattle.pgn_criteria.specs.declared.condition.Stated.{Stated}
+use Rattle.pgn_criteria.specs.declared.condition.GameClaim.{GameClaim}
+use Rattle.pgn_criteria.specs.declared.condition.GameClaim.TheVariants.{Tag, Moves, Plies, Result}
+use Rattle.pgn_criteria.specs.declared.condition.PositionCondition.{PositionCondition}
+use Rattle.pgn_criteria.specs.declared.condition.PositionClaim.{PositionClaim}
+use Rattle.pgn_criteria.specs.declared.condition.PositionClaim.TheVariants.{Fen, Flip, Material}
+use Rattle.pgn_criteria.specs.declared.condition.PositionClaim.TheVariants.{Turn, Check, Mate}
+use Rattle.pgn_criteria.specs.declared.condition.PositionClaim.TheVariants.{Stalemate}
+use Rattle.pgn_criteria.specs.declared.condition.MoveClaim.{MoveClaim}
+use Rattle.pgn_criteria.specs.declared.condition.MoveClaim.TheVariants.{Next, Played}
+use Rattle.pgn_criteria.specs.declared.condition.SpanClaim.{SpanClaim}
+use Rattle.pgn_criteria.specs.declared.condition.SpanClaim.TheVariants.{For, Count}
 use Rattle.pgn_criteria.specs.declared.compare.Relation.{Relation}
 use Rattle.pgn_criteria.proofs.MeetFacts.{meets_at}
-use Rattle.pgn_criteria.proofs.MoveFacts.{by_move, star_now, star_on, star_none, star_cases, byte_now, byte_back, byte_none, by_like}
+use Rattle.pgn_criteria.proofs.MoveFacts.{by_move, star_now, star_on, star_none, star_cases}
+use Rattle.pgn_criteria.proofs.MoveFacts.{byte_now, byte_back, byte_none, by_like}
 use Rattle.pgn_criteria.proofs.MirrorFacts.{mirrored_on}
 use Rattle.pgn_criteria.proofs.MenSettled.{settled_material}
-use Rattle.pgn_criteria.proofs.SpanFacts.{AreFrom, none_from, one_before, none_before, from_first, one_number}
+use Rattle.pgn_criteria.proofs.SpanFacts.{AreFrom, none_from, one_before, none_before, from_first}
+use Rattle.pgn_criteria.proofs.SpanFacts.{one_number}
 use Rattle.pgn_criteria.proofs.SplitSettled.{settled_pattern}
 use Rattle.pgn_criteria.proofs.StandsSettled.{settled_by, settled_compared, settled_stands}
 
@@ -43,33 +61,41 @@ use Rattle.pgn_criteria.proofs.StandsSettled.{settled_by, settled_compared, sett
 settled_tag : (given : Option (List ℕ)) (relation : Relation) (contents : List ℕ)
     → Settled ((own : List ℕ) × (given ≡ Some own) × Stands relation own contents)
 settled_tag given relation contents =
-    settled_held given (λ own. Stands relation own contents) (λ own. settled_stands relation own contents)
+    settled_held given (λ own. Stands relation own contents) (λ own.
+    settled_stands relation own contents)
 
-settled_one_of : (heading : Heading) (relation : Relation) (contents : List ℕ) (names : List (List ℕ)) → Settled (HasOneOf heading relation contents names)
+settled_one_of : (heading : Heading) (relation : Relation) (contents : List ℕ)
+    (names : List (List ℕ)) → Settled (HasOneOf heading relation contents names)
 settled_one_of heading relation contents [] = inr (λ h. h)
 settled_one_of heading relation contents (name ∷ more) =
-    settled_either (settled_tag (heading.named name) relation contents) (settled_one_of heading relation contents more)
+    settled_either (settled_tag (heading.named name) relation contents)
+    (settled_one_of heading relation contents more)
 
 -- ---- moves
 
 -- a legal move has one text, so a word fits it or not
-settled_word : (P : State) (m : Move) (word : List ℕ) → AreOnBoard P.men → IsLegal P m → Settled (FitsWord P m word)
+settled_word : (P : State) (m : Move) (word : List ℕ) → AreOnBoard P.men → IsLegal P m
+    → Settled (FitsWord P m word)
 settled_word P m word on_board legal =
     let text = some_san P m on_board legal in
     settled_either (cases_bytes word (codes "*"))
-    (settled_like (λ same. (text.0, text.1, same)) (λ h. h.2 ∙ ap without_marks (one_san P m h.0 text.0 h.1 text.1))
+    (settled_like (λ same. (text.0, text.1, same)) (λ h. h.2
+    ∙ ap without_marks (one_san P m h.0 text.0 h.1 text.1))
     (cases_bytes word (without_marks text.0)))
 
 -- the men stand on the board in each position of a replay
 abbrev pub AllOnBoard : Replay → Type 0
 AllOnBoard replay = (i : ℕ) (P : State) → slice_get replay.positions i ≡ Some P → AreOnBoard P.men
 
-settled_move : (replay : Replay) (plies : ℕ) (word : List ℕ) → AllOnBoard replay → AreLegal replay → Settled (FitsMove replay plies word)
+settled_move : (replay : Replay) (plies : ℕ) (word : List ℕ) → AllOnBoard replay → AreLegal replay
+    → Settled (FitsMove replay plies word)
 settled_move replay plies word on_board legal =
-    elim (slice_get replay.positions plies) as (λ o. slice_get replay.positions plies ≡ o → Settled (FitsMove replay plies word)) [
+    elim (slice_get replay.positions plies) as (λ o. slice_get replay.positions plies ≡ o
+    → Settled (FitsMove replay plies word)) [
       | None ↦ λ none. inr (λ fits. let here = fits.here in cc)
       | Some P ↦ λ here.
-          elim (slice_get replay.played plies) as (λ o. slice_get replay.played plies ≡ o → Settled (FitsMove replay plies word)) [
+          elim (slice_get replay.played plies) as (λ o. slice_get replay.played plies ≡ o
+          → Settled (FitsMove replay plies word)) [
             | None ↦ λ none. inr (λ fits. let played = fits.played in cc)
             | Some m ↦ λ played.
                 settled_by (λ r reports. by_move replay plies word P m r here played reports)
@@ -77,49 +103,66 @@ settled_move replay plies word on_board legal =
           ] refl
     ] refl
 
-settled_moves : (replay : Replay) (plies : ℕ) (words : List (List ℕ)) → AllOnBoard replay → AreLegal replay → Settled (FitMoves replay plies words)
+settled_moves : (replay : Replay) (plies : ℕ) (words : List (List ℕ)) → AllOnBoard replay
+    → AreLegal replay → Settled (FitMoves replay plies words)
 settled_moves replay plies [] on_board legal = inl tt
 settled_moves replay plies (word ∷ more) on_board legal =
-    settled_both (settled_move replay plies word on_board legal) (settled_moves replay (plies + 1) more on_board legal)
+    settled_both (settled_move replay plies word on_board legal)
+    (settled_moves replay (plies + 1) more on_board legal)
 
 -- a text is like a word or not
-settled_star : (word : List ℕ) → ((text : List ℕ) → Settled (IsLike word text)) → (text : List ℕ) → Settled (IsLike (42 ∷ word) text)
+settled_star : (word : List ℕ) → ((text : List ℕ) → Settled (IsLike word text)) → (text : List ℕ)
+    → Settled (IsLike (42 ∷ word) text)
 settled_star word each [] = settled_like (star_now word []) (star_none word) (each [])
 settled_star word each (b ∷ text) =
-    settled_like (λ either. elim either [ inl now ↦ star_now word (b ∷ text) now | inr on ↦ star_on word b text on ]) (star_cases word b text)
+    settled_like (λ either.
+    elim either [ inl now ↦ star_now word (b ∷ text) now | inr on ↦ star_on word b text on ])
+    (star_cases word b text)
     (settled_either (each (b ∷ text)) (settled_star word each text))
 
-settled_byte : (word : List ℕ) (b : ℕ) → (b ≡ 42 → ⊥) → ((text : List ℕ) → Settled (IsLike word text)) → (text : List ℕ) → Settled (IsLike (b ∷ word) text)
+settled_byte : (word : List ℕ) (b : ℕ) → (b ≡ 42 → ⊥)
+    → ((text : List ℕ) → Settled (IsLike word text)) → (text : List ℕ)
+    → Settled (IsLike (b ∷ word) text)
 settled_byte word b plain each [] = inr (byte_none word b plain)
 settled_byte word b plain each (c ∷ text) =
-    settled_like (λ both. subst (λ n. IsLike (b ∷ word) (n ∷ text)) (sym both.0) (byte_now word b text both.1)) (byte_back word b c text plain)
+    settled_like (λ both.
+    subst (λ n. IsLike (b ∷ word) (n ∷ text)) (sym both.0) (byte_now word b text both.1))
+    (byte_back word b c text plain)
     (settled_both (cases_eq c b) (each text))
 
 settled_alike : (word text : List ℕ) → Settled (IsLike word text)
 settled_alike [] text = cases_bytes text []
 settled_alike (b ∷ word) text = elim (cases_eq b 42) [
-  | inl is ↦ subst (λ n. Settled (IsLike (n ∷ word) text)) (sym is) (settled_star word (settled_alike word) text)
+  | inl is ↦ subst (λ n. Settled (IsLike (n ∷ word) text)) (sym is)
+      (settled_star word (settled_alike word) text)
   | inr plain ↦ settled_byte word b plain (settled_alike word) text
 ]
 
-settled_on : (replay : Replay) (plies : ℕ) (word : List ℕ) → AllOnBoard replay → AreLegal replay → Settled (GoesOnBy replay plies word)
+settled_on : (replay : Replay) (plies : ℕ) (word : List ℕ) → AllOnBoard replay → AreLegal replay
+    → Settled (GoesOnBy replay plies word)
 settled_on replay plies word on_board legal =
-    elim (slice_get replay.positions plies) as (λ o. slice_get replay.positions plies ≡ o → Settled (GoesOnBy replay plies word)) [
+    elim (slice_get replay.positions plies) as (λ o. slice_get replay.positions plies ≡ o
+    → Settled (GoesOnBy replay plies word)) [
       | None ↦ λ none. inr (λ goes. let here = goes.here in cc)
       | Some P ↦ λ here.
-          elim (slice_get replay.played plies) as (λ o. slice_get replay.played plies ≡ o → Settled (GoesOnBy replay plies word)) [
+          elim (slice_get replay.played plies) as (λ o. slice_get replay.played plies ≡ o
+          → Settled (GoesOnBy replay plies word)) [
             | None ↦ λ none. inr (λ goes. let played = goes.played in cc)
             | Some m ↦ λ played.
                 let text = some_san P m (on_board plies P here) (legal plies P m here played) in
-                settled_by (λ r reports. by_like replay plies word text.0 P m r one_san here played text.1 reports) (settled_alike word (without_marks text.0))
+                settled_by (λ r reports.
+                by_like replay plies word text.0 P m r one_san here played text.1 reports)
+                (settled_alike word (without_marks text.0))
           ] refl
     ] refl
 
-settled_reached : (replay : Replay) (plies : ℕ) (word : List ℕ) → AllOnBoard replay → AreLegal replay → Settled (IsReachedBy replay plies word)
+settled_reached : (replay : Replay) (plies : ℕ) (word : List ℕ) → AllOnBoard replay
+    → AreLegal replay → Settled (IsReachedBy replay plies word)
 settled_reached replay zero word on_board legal = inr (λ h. let none = h.1 in omega (arith, none))
 settled_reached replay (suc plies) word on_board legal =
     settled_like (λ goes. (plies, (omega arith), goes))
-    (λ h. let same : h.0 ≡ plies = (let is = h.1 in omega (arith, is)) in subst (λ n. GoesOnBy replay n word) same h.2)
+    (λ h. let same : h.0 ≡ plies = (let is = h.1 in omega (arith, is)) in
+    subst (λ n. GoesOnBy replay n word) same h.2)
     (settled_on replay plies word on_board legal)
 
 -- ---- conditions, alternatives, criteria
@@ -129,60 +172,86 @@ settled_taken false settled = settled
 settled_taken true (inl a) = inr (λ none. none a)
 settled_taken true (inr none) = inl none
 
-settled_claim : (heading : Heading) (replay : Replay) (ply : ℕ) (P : State) (claim : Claim (List ℕ)) → AllOnBoard replay → AreLegal replay
-    → AreOnBoard P.men → Settled (IsSo heading replay ply P claim)
-settled_claim heading replay ply P (Tag name relation contents) all legal on_board = settled_one_of heading relation contents (parted_at 124 name)
-settled_claim heading replay ply P (Fen pattern) all legal on_board = settled_pattern P.men pattern
-settled_claim heading replay ply P (Flip pattern) all legal on_board = settled_either (settled_pattern P.men pattern) (settled_pattern (flipped_men P.men) pattern)
-settled_claim heading replay ply P (Material white black) all legal on_board = settled_material P.men white black
-settled_claim heading replay ply P (Moves words) all legal on_board = settled_moves replay 0 (words_of words) all legal
-settled_claim heading replay ply P (Plies comparison count) all legal on_board = settled_compared comparison (length replay.played) count
-settled_claim heading replay ply P (Result result) all legal on_board = cases_bytes heading.result result
-settled_claim heading replay ply P (Next word) all legal on_board = settled_on replay ply word all legal
-settled_claim heading replay ply P (Played word) all legal on_board = settled_reached replay ply word all legal
-settled_claim heading replay ply P (For count) all legal on_board = inl tt
-settled_claim heading replay ply P (Count comparison count) all legal on_board = inl tt
-settled_claim heading replay ply P (Turn side) all legal on_board = cases_side P.turn side
-settled_claim heading replay ply P Check all legal on_board = settled_check P.men P.turn on_board
-settled_claim heading replay ply P Mate all legal on_board = settled_mate P on_board
-settled_claim heading replay ply P Stalemate all legal on_board = settled_stalemate P on_board
+settled_game : (heading : Heading) (replay : Replay) (claim : GameClaim (List ℕ))
+    → AllOnBoard replay → AreLegal replay → Settled (IsSoOfGame heading replay claim)
+settled_game heading replay (Tag names relation contents) on_board legal =
+    settled_one_of heading relation contents (parted_at 124 names)
+settled_game heading replay (Moves words) on_board legal =
+    settled_moves replay 0 (words_of words) on_board legal
+settled_game heading replay (Plies comparison count) on_board legal =
+    settled_compared comparison (length replay.played) count
+settled_game heading replay (Result result) on_board legal = cases_bytes heading.result result
 
-settled_condition : (heading : Heading) (replay : Replay) (ply : ℕ) (P : State) (condition : Condition (List ℕ)) → AllOnBoard replay → AreLegal replay
-    → AreOnBoard P.men → Settled (Holds heading replay ply P condition)
-settled_condition heading replay ply P condition all legal on_board =
-    settled_taken condition.is_denied (settled_claim heading replay ply P condition.claim all legal on_board)
+settled_ply : (replay : Replay) (ply : ℕ) (claim : MoveClaim (List ℕ))
+    → AllOnBoard replay → AreLegal replay → Settled (IsSoOfMoves replay ply claim)
+settled_ply replay ply (Next word) on_board legal = settled_on replay ply word on_board legal
+settled_ply replay ply (Played word) on_board legal =
+    settled_reached replay ply word on_board legal
 
-tried_on_board : (P other : State) (turned : Bool) → AreOnBoard P.men → AreOnBoard other.men → AreOnBoard (if turned then other else P).men
+settled_position : (P : State) (claim : PositionClaim (List ℕ)) → AreOnBoard P.men
+    → Settled (IsSoAt P claim)
+settled_position P (Fen pattern) on_board = settled_pattern P.men pattern
+settled_position P (Flip pattern) on_board =
+    settled_either (settled_pattern P.men pattern) (settled_pattern (flipped_men P.men) pattern)
+settled_position P (Material white black) on_board = settled_material P.men white black
+settled_position P (Turn side) on_board = cases_side P.turn side
+settled_position P Check on_board = settled_check P.men P.turn on_board
+settled_position P Mate on_board = settled_mate P on_board
+settled_position P Stalemate on_board = settled_stalemate P on_board
+
+settled_taken_all : {C : Type 0} (So : C → Type 0) (settled : (claim : C) → Settled (So claim))
+    (conditions : List (Stated C)) → Settled (AllTaken So conditions)
+settled_taken_all So settled [] = inl tt
+settled_taken_all So settled (one ∷ more) =
+    settled_both (settled_taken one.is_denied (settled one.claim))
+    (settled_taken_all So settled more)
+
+tried_on_board : (P other : State) (turned : Bool) → AreOnBoard P.men → AreOnBoard other.men
+    → AreOnBoard (if turned then other else P).men
 tried_on_board P other true on_board other_on = other_on
 tried_on_board P other false on_board other_on = on_board
 
-settled_each : (heading : Heading) (replay : Replay) (ply : ℕ) (P other : State) (conditions : List (Condition (List ℕ))) → AllOnBoard replay → AreLegal replay
-    → AreOnBoard P.men → AreOnBoard other.men → Settled (EachHold heading replay ply P other conditions)
-settled_each heading replay ply P other [] all legal on_board other_on = inl tt
-settled_each heading replay ply P other (condition ∷ more) all legal on_board other_on =
+settled_each : (P other : State) (conditions : List (PositionCondition (List ℕ)))
+    → AreOnBoard P.men → AreOnBoard other.men → Settled (EachHold P other conditions)
+settled_each P other [] on_board other_on = inl tt
+settled_each P other (condition ∷ more) on_board other_on =
+    let turned = is_turned condition in
     settled_both
-    (settled_condition heading replay ply (if is_turned condition then other else P) condition all legal (tried_on_board P other (is_turned condition) on_board other_on))
-    (settled_each heading replay ply P other more all legal on_board other_on)
+    (settled_taken condition.is_denied
+    (settled_position (if turned then other else P) condition.claim
+    (tried_on_board P other turned on_board other_on)))
+    (settled_each P other more on_board other_on)
 
-settled_all : (heading : Heading) (replay : Replay) (ply : ℕ) (P : State) (conditions : List (Condition (List ℕ))) → AllOnBoard replay → AreLegal replay
-    → AreOnBoard P.men → Settled (AllHold heading replay ply P conditions)
-settled_all heading replay ply P conditions all legal on_board =
-    settled_either (settled_each heading replay ply P P conditions all legal on_board on_board)
-    (settled_each heading replay ply P (mirror P) conditions all legal on_board (mirrored_on P.men))
+settled_all : (heading : Heading) (replay : Replay) (ply : ℕ) (P : State) (asked : Conditions)
+    → AllOnBoard replay → AreLegal replay → AreOnBoard P.men
+    → Settled (AllHold heading replay ply P asked)
+settled_all heading replay ply P asked all legal on_board =
+    let games = settled_taken_all (IsSoOfGame heading replay)
+    (λ claim. settled_game heading replay claim all legal) asked.games in
+    let moves = settled_taken_all (IsSoOfMoves replay ply)
+    (λ claim. settled_ply replay ply claim all legal) asked.moves in
+    let positions = settled_either (settled_each P P asked.positions on_board on_board)
+    (settled_each P (mirror P) asked.positions on_board (mirrored_on P.men)) in
+    settled_like (λ (own, rest). (own, rest.0, rest.1)) (λ hold. (hold.0, (hold.1, hold.2)))
+    (settled_both games (settled_both moves positions))
 
 -- the plies at which they hold
-settled_there : (heading : Heading) (replay : Replay) (conditions : List (Condition (List ℕ))) → AllOnBoard replay → AreLegal replay
+settled_there : (heading : Heading) (replay : Replay) (conditions : Conditions) → AllOnBoard replay
+    → AreLegal replay
     → (ply : ℕ) → Settled (HoldsThere heading replay conditions ply)
 settled_there heading replay conditions all legal ply =
-    elim (slice_get replay.positions ply) as (λ o. slice_get replay.positions ply ≡ o → Settled (HoldsThere heading replay conditions ply)) [
+    elim (slice_get replay.positions ply) as (λ o. slice_get replay.positions ply ≡ o
+    → Settled (HoldsThere heading replay conditions ply)) [
       | None ↦ λ none. inr (λ there. let here = there.1 in cc)
       | Some P ↦ λ here.
           settled_like (λ hold. (P, here, hold))
-          (λ there. let same : there.0 ≡ P = cc (there.1, here) in subst (λ p. AllHold heading replay ply p conditions) same there.2)
+          (λ there. let same : there.0 ≡ P = cc (there.1, here) in
+          subst (λ p. AllHold heading replay ply p conditions) same there.2)
           (settled_all heading replay ply P conditions all legal (all ply P here))
     ] refl
 
-module _ (Such : ℕ → Type 0) (size : ℕ) (settled : (ply : ℕ) → Settled (Such ply)) (within : (ply : ℕ) → Such ply → ply < size) where
+module _ (Such : ℕ → Type 0) (size : ℕ) (settled : (ply : ℕ)
+    → Settled (Such ply)) (within : (ply : ℕ) → Such ply → ply < size) where
   counted_down : (least many : ℕ) → AreFrom Such least many → (all : ℕ) × AreFrom Such 0 all
   counted_down zero many from = (many, from)
   counted_down (suc least) many from =
@@ -207,41 +276,50 @@ module _ (Such : ℕ → Type 0) (size : ℕ) (settled : (ply : ℕ) → Settled
       | inr none ↦ inr (λ all. none (all count (omega arith)))
       | inl such ↦ inl (λ i less. elim (cases_lt i count) [
         | inl sooner ↦ before i sooner
-        | inr up ↦ let same : count ≡ i = omega (arith, up, less) in subst (λ n. Such (ply + n)) same such
+        | inr up ↦ let same : count ≡ i = omega (arith, up, less) in
+            subst (λ n. Such (ply + n)) same such
       ])
     ]
   ]
 
-  settled_span : (ply : ℕ) (claim : Claim (List ℕ)) → Settled (SpanHolds Such ply claim)
+  settled_span : (ply : ℕ) (claim : SpanClaim) → Settled (SpanHolds Such ply claim)
   settled_span ply (For count) = settled_run ply count
   settled_span ply (Count comparison count) =
       settled_like (λ compares. (all_listed.0, all_listed.1, compares))
-      (λ holds. subst (λ n. Compares comparison n count) (one_number Such holds.0 all_listed.0 holds.1 all_listed.1) holds.2)
+      (λ holds.
+      subst (λ n. Compares comparison n count)
+      (one_number Such holds.0 all_listed.0 holds.1 all_listed.1) holds.2)
       (settled_compared comparison (length all_listed.0) count)
-  settled_span ply claim = inl tt
 
-  settled_spans : (ply : ℕ) (conditions : List (Condition (List ℕ))) → Settled (SpansHold Such ply conditions)
+  settled_spans : (ply : ℕ) (claims : List SpanClaim) → Settled (SpansHold Such ply claims)
   settled_spans ply [] = inl tt
-  settled_spans ply (condition ∷ more) = settled_both (settled_span ply condition.claim) (settled_spans ply more)
+  settled_spans ply (claim ∷ more) = settled_both (settled_span ply claim) (settled_spans ply more)
 
-settled_met : (heading : Heading) (replay : Replay) (ply : ℕ) (P : State) (alternative : List (Condition (List ℕ))) → AllOnBoard replay → AreLegal replay
+settled_met : (heading : Heading) (replay : Replay) (ply : ℕ) (P : State) (alternative : Conditions)
+    → AllOnBoard replay → AreLegal replay
     → AreOnBoard P.men → Settled (IsMetBy heading replay ply P alternative)
 settled_met heading replay ply P alternative all legal on_board =
     settled_both (settled_all heading replay ply P alternative all legal on_board)
-    (settled_spans (HoldsThere heading replay alternative) (length replay.positions) (settled_there heading replay alternative all legal)
-    (λ at there. slice_get_within replay.positions at there.0 there.1) ply alternative)
+    (settled_spans (HoldsThere heading replay alternative) (length replay.positions)
+    (settled_there heading replay alternative all legal)
+    (λ at there. slice_get_within replay.positions at there.0 there.1) ply alternative.spans)
 
-settled_some : (heading : Heading) (replay : Replay) (ply : ℕ) (P : State) (alternatives : List (List (Condition (List ℕ)))) → AllOnBoard replay
+settled_some : (heading : Heading) (replay : Replay) (ply : ℕ) (P : State)
+    (alternatives : List Conditions) → AllOnBoard replay
     → AreLegal replay → AreOnBoard P.men → Settled (SomeHold heading replay ply P alternatives)
 settled_some heading replay ply P [] all legal on_board = inr (λ h. h)
 settled_some heading replay ply P (alternative ∷ more) all legal on_board =
-    settled_either (settled_met heading replay ply P alternative all legal on_board) (settled_some heading replay ply P more all legal on_board)
+    settled_either (settled_met heading replay ply P alternative all legal on_board)
+    (settled_some heading replay ply P more all legal on_board)
 
 pub each_position_meets : EachPositionMeetsOrDoesNot
 each_position_meets lines fen items replay is heading alternatives plies =
-    let all = line_on_board (main_words items 0) is.start replay.positions replay.played (start_on_board fen is.start is.is_start) is.line in
+    let all =
+    line_on_board (main_words items 0) is.start replay.positions replay.played
+    (start_on_board fen is.start is.is_start) is.line in
     let legal = line_legal (main_words items 0) is.start replay.positions replay.played is.line in
-    elim (slice_get replay.positions plies) as (λ o. slice_get replay.positions plies ≡ o → Settled (Meets heading replay plies alternatives)) [
+    elim (slice_get replay.positions plies) as (λ o. slice_get replay.positions plies ≡ o
+    → Settled (Meets heading replay plies alternatives)) [
       | None ↦ λ none. inr (λ met. let here = met.here in cc)
       | Some P ↦ λ here.
           settled_by (λ r reports. meets_at heading replay plies alternatives P r here reports)

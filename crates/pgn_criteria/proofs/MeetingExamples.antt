@@ -1,5 +1,6 @@
 -- Worked rows of lines, values, marks and men of criteria; and what these definitions refuse.
-use Rattle.std.proofs.Common.{◌≡◌, ◌+◌, ◌∙◌, ℕ, zero, suc, true, false, List, [], ◌∷◌, codes, None, Some, inl, inr, refl, sym, subst, arith}
+use Rattle.std.proofs.Common.{◌≡◌, ◌+◌, ◌∙◌, ℕ, zero, suc, true, false, List, [], ◌∷◌, codes, None}
+use Rattle.std.proofs.Common.{Some, inl, inr, refl, sym, subst, arith}
 use Rattle.std.specs.List.{filter, slice_get}
 use Rattle.std.specs.declared.cmp.Ordering.TheVariants as order
 use Rattle.chess.specs.Public.Fen.{row}
@@ -11,14 +12,23 @@ use Rattle.chess.specs.declared.board.man.Side.TheVariants.{White, Black}
 use Rattle.pgn_game.specs.Public.Replays.{Replay}
 use Rattle.pgn_criteria.specs.Public.ByMarks.{first_place, place_of_marks}
 use Rattle.pgn_criteria.specs.Public.Comparing.{is_number, order_by}
-use Rattle.pgn_criteria.specs.Public.Lines.{AreBlanks, side_text, comparison_text, is_move_byte, Spells, onto_first}
-use Rattle.pgn_criteria.specs.Public.Materials.{Allows, FitsSide, FitsMaterial, count_of, limit_of, squares_to}
-use Rattle.pgn_criteria.specs.Public.Meeting.{Heading, Holds, IsSo, Taken}
+use Rattle.pgn_criteria.specs.Public.Lines.{AreBlanks, side_text, comparison_text, is_move_byte}
+use Rattle.pgn_criteria.specs.Public.Lines.{Spells, onto_first}
+use Rattle.pgn_criteria.specs.Public.Materials.{Allows, FitsSide, FitsMaterial, count_of, limit_of}
+use Rattle.pgn_criteria.specs.Public.Materials.{squares_to}
+use Rattle.pgn_criteria.specs.Public.Meeting.{Holds, IsSoAt, Taken}
 use Rattle.pgn_criteria.specs.Public.Mirrors.{FitsEitherWay, flipped_men, other_man}
 use Rattle.pgn_criteria.specs.Public.MoveTexts.{FitsMove}
 use Rattle.pgn_criteria.specs.Public.Patterns.{AreRanks, FitRanks, FitsPattern, IsPattern}
 use Rattle.pgn_criteria.specs.declared.compare.Comparison.TheVariants as compared
+use Rattle.pgn_criteria.specs.Public.Conditions.{no_conditions, with_condition}
 use Rattle.pgn_criteria.specs.declared.condition.Condition.{Condition}
+use Rattle.pgn_criteria.specs.declared.condition.Condition.TheVariants.{Game, Position, Move, Span}
+use Rattle.pgn_criteria.specs.declared.condition.Stated.{Stated}
+use Rattle.pgn_criteria.specs.declared.condition.GameClaim.{GameClaim}
+use Rattle.pgn_criteria.specs.declared.condition.PositionCondition.{PositionCondition}
+use Rattle.pgn_criteria.specs.declared.condition.MoveClaim.{MoveClaim}
+use Rattle.pgn_criteria.specs.declared.condition.SpanClaim.{SpanClaim}
 use Rattle.pgn_criteria.specs.declared.line.Meaning.TheVariants.{Nothing, Or}
 use Rattle.pgn_criteria.specs.declared.material.Limits.{Limits}
 
@@ -54,13 +64,23 @@ no_word_is_nothing spells = elim spells [ inl none ↦ cc | inr comment ↦ let 
 no_or_of_nothing : Spells [] Or → ⊥
 no_or_of_nothing spells = cc
 
-condition_begins : (condition : Condition (List ℕ)) → onto_first condition [] ≡ (condition ∷ [])
-    ∷ []
+condition_begins : (condition : Condition (List ℕ))
+    → onto_first condition [] ≡ with_condition condition no_conditions ∷ []
 condition_begins condition = refl
 
-condition_comes_first : (first second : Condition (List ℕ))
-    → onto_first first ((second ∷ []) ∷ [] ∷ []) ≡ (first ∷ second ∷ []) ∷ [] ∷ []
+condition_comes_first : (first second : PositionCondition (List ℕ))
+    → onto_first (Position first)
+    (with_condition (Position second) no_conditions ∷ no_conditions ∷ [])
+    ≡ record { games = []; positions = first ∷ second ∷ []; moves = []; spans = [] }
+    ∷ no_conditions ∷ []
 condition_comes_first first second = refl
+
+each_kind_apart : (game : Stated (GameClaim (List ℕ))) (own : PositionCondition (List ℕ))
+    (move : Stated (MoveClaim (List ℕ))) (span : SpanClaim)
+    → with_condition (Span span) (with_condition (Move move)
+    (with_condition (Position own) (with_condition (Game game) no_conditions)))
+    ≡ record { games = game ∷ []; positions = own ∷ []; moves = move ∷ []; spans = span ∷ [] }
+each_kind_apart game own move span = refl
 
 -- Values.
 
@@ -136,8 +156,7 @@ no_move_after_the_last replay plies word none fits = let both : Some fits.move
 no_fact_is_denied : (fact : Type 0) → fact → Taken true fact → ⊥
 no_fact_is_denied fact so denied = denied so
 
-no_claim_is_left_out : (heading : Heading) (replay : Replay) (ply : ℕ) (P : State)
-    (condition : Condition (List ℕ)) → condition.is_denied ≡ false
-    → (IsSo heading replay ply P condition.claim → ⊥) → Holds heading replay ply P condition → ⊥
-no_claim_is_left_out heading replay ply P condition own wrong holds =
-    wrong (subst (λ denied. Taken denied (IsSo heading replay ply P condition.claim)) own holds)
+no_claim_is_left_out : (P : State) (condition : PositionCondition (List ℕ))
+    → condition.is_denied ≡ false → (IsSoAt P condition.claim → ⊥) → Holds P condition → ⊥
+no_claim_is_left_out P condition own wrong holds =
+    wrong (subst (λ denied. Taken denied (IsSoAt P condition.claim)) own holds)

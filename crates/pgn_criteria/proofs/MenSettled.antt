@@ -9,7 +9,8 @@ use Rattle.chess.proofs.Settled.{Settled, settled_not, settled_both, settled_le}
 use Rattle.chess.proofs.Searches.{search_kind}
 use Rattle.pgn_criteria.specs.Public.Materials.{Allows, count_of, limit_of, FitsSide, FitsMaterial}
 use Rattle.pgn_criteria.specs.declared.material.Limit.{Limit}
-use Rattle.pgn_criteria.specs.declared.material.Limit.TheVariants.{Exactly, AtLeast, AtMost, AnyNumber}
+use Rattle.pgn_criteria.specs.declared.material.Limit.TheVariants.{Exactly, AtLeast, AtMost}
+use Rattle.pgn_criteria.specs.declared.material.Limit.TheVariants.{AnyNumber}
 use Rattle.pgn_criteria.specs.declared.material.Limits.{Limits}
 
 settled_limit : (limit : Limit) (count : ℕ) → Settled (Allows limit count)
@@ -19,16 +20,23 @@ settled_limit (AtMost n) count = settled_le count n
 settled_limit AnyNumber count = inl tt
 
 abbrev IsFit : Placement → Side → Limits → Kind → Type 0
-IsFit men side limits kind = Allows (limit_of limits kind) (count_of men (record { side = side; kind = kind }))
+IsFit men side limits kind =
+    Allows (limit_of limits kind) (count_of men (record { side = side; kind = kind }))
 
-settled_side : (men : Placement) (side : Side) (limits : Limits) → Settled (FitsSide men side limits)
-settled_side men side limits = elim (search_kind (λ kind. IsFit men side limits kind → ⊥) (λ kind. settled_not (fit kind))) [
-  | inl found ↦ inr (λ all. found.1 (all found.0))
-  | inr none ↦ inl (λ kind. elim (fit kind) [ inl is ↦ is | inr other ↦ absurd (none (kind, other)) ])
-]
+settled_side : (men : Placement) (side : Side) (limits : Limits)
+    → Settled (FitsSide men side limits)
+settled_side men side limits =
+    elim (search_kind (λ kind. IsFit men side limits kind → ⊥) (λ kind. settled_not (fit kind))) [
+      | inl found ↦ inr (λ all. found.1 (all found.0))
+      | inr none ↦ inl (λ kind.
+          elim (fit kind) [ inl is ↦ is | inr other ↦ absurd (none (kind, other)) ])
+    ]
   where
     fit : (kind : Kind) → Settled (IsFit men side limits kind)
-    fit kind = settled_limit (limit_of limits kind) (count_of men (record { side = side; kind = kind }))
+    fit kind =
+        settled_limit (limit_of limits kind) (count_of men (record { side = side; kind = kind }))
 
-pub settled_material : (men : Placement) (white black : Limits) → Settled (FitsMaterial men white black)
-settled_material men white black = settled_both (settled_side men White white) (settled_side men Black black)
+pub settled_material : (men : Placement) (white black : Limits)
+    → Settled (FitsMaterial men white black)
+settled_material men white black =
+    settled_both (settled_side men White white) (settled_side men Black black)

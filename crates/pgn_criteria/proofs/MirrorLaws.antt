@@ -1,17 +1,19 @@
--- The mirror of the mirror is the position itself, and alternatives of conditions with `either` hold of both.
-use Rattle.std.proofs.Common.{◌≡◌, ℕ, Bool, true, false, List, [], ◌∷◌, Option, Some, None, refl, sym, ap, ◌∙◌, subst, inl, inr}
+-- The mirror of the mirror is the position itself, and alternatives of conditions with `either`
+-- hold of both.
+use Rattle.std.proofs.Common.{◌≡◌, ◌↔◌, ℕ, Bool, true, false, List, [], ◌∷◌, Option, Some, None}
+use Rattle.std.proofs.Common.{refl, sym, ap, ◌∙◌, subst, inl, inr}
 use Rattle.std.specs.Prelude.{if◌then◌else◌, option_map}
 use Rattle.chess.specs.Public.Squares.{Place, IsOnBoard}
 use Rattle.chess.specs.Public.Positions.{State}
 use Rattle.chess.proofs.PlaceFacts.{opposite-opposite}
-use Rattle.pgn_game.specs.Public.Replays.{Replay}
-use Rattle.pgn_criteria.specs.Public.Laws.{MirrorIsUndone, AreTurned, SidesAreAlike}
-use Rattle.pgn_criteria.specs.Public.Meeting.{Heading, Holds, EachHold, is_turned}
+use Rattle.pgn_criteria.specs.Public.Laws.{MirrorIsUndone, StandsOnBoard, AreTurned, SidesAreAlike}
+use Rattle.pgn_criteria.specs.Public.Meeting.{Holds, EachHold, PositionsHold, is_turned}
 use Rattle.pgn_criteria.specs.Public.Mirrors.{across, mirror}
-use Rattle.pgn_criteria.specs.declared.condition.Condition.{Condition}
+use Rattle.pgn_criteria.specs.declared.condition.PositionCondition.{PositionCondition}
 use Rattle.pgn_criteria.proofs.MirrorFacts.{mirrored_twice, across_twice}
 
-passed_twice : (square : Option Place) → ((s : Place) → square ≡ Some s → IsOnBoard s) → option_map across (option_map across square) ≡ square
+passed_twice : (square : Option Place) → ((s : Place) → square ≡ Some s → IsOnBoard s)
+    → option_map across (option_map across square) ≡ square
 passed_twice None on = refl
 passed_twice (Some s) on = ap Some (across_twice s (on s refl))
 
@@ -34,25 +36,36 @@ tried_there : (P Q : State) (turned : Bool) → turned ≡ true → (if turned t
 tried_there P Q true e = refl
 tried_there P Q false e = absurd (cc)
 
-each_there : (heading : Heading) (replay : Replay) (ply : ℕ) (P R Q : State) (conditions : List (Condition (List ℕ))) → AreTurned conditions
-    → EachHold heading replay ply P Q conditions → EachHold heading replay ply R Q conditions
-each_there heading replay ply P R Q [] turned each = tt
-each_there heading replay ply P R Q (condition ∷ more) turned each =
+each_there : (P R Q : State) (conditions : List (PositionCondition (List ℕ)))
+    → AreTurned conditions → EachHold P Q conditions → EachHold R Q conditions
+each_there P R Q [] turned each = tt
+each_there P R Q (condition ∷ more) turned each =
     let here = tried_there P Q (is_turned condition) turned.0 in
     let there = tried_there R Q (is_turned condition) turned.0 in (
-      subst (λ p. Holds heading replay ply p condition) (here ∙ sym there) each.0,
-      each_there heading replay ply P R Q more turned.1 each.1,
+      subst (λ p. Holds p condition) (here ∙ sym there) each.0,
+      each_there P R Q more turned.1 each.1,
+    )
+
+positions_alike : (P : State) (conditions : List (PositionCondition (List ℕ))) → StandsOnBoard P
+    → AreTurned conditions → PositionsHold P conditions ↔ PositionsHold (mirror P) conditions
+positions_alike P conditions on turned =
+    let back : mirror (mirror P) ≡ P = mirror_undone P on in
+    let there = λ (p q r : State). each_there p q r conditions turned in (
+      λ hold. elim hold [
+        | inl plain ↦ inr
+            (subst (λ Q. EachHold (mirror P) Q conditions) (sym back) (there P (mirror P) P plain))
+        | inr turns ↦ inl (there P (mirror P) (mirror P) turns)
+      ],
+      λ hold. elim hold [
+        | inl plain ↦ inr (there (mirror P) P (mirror P) plain)
+        | inr turns ↦ inl
+            (there (mirror P) P P (subst (λ Q. EachHold (mirror P) Q conditions) back turns))
+      ],
     )
 
 pub sides_alike : SidesAreAlike
-sides_alike heading replay ply P conditions on turned =
-    let back : mirror (mirror P) ≡ P = mirror_undone P on in (
-      λ hold. elim hold [
-        | inl plain ↦ inr (subst (λ Q. EachHold heading replay ply (mirror P) Q conditions) (sym back) (each_there heading replay ply P (mirror P) P conditions turned plain))
-        | inr turns ↦ inl (each_there heading replay ply P (mirror P) (mirror P) conditions turned turns)
-      ],
-      λ hold. elim hold [
-        | inl plain ↦ inr (each_there heading replay ply (mirror P) P (mirror P) conditions turned plain)
-        | inr turns ↦ inl (each_there heading replay ply (mirror P) P P conditions turned (subst (λ Q. EachHold heading replay ply (mirror P) Q conditions) back turns))
-      ],
+sides_alike heading replay ply P asked on turned =
+    let alike = positions_alike P asked.positions on turned in (
+      (λ (games, moves, hold). (games, moves, alike.0 hold)),
+      (λ (games, moves, hold). (games, moves, alike.1 hold)),
     )

@@ -1,49 +1,50 @@
 -- What conditions say of one position, by what is seen of it.
-use Rattle.std.proofs.Common.{◌≡◌, ◌↔◌, if◌then◌else◌, ℕ, Bool, true, false, List, [], ◌∷◌, refl, sym, ◌∙◌, inl, inr}
+use Rattle.std.proofs.Common.{◌≡◌, ◌↔◌, if◌then◌else◌, ℕ, Bool, true, false, List, [], ◌∷◌, refl}
+use Rattle.std.proofs.Common.{sym, ◌∙◌, inl, inr}
 use Rattle.std.proofs.lemmas.Bool.{and_parts}
 use Rattle.chess.specs.Public.Moves.{HasMove}
 use Rattle.chess.specs.Public.Placements.{Placement, opposite}
 use Rattle.chess.specs.Public.Positions.{State, IsCheck}
 use Rattle.chess.specs.declared.board.man.Side.{Side}
-use Rattle.pgn_criteria.specs.Public.Meeting.{is_turned}
+use Rattle.chess.specs.declared.board.man.Side.TheVariants.{White}
+use Rattle.pgn_criteria.specs.Public.Meeting.{is_turned, Holds, EachHold, PositionsHold}
 use Rattle.pgn_criteria.specs.Public.Mirrors.{mirrored_men, mirror, can_be_mirrored}
-use Rattle.pgn_criteria.specs.Private.Stages.{SaysOfSeen, OfSeen, AllSaid, EachOfSeen, AllOfSeen, OfPosition, EachOfPosition, AllOfPosition, SaysOfPattern, AllOfStage, AllOfPatterns, AllOfRest, ArePatterns, stage_of}
+use Rattle.pgn_criteria.specs.Private.Stages.{SaysOfSeen, OfSeen, AllSaid, EachOfSeen, AllOfSeen}
+use Rattle.pgn_criteria.specs.Private.Stages.{AllOfStage, AllOfPatterns, AllOfRest, ArePatterns}
+use Rattle.pgn_criteria.specs.Private.Stages.{stage_of}
 use Rattle.pgn_criteria.specs.declared.meets.Stage.{Stage}
-use Rattle.pgn_criteria.specs.declared.meets.Stage.TheVariants.{Game, Squares, Men, Attacks, Replies}
-use Rattle.pgn_criteria.specs.declared.condition.Condition.{Condition}
-use Rattle.pgn_criteria.specs.declared.condition.Claim.{Claim}
-use Rattle.pgn_criteria.specs.declared.condition.Claim.TheVariants.{Tag, Fen, Flip, Material, Moves, Plies, Result, Next, Played, For, Count, Turn, Check, Mate, Stalemate}
-use Rattle.pgn_criteria.proofs.OpeningFacts.{same_taken}
+use Rattle.pgn_criteria.specs.declared.meets.Stage.TheVariants.{Squares, Men, Attacks, Replies}
+use Rattle.pgn_criteria.specs.declared.condition.PositionCondition.{PositionCondition}
+use Rattle.pgn_criteria.specs.declared.condition.PositionClaim.{PositionClaim}
+use Rattle.pgn_criteria.specs.declared.condition.PositionClaim.TheVariants.{Fen, Flip, Material}
+use Rattle.pgn_criteria.specs.declared.condition.PositionClaim.TheVariants.{Turn, Check, Mate}
+use Rattle.pgn_criteria.specs.declared.condition.PositionClaim.TheVariants.{Stalemate}
+use Rattle.pgn_criteria.proofs.TakenFacts.{same_taken}
 
 -- ---- stages
 
 module _ (men : Placement) (turn : Side) (Checked Stuck : Type 0) where
-  abbrev Says : Bool → Claim (List ℕ) → Type 0
+  abbrev Says : Bool → PositionClaim (List ℕ) → Type 0
   Says denied claim = SaysOfSeen men turn Checked Stuck denied claim
 
-  abbrev SayAll : Stage → List (Condition (List ℕ)) → Type 0
+  abbrev SayAll : Stage → List (PositionCondition (List ℕ)) → Type 0
   SayAll stage conditions = AllOfStage stage men turn Checked Stuck conditions
 
   -- each condition on the position is tried at some stage
-  one_stage : (denied : Bool) (claim : Claim (List ℕ)) → (stage_of claim ≡ Squares → Says denied claim) → (stage_of claim ≡ Men → Says denied claim)
-      → (stage_of claim ≡ Attacks → Says denied claim) → (stage_of claim ≡ Replies → Says denied claim) → Says denied claim
-  one_stage denied (Tag name relation contents) squares counts attacks replies = tt
+  one_stage : (denied : Bool) (claim : PositionClaim (List ℕ))
+      → (stage_of claim ≡ Squares → Says denied claim) → (stage_of claim ≡ Men → Says denied claim)
+      → (stage_of claim ≡ Attacks → Says denied claim)
+      → (stage_of claim ≡ Replies → Says denied claim) → Says denied claim
   one_stage denied (Fen pattern) squares counts attacks replies = squares refl
   one_stage denied (Flip pattern) squares counts attacks replies = squares refl
   one_stage denied (Material white black) squares counts attacks replies = counts refl
-  one_stage denied (Moves words) squares counts attacks replies = tt
-  one_stage denied (Plies comparison count) squares counts attacks replies = tt
-  one_stage denied (Result result) squares counts attacks replies = tt
-  one_stage denied (Next word) squares counts attacks replies = tt
-  one_stage denied (Played word) squares counts attacks replies = tt
-  one_stage denied (For count) squares counts attacks replies = tt
-  one_stage denied (Count comparison count) squares counts attacks replies = tt
   one_stage denied (Turn side) squares counts attacks replies = counts refl
   one_stage denied Check squares counts attacks replies = attacks refl
   one_stage denied Mate squares counts attacks replies = replies refl
   one_stage denied Stalemate squares counts attacks replies = replies refl
 
-  all_stages : (conditions : List (Condition (List ℕ))) → SayAll Squares conditions → SayAll Men conditions → SayAll Attacks conditions → SayAll Replies conditions
+  all_stages : (conditions : List (PositionCondition (List ℕ))) → SayAll Squares conditions
+      → SayAll Men conditions → SayAll Attacks conditions → SayAll Replies conditions
       → AllSaid men turn Checked Stuck conditions
   all_stages [] squares counts attacks replies = tt
   all_stages (condition ∷ more) squares counts attacks replies = (
@@ -51,62 +52,72 @@ module _ (men : Placement) (turn : Side) (Checked Stuck : Type 0) where
     all_stages more squares.1 counts.1 attacks.1 replies.1,
   )
 
-  each_stage : (stage : Stage) (conditions : List (Condition (List ℕ))) → AllSaid men turn Checked Stuck conditions → SayAll stage conditions
+  each_stage : (stage : Stage) (conditions : List (PositionCondition (List ℕ)))
+      → AllSaid men turn Checked Stuck conditions → SayAll stage conditions
   each_stage stage [] all = tt
   each_stage stage (condition ∷ more) all = ((λ here. all.0), each_stage stage more all.1)
 
   -- what is said of a position is what patterns say, and what the others say
-  pub stages_parted : (conditions : List (Condition (List ℕ))) → AllSaid men turn Checked Stuck conditions ↔ (SayAll Squares conditions × AllOfRest men turn Checked Stuck conditions)
+  pub stages_parted : (conditions : List (PositionCondition (List ℕ)))
+      → AllSaid men turn Checked Stuck conditions
+      ↔ (SayAll Squares conditions × AllOfRest men turn Checked Stuck conditions)
   stages_parted conditions = (
-    λ all. (each_stage Squares conditions all, (each_stage Men conditions all, each_stage Attacks conditions all, each_stage Replies conditions all)),
+    λ all. (
+      each_stage Squares conditions all,
+      (
+        each_stage Men conditions all,
+        each_stage Attacks conditions all,
+        each_stage Replies conditions all,
+      ),
+    ),
     λ both. all_stages conditions both.0 both.1.0 both.1.1 both.1.2,
   )
 
   -- where all are patterns, the others say nothing
-  none_of_stage : (stage : Stage) (conditions : List (Condition (List ℕ))) → (Game ≡ stage → ⊥) → (Squares ≡ stage → ⊥) → ArePatterns conditions → SayAll stage conditions
-  none_of_stage stage [] no_game no_squares patterns = tt
-  none_of_stage stage (condition ∷ more) no_game no_squares patterns = (
-    λ here. elim patterns.0 [ inl game ↦ absurd (no_game (sym game ∙ here)) | inr squares ↦ absurd (no_squares (sym squares ∙ here)) ],
-    none_of_stage stage more no_game no_squares patterns.1,
+  none_of_stage : (stage : Stage) (conditions : List (PositionCondition (List ℕ)))
+      → (Squares ≡ stage → ⊥) → ArePatterns conditions → SayAll stage conditions
+  none_of_stage stage [] no_squares patterns = tt
+  none_of_stage stage (condition ∷ more) no_squares patterns = (
+    (λ here. absurd (no_squares (sym patterns.0 ∙ here))),
+    none_of_stage stage more no_squares patterns.1,
   )
 
-  pub patterns_rest : (conditions : List (Condition (List ℕ))) → ArePatterns conditions → AllOfRest men turn Checked Stuck conditions
+  pub patterns_rest : (conditions : List (PositionCondition (List ℕ))) → ArePatterns conditions
+      → AllOfRest men turn Checked Stuck conditions
   patterns_rest conditions patterns = (
-    none_of_stage Men conditions (λ is. cc) (λ is. cc) patterns,
-    none_of_stage Attacks conditions (λ is. cc) (λ is. cc) patterns,
-    none_of_stage Replies conditions (λ is. cc) (λ is. cc) patterns,
+    none_of_stage Men conditions (λ is. cc) patterns,
+    none_of_stage Attacks conditions (λ is. cc) patterns,
+    none_of_stage Replies conditions (λ is. cc) patterns,
   )
 
   -- one condition that is no pattern is all of the rest
-  pub rest_of_pattern : (condition : Condition (List ℕ)) → stage_of condition.claim ≡ Squares → AllOfRest men turn Checked Stuck (condition ∷ [])
-  rest_of_pattern condition is = patterns_rest (condition ∷ []) (inr is, tt)
+  pub rest_of_pattern : (condition : PositionCondition (List ℕ))
+      → stage_of condition.claim ≡ Squares → AllOfRest men turn Checked Stuck (condition ∷ [])
+  rest_of_pattern condition is = patterns_rest (condition ∷ []) (is, tt)
 
-  pub rest_of_one : (condition : Condition (List ℕ)) → (stage_of condition.claim ≡ Squares → ⊥)
+  pub rest_of_one : (condition : PositionCondition (List ℕ))
+      → (stage_of condition.claim ≡ Squares → ⊥)
       → OfSeen men turn Checked Stuck condition ↔ AllOfRest men turn Checked Stuck (condition ∷ [])
   rest_of_one condition other = (
     λ here. ((λ is. here, tt), (λ is. here, tt), (λ is. here, tt)),
-    λ rest. one_stage condition.is_denied condition.claim (λ is. absurd (other is)) rest.0.0 rest.1.0 rest.2.0,
+    λ rest. one_stage condition.is_denied condition.claim (λ is.
+        absurd (other is)) rest.0.0 rest.1.0 rest.2.0,
   )
 
   -- what patterns say is said of the men alone
-  one_pattern : (denied : Bool) (claim : Claim (List ℕ)) → (stage_of claim ≡ Squares → Says denied claim) ↔ (stage_of claim ≡ Squares → SaysOfPattern men denied claim)
-  one_pattern denied (Tag name relation contents) = (λ says is. tt, λ says is. tt)
+  one_pattern : (denied : Bool) (claim : PositionClaim (List ℕ))
+      → (stage_of claim ≡ Squares → Says denied claim)
+      ↔ (stage_of claim ≡ Squares → SaysOfSeen men White ⊥ ⊥ denied claim)
   one_pattern denied (Fen pattern) = (λ says. says, λ says. says)
   one_pattern denied (Flip pattern) = (λ says. says, λ says. says)
-  one_pattern denied (Material white black) = (λ says is. tt, λ says is. absurd (cc))
-  one_pattern denied (Moves words) = (λ says is. tt, λ says is. tt)
-  one_pattern denied (Plies comparison count) = (λ says is. tt, λ says is. tt)
-  one_pattern denied (Result result) = (λ says is. tt, λ says is. tt)
-  one_pattern denied (Next word) = (λ says is. tt, λ says is. tt)
-  one_pattern denied (Played word) = (λ says is. tt, λ says is. tt)
-  one_pattern denied (For count) = (λ says is. tt, λ says is. tt)
-  one_pattern denied (Count comparison count) = (λ says is. tt, λ says is. tt)
-  one_pattern denied (Turn side) = (λ says is. tt, λ says is. absurd (cc))
-  one_pattern denied Check = (λ says is. tt, λ says is. absurd (cc))
-  one_pattern denied Mate = (λ says is. tt, λ says is. absurd (cc))
-  one_pattern denied Stalemate = (λ says is. tt, λ says is. absurd (cc))
+  one_pattern denied (Material white black) = (λ says is. absurd (cc), λ says is. absurd (cc))
+  one_pattern denied (Turn side) = (λ says is. absurd (cc), λ says is. absurd (cc))
+  one_pattern denied Check = (λ says is. absurd (cc), λ says is. absurd (cc))
+  one_pattern denied Mate = (λ says is. absurd (cc), λ says is. absurd (cc))
+  one_pattern denied Stalemate = (λ says is. absurd (cc), λ says is. absurd (cc))
 
-  pub patterns_said : (conditions : List (Condition (List ℕ))) → SayAll Squares conditions ↔ AllOfPatterns men conditions
+  pub patterns_said : (conditions : List (PositionCondition (List ℕ)))
+      → SayAll Squares conditions ↔ AllOfPatterns men conditions
   patterns_said [] = (λ all. tt, λ all. tt)
   patterns_said (condition ∷ more) =
       let here = one_pattern condition.is_denied condition.claim in
@@ -116,47 +127,52 @@ module _ (men : Placement) (turn : Side) (Checked Stuck : Type 0) where
 -- ---- check, and whether there is a move, said otherwise
 
 -- a position is seen as itself
-pub of_position : (P : State) (condition : Condition (List ℕ)) → OfSeen P.men P.turn (IsCheck P.men P.turn) (¬ HasMove P) condition ≡ OfPosition P condition
+pub of_position : (P : State) (condition : PositionCondition (List ℕ))
+    → OfSeen P.men P.turn (IsCheck P.men P.turn) (¬ HasMove P) condition ≡ Holds P condition
 of_position P condition = refl
 
 -- facts that say the same give the same answers
 module _ (men : Placement) (turn : Side) (A B C D : Type 0) (check : A ↔ B) (stuck : C ↔ D) where
-  one_said : (denied : Bool) (claim : Claim (List ℕ)) → SaysOfSeen men turn A C denied claim ↔ SaysOfSeen men turn B D denied claim
-  one_said denied (Tag name relation contents) = (λ says. says, λ says. says)
+  one_said : (denied : Bool) (claim : PositionClaim (List ℕ))
+      → SaysOfSeen men turn A C denied claim ↔ SaysOfSeen men turn B D denied claim
   one_said denied (Fen pattern) = (λ says. says, λ says. says)
   one_said denied (Flip pattern) = (λ says. says, λ says. says)
   one_said denied (Material white black) = (λ says. says, λ says. says)
-  one_said denied (Moves words) = (λ says. says, λ says. says)
-  one_said denied (Plies comparison count) = (λ says. says, λ says. says)
-  one_said denied (Result result) = (λ says. says, λ says. says)
-  one_said denied (Next word) = (λ says. says, λ says. says)
-  one_said denied (Played word) = (λ says. says, λ says. says)
-  one_said denied (For count) = (λ says. says, λ says. says)
-  one_said denied (Count comparison count) = (λ says. says, λ says. says)
   one_said denied (Turn side) = (λ says. says, λ says. says)
   one_said denied Check = same_taken denied check
-  one_said denied Mate = same_taken denied (λ both. (check.0 both.0, stuck.0 both.1), λ both. (check.1 both.0, stuck.1 both.1))
+  one_said denied Mate =
+      same_taken denied (
+        λ both. (check.0 both.0, stuck.0 both.1),
+        λ both. (check.1 both.0, stuck.1 both.1),
+      )
   one_said denied Stalemate = same_taken denied (
     λ both. ((λ b. both.0 (check.1 b)), stuck.0 both.1),
     λ both. ((λ a. both.0 (check.0 a)), stuck.1 both.1),
   )
 
-  pub said : (condition : Condition (List ℕ)) → OfSeen men turn A C condition ↔ OfSeen men turn B D condition
+  pub said : (condition : PositionCondition (List ℕ))
+      → OfSeen men turn A C condition ↔ OfSeen men turn B D condition
   said condition = one_said condition.is_denied condition.claim
 
-each_said : (men others : Placement) (turn other : Side) (A B C D : Type 0) (conditions : List (Condition (List ℕ))) → (A ↔ B) → (C ↔ D)
-    → EachOfSeen men turn others other A C conditions ↔ EachOfSeen men turn others other B D conditions
+each_said : (men others : Placement) (turn other : Side) (A B C D : Type 0)
+    (conditions : List (PositionCondition (List ℕ))) → (A ↔ B) → (C ↔ D)
+    → EachOfSeen men turn others other A C conditions
+    ↔ EachOfSeen men turn others other B D conditions
 each_said men others turn other A B C D [] check stuck = (λ all. tt, λ all. tt)
 each_said men others turn other A B C D (condition ∷ more) check stuck =
-    let here = said (if is_turned condition then others else men) (if is_turned condition then other else turn) A B C D check stuck condition in
+    let here =
+    said (if is_turned condition then others else men) (if is_turned condition then other
+    else turn) A B C D check stuck condition in
     let there = each_said men others turn other A B C D more check stuck in
     (λ all. (here.0 all.0, there.0 all.1), λ all. (here.1 all.0, there.1 all.1))
 
-pub all_said : (men : Placement) (turn : Side) (A B C D : Type 0) (conditions : List (Condition (List ℕ))) → (A ↔ B) → (C ↔ D)
+pub all_said : (men : Placement) (turn : Side) (A B C D : Type 0)
+    (conditions : List (PositionCondition (List ℕ))) → (A ↔ B) → (C ↔ D)
     → AllOfSeen men turn A C conditions ↔ AllOfSeen men turn B D conditions
 all_said men turn A B C D conditions check stuck =
     let plain = each_said men men turn turn A B C D conditions check stuck in
-    let turned = each_said men (mirrored_men men) turn (opposite turn) A B C D conditions check stuck in (
+    let turned =
+    each_said men (mirrored_men men) turn (opposite turn) A B C D conditions check stuck in (
       λ all. elim all [ inl h ↦ inl (plain.0 h) | inr h ↦ inr (turned.0 h) ],
       λ all. elim all [ inl h ↦ inl (plain.1 h) | inr h ↦ inr (turned.1 h) ],
     )
@@ -164,41 +180,43 @@ all_said men turn A B C D conditions check stuck =
 -- ---- the mirror
 
 -- a claim that can be made of the mirror says nothing of check, nor of moves
-pub said_of_men : (men : Placement) (turn : Side) (A B C D : Type 0) (denied : Bool) (claim : Claim (List ℕ)) → can_be_mirrored claim ≡ true
+pub said_of_men : (men : Placement) (turn : Side) (A B C D : Type 0) (denied : Bool)
+    (claim : PositionClaim (List ℕ)) → can_be_mirrored claim ≡ true
     → SaysOfSeen men turn A C denied claim ↔ SaysOfSeen men turn B D denied claim
-said_of_men men turn A B C D denied (Tag name relation contents) can = absurd (cc)
 said_of_men men turn A B C D denied (Fen pattern) can = (λ says. says, λ says. says)
 said_of_men men turn A B C D denied (Flip pattern) can = (λ says. says, λ says. says)
 said_of_men men turn A B C D denied (Material white black) can = (λ says. says, λ says. says)
-said_of_men men turn A B C D denied (Moves words) can = absurd (cc)
-said_of_men men turn A B C D denied (Plies comparison count) can = absurd (cc)
-said_of_men men turn A B C D denied (Result result) can = absurd (cc)
-said_of_men men turn A B C D denied (Next word) can = absurd (cc)
-said_of_men men turn A B C D denied (Played word) can = absurd (cc)
-said_of_men men turn A B C D denied (For count) can = absurd (cc)
-said_of_men men turn A B C D denied (Count comparison count) can = absurd (cc)
 said_of_men men turn A B C D denied (Turn side) can = (λ says. says, λ says. says)
 said_of_men men turn A B C D denied Check can = absurd (cc)
 said_of_men men turn A B C D denied Mate can = absurd (cc)
 said_of_men men turn A B C D denied Stalemate can = absurd (cc)
 
-pub can_be_turned : (condition : Condition (List ℕ)) → is_turned condition ≡ true → can_be_mirrored condition.claim ≡ true
-can_be_turned condition turned = (and_parts condition.is_either (can_be_mirrored condition.claim) turned).1
+pub can_be_turned : (condition : PositionCondition (List ℕ)) → is_turned condition ≡ true
+    → can_be_mirrored condition.claim ≡ true
+can_be_turned condition turned =
+    (and_parts condition.is_either (can_be_mirrored condition.claim) turned).1
 
 -- what is said of what is seen of a position is said of the position
-each_position : (P other : State) (conditions : List (Condition (List ℕ)))
-    → EachOfSeen P.men P.turn other.men other.turn (IsCheck P.men P.turn) (¬ HasMove P) conditions ↔ EachOfPosition P other conditions
+each_position : (P other : State) (conditions : List (PositionCondition (List ℕ)))
+    → EachOfSeen P.men P.turn other.men other.turn (IsCheck P.men P.turn) (¬ HasMove P) conditions
+    ↔ EachHold P other conditions
 each_position P other [] = (λ all. tt, λ all. tt)
 each_position P other (condition ∷ more) =
     let there = each_position P other more in
     let here = elim (is_turned condition) as (λ t. is_turned condition ≡ t
-    → OfSeen (if t then other.men else P.men) (if t then other.turn else P.turn) (IsCheck P.men P.turn) (¬ HasMove P) condition ↔ OfPosition (if t then other else P) condition) [
-      | true ↦ λ turned. said_of_men other.men other.turn (IsCheck P.men P.turn) (IsCheck other.men other.turn) (¬ HasMove P) (¬ HasMove other) condition.is_denied condition.claim (can_be_turned condition turned)
+    → OfSeen (if t then other.men else P.men) (if t then other.turn
+    else P.turn) (IsCheck P.men P.turn) (¬ HasMove P) condition
+    ↔ Holds (if t then other else P) condition) [
+      | true ↦ λ turned. said_of_men other.men other.turn (IsCheck P.men P.turn)
+          (IsCheck other.men other.turn) (¬ HasMove P) (¬ HasMove other) condition.is_denied
+          condition.claim (can_be_turned condition turned)
       | false ↦ λ fixed. (λ says. says, λ says. says)
     ] refl in
     (λ all. (here.0 all.0, there.0 all.1), λ all. (here.1 all.0, there.1 all.1))
 
-pub all_position : (P : State) (conditions : List (Condition (List ℕ))) → AllOfSeen P.men P.turn (IsCheck P.men P.turn) (¬ HasMove P) conditions ↔ AllOfPosition P conditions
+pub all_position : (P : State) (conditions : List (PositionCondition (List ℕ)))
+    → AllOfSeen P.men P.turn (IsCheck P.men P.turn) (¬ HasMove P) conditions
+    ↔ PositionsHold P conditions
 all_position P conditions =
     let plain = each_position P P conditions in
     let turned = each_position P (mirror P) conditions in (

@@ -1,5 +1,6 @@
 -- The squares on which a man has to stand and those on which he may, gathered.
-use Rattle.std.proofs.Common.{◌≡◌, ◌↔◌, inl, inr, ◌||◌, ◌&&◌, not, Bool, true, false, Some, refl, sym, subst, ◌∙◌}
+use Rattle.std.proofs.Common.{◌≡◌, ◌↔◌, inl, inr, ◌||◌, ◌&&◌, not, Bool, true, false, Some, refl}
+use Rattle.std.proofs.Common.{sym, subst, ◌∙◌}
 use Rattle.std.proofs.lemmas.Bool.{or_cases}
 use Rattle.chess.specs.Public.Squares.{Place, IsOnBoard, same_square}
 use Rattle.chess.specs.Public.Placements.{Placement, man_at}
@@ -11,19 +12,33 @@ use Rattle.pgn_criteria.specs.Private.Tracks.{StaysOn}
 use Rattle.pgn_criteria.specs.declared.sieve.Stand.{Stand}
 
 -- he stands so if the squares wanted are among his, and his among the free ones
-pub stays : (stand : Stand) (man : Man) (men : Placement) (squares : Places) → IsSquaresOf men man squares
-    → (((s : Place) → is_in stand.wanted s ≡ true → is_in squares s ≡ true) × ((s : Place) → is_in squares s ≡ true → is_in stand.free s ≡ true)) ↔ StaysOn stand man men
+pub stays : (stand : Stand) (man : Man) (men : Placement) (squares : Places)
+    → IsSquaresOf men man squares
+    → (((s : Place) → is_in stand.wanted s ≡ true → is_in squares s ≡ true)
+    × ((s : Place) → is_in squares s ≡ true → is_in stand.free s ≡ true))
+    ↔ StaysOn stand man men
 stays stand man men squares his = (
-  λ both. record { wanted = λ s here. (his s).0 (both.0 s here); free = λ s on at. both.1 s ((his s).1 (on, at)) },
-  λ so. (λ s here. (his s).1 (so.wanted s here), λ s here. let at = (his s).0 here in so.free s at.0 at.1),
+  λ both. record {
+    wanted = λ s here. (his s).0 (both.0 s here);
+    free =
+        λ s on at. both.1 s ((his s).1 (on, at));
+  },
+  λ so. (
+    λ s here. (his s).1 (so.wanted s here),
+    λ s here. let at = (his s).0 here in
+        so.free s at.0 at.1,
+  ),
 )
 
 -- one square more is wanted
-pub wants : (old new : Stand) (man : Man) (men : Placement) (t : Place) → ((s : Place) → is_in new.wanted s ≡ (same_square t s || is_in old.wanted s)) → new.free ≡ old.free
+pub wants : (old new : Stand) (man : Man) (men : Placement) (t : Place)
+    → ((s : Place) → is_in new.wanted s ≡ (same_square t s || is_in old.wanted s))
+    → new.free ≡ old.free
     → IsOnBoard t → man_at men t ≡ Some man → StaysOn old man men → StaysOn new man men
 wants old new man men t put same on stands so = record {
   wanted = λ s here. elim (or_cases (same_square t s) (is_in old.wanted s) (sym (put s) ∙ here)) [
-    | inl own ↦ subst (λ (s : Place). IsOnBoard s × (man_at men s ≡ Some man)) (same_square-then t s own) (on, stands)
+    | inl own ↦ subst (λ (s : Place). IsOnBoard s
+        × (man_at men s ≡ Some man)) (same_square-then t s own) (on, stands)
     | inr was ↦ so.wanted s was
   ];
   free = λ s on at. subst (λ (free : Places). is_in free s ≡ true) (sym same) (so.free s on at);
@@ -35,7 +50,9 @@ still_in true false e other = refl
 still_in false same e other = absurd cc
 
 -- or one less is free
-pub bars : (old new : Stand) (man : Man) (men : Placement) (t : Place) → ((s : Place) → is_in new.free s ≡ (is_in old.free s && not (same_square s t))) → new.wanted ≡ old.wanted
+pub bars : (old new : Stand) (man : Man) (men : Placement) (t : Place)
+    → ((s : Place) → is_in new.free s ≡ (is_in old.free s && not (same_square s t)))
+    → new.wanted ≡ old.wanted
     → (man_at men t ≡ Some man → ⊥) → StaysOn old man men → StaysOn new man men
 bars old new man men t put same never so = record {
   wanted = λ s here. so.wanted s (subst (λ (wanted : Places). is_in wanted s ≡ true) same here);
@@ -44,7 +61,8 @@ bars old new man men t put same never so = record {
 }
 
 -- at first only squares that must be empty are not free
-pub begins : (stand : Stand) (man : Man) (men : Placement) (empty : Places) → ((s : Place) → is_in stand.wanted s ≡ false) → IsRest empty stand.free → AreEmpty men empty
+pub begins : (stand : Stand) (man : Man) (men : Placement) (empty : Places)
+    → ((s : Place) → is_in stand.wanted s ≡ false) → IsRest empty stand.free → AreEmpty men empty
     → StaysOn stand man men
 begins stand man men empty none rest are = record {
   wanted = λ s here. absurd (cc (none s, here));

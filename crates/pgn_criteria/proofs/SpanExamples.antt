@@ -1,12 +1,15 @@
 -- What the definitions say of `for` and `count`, that every reader can check.
-use Rattle.std.proofs.Common.{◌≡◌, ◌≤◌, ◌+◌, ℕ, false, [], ◌∷◌, length, Some, refl, inl, inr, arith}
+use Rattle.std.proofs.Common.{◌≡◌, ◌≤◌, ◌+◌, ℕ, [], ◌∷◌, length, Some, refl, inl, inr, arith}
 use Rattle.std.proofs.lemmas.Bool.{cases_lt}
 use Rattle.std.specs.List.{slice_get}
 use Rattle.chess.specs.Public.Positions.{State}
 use Rattle.pgn_game.specs.Public.Replays.{Replay}
-use Rattle.pgn_criteria.specs.Public.Meeting.{Heading, HoldsThere, Ascend, IsAmong, AreAll, SpanHolds, SpansHold}
+use Rattle.pgn_criteria.specs.Public.Meeting.{Heading, HoldsThere, Ascend, IsAmong, AreAll}
+use Rattle.pgn_criteria.specs.Public.Meeting.{SpanHolds, SpansHold}
 use Rattle.pgn_criteria.specs.declared.compare.Comparison.TheVariants.{Equal, Less, GreaterOrEqual}
-use Rattle.pgn_criteria.specs.declared.condition.Claim.TheVariants.{For, Count, Check}
+use Rattle.pgn_criteria.specs.Public.Conditions.{no_conditions, with_condition}
+use Rattle.pgn_criteria.specs.declared.condition.Condition.TheVariants.{Span}
+use Rattle.pgn_criteria.specs.declared.condition.SpanClaim.TheVariants.{For, Count}
 use Rattle.pgn_criteria.proofs.SpanFacts.{one_number}
 
 -- the other conditions hold after 2, 3 and 5 plies
@@ -44,28 +47,36 @@ not_two_at_five holds = not_six (holds 1 (omega arith))
 
 -- and three in all, whichever ply is asked
 all_three : AreAll Fits (2 ∷ 3 ∷ 5 ∷ [])
-all_three = record { ascend = (omega arith, (omega arith, (omega arith, tt))); exactly = λ ply. (λ among. among, λ such. such) }
+all_three =
+    record {
+      ascend = (omega arith, (omega arith, (omega arith, tt)));
+      exactly =
+          λ ply. (λ among. among, λ such. such);
+    }
 
-three_in_all : SpanHolds Fits 9 (Count Equal 3)
-three_in_all = (2 ∷ 3 ∷ 5 ∷ [], all_three, refl)
+three_in_all : (ply : ℕ) → SpanHolds Fits ply (Count Equal 3)
+three_in_all ply = (2 ∷ 3 ∷ 5 ∷ [], all_three, refl)
 
 not_fewer_than_three : SpanHolds Fits 2 (Count Less 3) → ⊥
 not_fewer_than_three (plies, all, less) =
-    let same : length plies ≡ 3 = one_number Fits plies (2 ∷ 3 ∷ 5 ∷ []) all all_three in omega (arith, same, less)
+    let same : length plies ≡ 3 = one_number Fits plies (2 ∷ 3 ∷ 5 ∷ []) all all_three in
+    omega (arith, same, less)
 
 not_four_or_more : SpanHolds Fits 2 (Count GreaterOrEqual 4) → ⊥
 not_four_or_more (plies, all, many) =
-    let same : length plies ≡ 3 = one_number Fits plies (2 ∷ 3 ∷ 5 ∷ []) all all_three in omega (arith, same, many)
+    let same : length plies ≡ 3 = one_number Fits plies (2 ∷ 3 ∷ 5 ∷ []) all all_three in
+    omega (arith, same, many)
 
 -- each ply counts once
 not_twice : Ascend 0 (2 ∷ 2 ∷ []) → ⊥
 not_twice up = let more : 2 + 1 ≤ 2 = up.1.0 in omega (arith, more)
 
--- several lines say it all together, and other conditions say nothing of plies
-together : SpansHold Fits 2 (record { is_either = false; is_denied = false; claim = For 2 } ∷ record { is_either = false; is_denied = false; claim = Check } ∷ [])
-together = (two_in_a_row, (tt, tt))
+-- several lines say it all together
+together : SpansHold Fits 2 (For 2 ∷ Count Equal 3 ∷ [])
+together = (two_in_a_row, (three_in_all 2, tt))
 
 -- an alternative without other conditions fits each ply that has a position
-each_ply : (heading : Heading) (replay : Replay) (ply : ℕ) (P : State) → slice_get replay.positions ply ≡ Some P
-    → HoldsThere heading replay (record { is_either = false; is_denied = false; claim = For 3 } ∷ []) ply
-each_ply heading replay ply P here = (P, here, inl (tt, tt))
+each_ply : (heading : Heading) (replay : Replay) (ply : ℕ) (P : State)
+    → slice_get replay.positions ply ≡ Some P
+    → HoldsThere heading replay (with_condition (Span (For 3)) no_conditions) ply
+each_ply heading replay ply P here = (P, here, (tt, tt, inl tt))

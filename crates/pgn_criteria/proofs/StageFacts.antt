@@ -1,5 +1,7 @@
 -- Conditions on a game are what they say of the game alone and what they say of a position.
-use Rattle.std.proofs.Common.{◌≡◌, ◌↔◌, ◌+◌, ◌++◌, ◌<◌, if◌then◌else◌, ℕ, zero, suc, Bool, true, false, List, [], ◌∷◌, length, get_or, Option, Some, None, IsTrue, refl, sym, ◌∙◌, subst, inl, inr, arith}
+use Rattle.std.proofs.Common.{◌≡◌, ◌↔◌, ◌+◌, ◌++◌, ◌<◌, if◌then◌else◌, ℕ, zero, suc, Bool, true}
+use Rattle.std.proofs.Common.{false, List, [], ◌∷◌, length, get_or, Option, Some, None, IsTrue}
+use Rattle.std.proofs.Common.{refl, sym, ◌∙◌, subst, inl, inr, arith}
 use Rattle.std.proofs.lemmas.Option.{slice_get_within, slice_get-get_or, get_or_from_slice_get}
 use Rattle.std.specs.Prelude.{◌⊎◌, replicate}
 use Rattle.std.specs.Option.{unwrap_or}
@@ -9,232 +11,233 @@ use Rattle.chess.specs.Public.Placements.{Placement}
 use Rattle.chess.specs.Public.Positions.{State, IsCheck}
 use Rattle.chess.specs.declared.board.man.Side.{Side}
 use Rattle.pgn_game.specs.Public.Replays.{Replay}
-use Rattle.pgn_criteria.specs.Public.Mirrors.{mirror}
-use Rattle.pgn_criteria.specs.Public.Meeting.{Heading, IsSo, Taken, is_turned, EachHold, AllHold, HoldsThere, SpansHold, IsMetBy, SomeHold, Meets, AreMet, IsFirst}
-use Rattle.pgn_criteria.specs.Private.Stages.{SaysOfGame, AllOfGame, SaysOfHeading, AllOfHeading, IsFreeOfMoves, AreFreeOfMoves, AsksWithin, AllAskWithin, SaysOfPosition, SaysOfPly, AllOfPly, AllOfSeen, EachOfPosition, AllOfPosition, is_on_position, on_positions, FitsAt, FitsAbout, IsFirstBefore}
+use Rattle.pgn_criteria.specs.Public.Conditions.{Conditions}
+use Rattle.pgn_criteria.specs.Public.Meeting.{Heading, Taken, AllTaken, IsSoOfGame, IsSoOfMoves}
+use Rattle.pgn_criteria.specs.Public.Meeting.{PositionsHold, AllHold, HoldsThere, SpansHold}
+use Rattle.pgn_criteria.specs.Public.Meeting.{IsMetBy, SomeHold, Meets, AreMet, IsFirst}
+use Rattle.pgn_criteria.specs.Private.Stages.{AllClaims, AllOfGame, SaysOfHeading, AllOfHeading}
+use Rattle.pgn_criteria.specs.Private.Stages.{IsFreeOfMoves, AreFreeOfMoves, AsksWithin}
+use Rattle.pgn_criteria.specs.Private.Stages.{AllAskWithin, AllOfPly, AllOfSeen, on_positions}
+use Rattle.pgn_criteria.specs.Private.Stages.{FitsAt, FitsAbout, IsFirstBefore}
 use Rattle.pgn_criteria.specs.Public.Walks.{IsSeenOf}
-use Rattle.pgn_criteria.specs.declared.condition.Condition.{Condition}
-use Rattle.pgn_criteria.specs.declared.condition.Claim.{Claim}
-use Rattle.pgn_criteria.specs.declared.condition.Claim.TheVariants.{Tag, Fen, Flip, Material, Moves, Plies, Result, Next, Played, For, Count, Turn, Check, Mate, Stalemate}
-use Rattle.pgn_criteria.proofs.OpeningFacts.{positions_ask_none}
+use Rattle.pgn_criteria.specs.declared.condition.Stated.{Stated}
+use Rattle.pgn_criteria.specs.declared.condition.GameClaim.{GameClaim}
+use Rattle.pgn_criteria.specs.declared.condition.GameClaim.TheVariants.{Tag, Moves, Plies, Result}
 use Rattle.pgn_criteria.proofs.SeenFacts.{all_position}
 use Rattle.pgn_criteria.proofs.WalkFacts.{seen_said}
-use Rattle.pgn_criteria.proofs.SpanFacts.{spans_same, no_spans_hold, within_no_spans}
+use Rattle.pgn_criteria.proofs.SpanFacts.{spans_same, no_spans_hold}
 
 -- what is said of the game is what is said of its tags, where nothing is said of its moves
-one_of_heading : (heading : Heading) (replay : Replay) (denied : Bool) (claim : Claim (List ℕ)) → IsFreeOfMoves claim → SaysOfHeading heading denied claim → SaysOfGame heading replay denied claim
+one_of_heading : (heading : Heading) (replay : Replay) (denied : Bool) (claim : GameClaim (List ℕ))
+    → IsFreeOfMoves claim → SaysOfHeading heading denied claim
+    → Taken denied (IsSoOfGame heading replay claim)
 one_of_heading heading replay denied (Tag name relation contents) free reports = reports
-one_of_heading heading replay denied (Fen pattern) free reports = tt
-one_of_heading heading replay denied (Flip pattern) free reports = tt
-one_of_heading heading replay denied (Material white black) free reports = tt
 one_of_heading heading replay denied (Moves words) free reports = absurd free
 one_of_heading heading replay denied (Plies comparison count) free reports = absurd free
 one_of_heading heading replay denied (Result result) free reports = reports
-one_of_heading heading replay denied (Next word) free reports = absurd free
-one_of_heading heading replay denied (Played word) free reports = absurd free
-one_of_heading heading replay denied (For count) free reports = absurd free
-one_of_heading heading replay denied (Count comparison count) free reports = absurd free
-one_of_heading heading replay denied (Turn side) free reports = tt
-one_of_heading heading replay denied Check free reports = tt
-one_of_heading heading replay denied Mate free reports = tt
-one_of_heading heading replay denied Stalemate free reports = tt
 
-pub all_of_heading : (heading : Heading) (replay : Replay) (conditions : List (Condition (List ℕ))) → AreFreeOfMoves conditions → AllOfHeading heading conditions
+games_of_heading : (heading : Heading) (replay : Replay)
+    (games : List (Stated (GameClaim (List ℕ)))) → AllClaims IsFreeOfMoves games
+    → AllOfHeading heading games
+    → AllTaken (IsSoOfGame heading replay) games
+games_of_heading heading replay [] free reports = tt
+games_of_heading heading replay (one ∷ more) free reports = (
+  one_of_heading heading replay one.is_denied one.claim free.0 reports.0,
+  games_of_heading heading replay more free.1 reports.1,
+)
+
+pub all_of_heading : (heading : Heading) (replay : Replay) (conditions : Conditions)
+    → AreFreeOfMoves conditions → AllOfHeading heading conditions.games
     → AllOfGame heading replay conditions
-all_of_heading heading replay [] free reports = tt
-all_of_heading heading replay (condition ∷ more) free reports =
-    (one_of_heading heading replay condition.is_denied condition.claim free.0 reports.0, all_of_heading heading replay more free.1 reports.1)
+all_of_heading heading replay conditions free reports =
+    games_of_heading heading replay conditions.games free.0 reports
 
-heading_of_one : (heading : Heading) (replay : Replay) (denied : Bool) (claim : Claim (List ℕ)) → SaysOfGame heading replay denied claim → SaysOfHeading heading denied claim
+heading_of_one : (heading : Heading) (replay : Replay) (denied : Bool) (claim : GameClaim (List ℕ))
+    → Taken denied (IsSoOfGame heading replay claim) → SaysOfHeading heading denied claim
 heading_of_one heading replay denied (Tag name relation contents) reports = reports
-heading_of_one heading replay denied (Fen pattern) reports = tt
-heading_of_one heading replay denied (Flip pattern) reports = tt
-heading_of_one heading replay denied (Material white black) reports = tt
 heading_of_one heading replay denied (Moves words) reports = tt
 heading_of_one heading replay denied (Plies comparison count) reports = tt
 heading_of_one heading replay denied (Result result) reports = reports
-heading_of_one heading replay denied (Next word) reports = tt
-heading_of_one heading replay denied (Played word) reports = tt
-heading_of_one heading replay denied (For count) reports = tt
-heading_of_one heading replay denied (Count comparison count) reports = tt
-heading_of_one heading replay denied (Turn side) reports = tt
-heading_of_one heading replay denied Check reports = tt
-heading_of_one heading replay denied Mate reports = tt
-heading_of_one heading replay denied Stalemate reports = tt
 
-heading_of_all : (heading : Heading) (replay : Replay) (conditions : List (Condition (List ℕ))) → AllOfGame heading replay conditions → AllOfHeading heading conditions
+heading_of_all : (heading : Heading) (replay : Replay) (games : List (Stated (GameClaim (List ℕ))))
+    → AllTaken (IsSoOfGame heading replay) games → AllOfHeading heading games
 heading_of_all heading replay [] reports = tt
-heading_of_all heading replay (condition ∷ more) reports = (heading_of_one heading replay condition.is_denied condition.claim reports.0, heading_of_all heading replay more reports.1)
+heading_of_all heading replay (one ∷ more) reports = (
+  heading_of_one heading replay one.is_denied one.claim reports.0,
+  heading_of_all heading replay more reports.1,
+)
 
 -- so it is not said of the game where it is not of its tags
-pub not_of_heading : (heading : Heading) (replay : Replay) (conditions : List (Condition (List ℕ))) (r : Bool) → r ≡ false → (IsTrue r ↔ AllOfHeading heading conditions)
+pub not_of_heading : (heading : Heading) (replay : Replay) (conditions : Conditions) (r : Bool)
+    → r ≡ false → (IsTrue r ↔ AllOfHeading heading conditions.games)
     → IsTrue r ↔ AllOfGame heading replay conditions
-not_of_heading heading replay conditions r fails reports = (λ t. absurd (cc), λ all. reports.1 (heading_of_all heading replay conditions all))
+not_of_heading heading replay conditions r fails reports =
+    (λ t. absurd (cc), λ all. reports.1 (heading_of_all heading replay conditions.games all))
 
--- a condition is all that it says
-one_parted : (heading : Heading) (replay : Replay) (ply : ℕ) (P : State) (denied : Bool) (claim : Claim (List ℕ))
-    → Taken denied (IsSo heading replay ply P claim) ↔ (SaysOfGame heading replay denied claim × SaysOfPosition P denied claim × SaysOfPly replay ply denied claim)
-one_parted heading replay ply P denied (Tag name relation contents) = (λ holds. (holds, tt, tt), λ all. all.0)
-one_parted heading replay ply P denied (Fen pattern) = (λ holds. (tt, holds, tt), λ all. all.1)
-one_parted heading replay ply P denied (Flip pattern) = (λ holds. (tt, holds, tt), λ all. all.1)
-one_parted heading replay ply P denied (Material white black) = (λ holds. (tt, holds, tt), λ all. all.1)
-one_parted heading replay ply P denied (Moves words) = (λ holds. (holds, tt, tt), λ all. all.0)
-one_parted heading replay ply P denied (Plies comparison count) = (λ holds. (holds, tt, tt), λ all. all.0)
-one_parted heading replay ply P denied (Result result) = (λ holds. (holds, tt, tt), λ all. all.0)
-one_parted heading replay ply P denied (Next word) = (λ holds. (tt, tt, holds), λ all. all.2)
-one_parted heading replay ply P denied (Played word) = (λ holds. (tt, tt, holds), λ all. all.2)
-one_parted heading replay ply P denied (For count) = (λ holds. (holds, tt, tt), λ all. all.0)
-one_parted heading replay ply P denied (Count comparison count) = (λ holds. (holds, tt, tt), λ all. all.0)
-one_parted heading replay ply P denied (Turn side) = (λ holds. (tt, holds, tt), λ all. all.1)
-one_parted heading replay ply P denied Check = (λ holds. (tt, holds, tt), λ all. all.1)
-one_parted heading replay ply P denied Mate = (λ holds. (tt, holds, tt), λ all. all.1)
-one_parted heading replay ply P denied Stalemate = (λ holds. (tt, holds, tt), λ all. all.1)
-
-each_parted : (heading : Heading) (replay : Replay) (ply : ℕ) (P other : State) (conditions : List (Condition (List ℕ)))
-    → EachHold heading replay ply P other conditions ↔ (AllOfGame heading replay conditions × EachOfPosition P other conditions × AllOfPly replay ply conditions)
-each_parted heading replay ply P other [] = (λ hold. (tt, tt, tt), λ all. tt)
-each_parted heading replay ply P other (condition ∷ more) =
-    let here = one_parted heading replay ply (if is_turned condition then other else P) condition.is_denied condition.claim in
-    let there = each_parted heading replay ply P other more in (
-      (λ hold. let own = here.0 hold.0 in let others = there.0 hold.1 in ((own.0, others.0), (own.1, others.1), (own.2, others.2))),
-      (λ all. (here.1 (all.0.0, all.1.0, all.2.0), there.1 (all.0.1, all.1.1, all.2.1))),
-    )
-
-all_parted : (heading : Heading) (replay : Replay) (ply : ℕ) (P : State) (conditions : List (Condition (List ℕ)))
-    → AllHold heading replay ply P conditions ↔ (AllOfGame heading replay conditions × AllOfPosition P conditions × AllOfPly replay ply conditions)
+-- conditions are all that they say
+all_parted : (heading : Heading) (replay : Replay) (ply : ℕ) (P : State) (conditions : Conditions)
+    → AllHold heading replay ply P conditions
+    ↔ (AllOfGame heading replay conditions × PositionsHold P conditions.positions
+    × AllOfPly replay ply conditions)
 all_parted heading replay ply P conditions =
-    let plain = each_parted heading replay ply P P conditions in
-    let turned = each_parted heading replay ply P (mirror P) conditions in (
-      λ hold. elim hold [
-        | inl as_it_stands ↦ let all = plain.0 as_it_stands in (all.0, inl all.1, all.2)
-        | inr in_mirror ↦ let all = turned.0 in_mirror in (all.0, inr all.1, all.2)
-      ],
-      λ all. elim all.1 [ inl as_it_stands ↦ inl (plain.1 (all.0, as_it_stands, all.2)) | inr in_mirror ↦ inr (turned.1 (all.0, in_mirror, all.2)) ],
-    )
+    (λ hold. (hold.0, hold.2, hold.1), λ all. (all.0, all.2, all.1))
 
 -- of conditions that do not speak of moves, nothing is said of those about a ply
-one_still : (replay : Replay) (ply : ℕ) (denied : Bool) (claim : Claim (List ℕ)) (most : ℕ) → AsksWithin most claim → SaysOfPly replay ply denied claim
-one_still replay ply denied (Tag name relation contents) most within = tt
-one_still replay ply denied (Fen pattern) most within = tt
-one_still replay ply denied (Flip pattern) most within = tt
-one_still replay ply denied (Material white black) most within = tt
-one_still replay ply denied (Moves words) most within = tt
-one_still replay ply denied (Plies comparison count) most within = tt
-one_still replay ply denied (Result result) most within = tt
-one_still replay ply denied (Next word) most within = absurd within
-one_still replay ply denied (Played word) most within = absurd within
-one_still replay ply denied (For count) most within = tt
-one_still replay ply denied (Count comparison count) most within = tt
-one_still replay ply denied (Turn side) most within = tt
-one_still replay ply denied Check most within = tt
-one_still replay ply denied Mate most within = tt
-one_still replay ply denied Stalemate most within = tt
+pub all_still : (replay : Replay) (ply most : ℕ) (conditions : Conditions)
+    → AllAskWithin most conditions → AllOfPly replay ply conditions
+all_still replay ply most conditions within =
+    subst (AllTaken (IsSoOfMoves replay ply)) (sym within.1) tt
 
-all_still : (replay : Replay) (ply most : ℕ) (conditions : List (Condition (List ℕ))) → AllAskWithin most conditions → AllOfPly replay ply conditions
-all_still replay ply most [] within = tt
-all_still replay ply most (condition ∷ more) within =
-    (one_still replay ply condition.is_denied condition.claim most within.0, all_still replay ply most more within.1)
-
-free_within : (claim : Claim (List ℕ)) → IsFreeOfMoves claim → AsksWithin 0 claim
-free_within (Tag name relation contents) free = tt
-free_within (Fen pattern) free = tt
-free_within (Flip pattern) free = tt
-free_within (Material white black) free = tt
+free_within : (claim : GameClaim (List ℕ)) → IsFreeOfMoves claim → AsksWithin 0 claim
 free_within (Moves words) free = absurd free
 free_within (Plies comparison count) free = absurd free
-free_within (Result result) free = tt
-free_within (Next word) free = absurd free
-free_within (Played word) free = absurd free
-free_within (For count) free = absurd free
-free_within (Count comparison count) free = absurd free
-free_within (Turn side) free = tt
-free_within Check free = tt
-free_within Mate free = tt
-free_within Stalemate free = tt
+free_within claim free = tt
 
-pub all_free_within : (conditions : List (Condition (List ℕ))) → AreFreeOfMoves conditions → AllAskWithin 0 conditions
-all_free_within [] free = tt
-all_free_within (condition ∷ more) free = (free_within condition.claim free.0, all_free_within more free.1)
+games_free_within : (games : List (Stated (GameClaim (List ℕ)))) → AllClaims IsFreeOfMoves games
+    → AllClaims (AsksWithin 0) games
+games_free_within [] free = tt
+games_free_within (one ∷ more) free = (free_within one.claim free.0, games_free_within more free.1)
+
+pub all_free_within : (conditions : Conditions) → AreFreeOfMoves conditions
+    → AllAskWithin 0 conditions
+all_free_within conditions free = (games_free_within conditions.games free.0, free.1, free.2)
 
 -- what is said of the position, and then of the moves about it
-pub fits_both : (replay : Replay) (ply : ℕ) (conditions : List (Condition (List ℕ))) (P : State) (first r : Bool) → slice_get replay.positions ply ≡ Some P
-    → (IsTrue first ↔ AllOfSeen P.men P.turn (IsCheck P.men P.turn) (¬ HasMove P) conditions) → IsTrue first → (IsTrue r ↔ AllOfPly replay ply conditions)
+pub fits_both : (replay : Replay) (ply : ℕ) (conditions : Conditions) (P : State) (first r : Bool)
+    → slice_get replay.positions ply ≡ Some P
+    → (IsTrue first
+    ↔ AllOfSeen P.men P.turn (IsCheck P.men P.turn) (¬ HasMove P) conditions.positions)
+    → IsTrue first → (IsTrue r ↔ AllOfPly replay ply conditions)
     → IsTrue r ↔ FitsAt replay conditions ply
-fits_both replay ply conditions P first r here of_position holds of_ply =
-    (λ t. (P, here, (all_position P conditions).0 (of_position.0 holds), of_ply.0 t), λ fits. of_ply.1 fits.3)
+fits_both replay ply conditions P first r here of_position holds of_ply = (
+  λ t. (P, here, (all_position P conditions.positions).0 (of_position.0 holds), of_ply.0 t),
+  λ fits. of_ply.1 fits.3,
+)
 
-pub fits_none : (replay : Replay) (ply : ℕ) (conditions : List (Condition (List ℕ))) (P : State) (r : Bool) → slice_get replay.positions ply ≡ Some P
-    → (IsTrue r ↔ AllOfSeen P.men P.turn (IsCheck P.men P.turn) (¬ HasMove P) conditions) → r ≡ false → IsTrue r ↔ FitsAt replay conditions ply
+pub fits_none : (replay : Replay) (ply : ℕ) (conditions : Conditions) (P : State) (r : Bool)
+    → slice_get replay.positions ply ≡ Some P
+    → (IsTrue r ↔ AllOfSeen P.men P.turn (IsCheck P.men P.turn) (¬ HasMove P) conditions.positions)
+    → r ≡ false → IsTrue r ↔ FitsAt replay conditions ply
 fits_none replay ply conditions P r here of_position fails = (
   λ t. absurd (cc (t, fails)),
   λ fits.
       let same : fits.0 ≡ P = cc (fits.1, here) in
-      of_position.1 ((all_position P conditions).1 (subst (λ Q. AllOfPosition Q conditions) same fits.2)),
+      of_position.1
+      ((all_position P conditions.positions).1
+      (subst (λ Q. PositionsHold Q conditions.positions) same fits.2)),
 )
 
 -- of a game of which what conditions say is so, they hold at the plies that fit
-there_fits : (heading : Heading) (replay : Replay) (conditions : List (Condition (List ℕ))) → AllOfGame heading replay conditions
+there_fits : (heading : Heading) (replay : Replay) (conditions : Conditions)
+    → AllOfGame heading replay conditions
     → (ply : ℕ) → FitsAt replay conditions ply ↔ HoldsThere heading replay conditions ply
 there_fits heading replay conditions of_game ply = (
-  λ fits. (fits.0, fits.1, (all_parted heading replay ply fits.0 conditions).1 (of_game, fits.2, fits.3)),
-  λ there. let said = (all_parted heading replay ply there.0 conditions).0 there.2 in (there.0, there.1, said.1, said.2),
+  λ fits. (
+    fits.0,
+    fits.1,
+    (all_parted heading replay ply fits.0 conditions).1 (of_game, fits.2, fits.3),
+  ),
+  λ there. let said = (all_parted heading replay ply there.0 conditions).0 there.2 in
+      (there.0, there.1, said.1, said.2),
 )
 
-spans_there : (heading : Heading) (replay : Replay) (conditions : List (Condition (List ℕ))) → AllOfGame heading replay conditions
-    → (ply : ℕ) → SpansHold (FitsAt replay conditions) ply conditions ↔ SpansHold (HoldsThere heading replay conditions) ply conditions
+spans_there : (heading : Heading) (replay : Replay) (conditions : Conditions)
+    → AllOfGame heading replay conditions
+    → (ply : ℕ) → SpansHold (FitsAt replay conditions) ply conditions.spans
+    ↔ SpansHold (HoldsThere heading replay conditions) ply conditions.spans
 spans_there heading replay conditions of_game ply =
     let same = there_fits heading replay conditions of_game in (
-      λ hold. spans_same (FitsAt replay conditions) (HoldsThere heading replay conditions) same ply conditions hold,
-      λ hold. spans_same (HoldsThere heading replay conditions) (FitsAt replay conditions) (λ n. ((same n).1, (same n).0)) ply conditions hold,
+      λ hold. spans_same (FitsAt replay conditions) (HoldsThere heading replay conditions) same ply
+          conditions.spans hold,
+      λ hold. spans_same (HoldsThere heading replay conditions) (FitsAt replay conditions) (λ n.
+          ((same n).1, (same n).0)) ply conditions.spans hold,
     )
 
 -- an alternative is met where all that it says is so
-met_parted : (heading : Heading) (replay : Replay) (ply : ℕ) (P : State) (conditions : List (Condition (List ℕ)))
-    → IsMetBy heading replay ply P conditions ↔ (AllOfGame heading replay conditions × AllOfPosition P conditions × AllOfPly replay ply conditions
-    × SpansHold (FitsAt replay conditions) ply conditions)
+met_parted : (heading : Heading) (replay : Replay) (ply : ℕ) (P : State) (conditions : Conditions)
+    → IsMetBy heading replay ply P conditions
+    ↔ (AllOfGame heading replay conditions × PositionsHold P conditions.positions
+    × AllOfPly replay ply conditions
+    × SpansHold (FitsAt replay conditions) ply conditions.spans)
 met_parted heading replay ply P conditions =
     let parts = all_parted heading replay ply P conditions in (
-      λ met. let said = parts.0 met.0 in (said.0, said.1, said.2, (spans_there heading replay conditions said.0 ply).1 met.1),
-      λ all. (parts.1 (all.0, all.1, all.2), (spans_there heading replay conditions all.0 ply).0 all.3),
+      λ met. let said = parts.0 met.0 in
+          (said.0, said.1, said.2, (spans_there heading replay conditions said.0 ply).1 met.1),
+      λ all. (
+        parts.1 (all.0, all.1, all.2),
+        (spans_there heading replay conditions all.0 ply).0 all.3,
+      ),
     )
 
 -- one alternative at one place of the main line
-pub one_meets : (heading : Heading) (replay : Replay) (plies : ℕ) (conditions : List (Condition (List ℕ))) → AllOfGame heading replay conditions → FitsAbout replay conditions plies
+pub one_meets : (heading : Heading) (replay : Replay) (plies : ℕ) (conditions : Conditions)
+    → AllOfGame heading replay conditions → FitsAbout replay conditions plies
     → Meets heading replay plies (conditions ∷ [])
 one_meets heading replay plies conditions of_game (fits, spans) =
-    record { position = fits.0; here = fits.1; hold = inl ((met_parted heading replay plies fits.0 conditions).1 (of_game, fits.2, fits.3, spans)) }
+    record {
+      position = fits.0;
+      here = fits.1;
+      hold =
+          inl ((met_parted heading replay plies fits.0 conditions).1 (
+            of_game,
+            fits.2,
+            fits.3,
+            spans,
+          ));
+    }
 
-one_holds : (heading : Heading) (replay : Replay) (ply : ℕ) (P : State) (conditions : List (Condition (List ℕ))) → SomeHold heading replay ply P (conditions ∷ []) → IsMetBy heading replay ply P conditions
-one_holds heading replay ply P conditions hold = elim hold [ inl all ↦ all | inr none ↦ absurd none ]
+one_holds : (heading : Heading) (replay : Replay) (ply : ℕ) (P : State) (conditions : Conditions)
+    → SomeHold heading replay ply P (conditions ∷ []) → IsMetBy heading replay ply P conditions
+one_holds heading replay ply P conditions hold =
+    elim hold [ inl all ↦ all | inr none ↦ absurd none ]
 
-pub game_of : (heading : Heading) (replay : Replay) (plies : ℕ) (conditions : List (Condition (List ℕ))) → Meets heading replay plies (conditions ∷ []) → AllOfGame heading replay conditions
-game_of heading replay plies conditions met = ((met_parted heading replay plies met.position conditions).0 (one_holds heading replay plies met.position conditions met.hold)).0
+pub game_of : (heading : Heading) (replay : Replay) (plies : ℕ) (conditions : Conditions)
+    → Meets heading replay plies (conditions ∷ []) → AllOfGame heading replay conditions
+game_of heading replay plies conditions met =
+    ((met_parted heading replay plies met.position conditions).0
+    (one_holds heading replay plies met.position conditions met.hold)).0
 
-pub fits_of : (heading : Heading) (replay : Replay) (plies : ℕ) (conditions : List (Condition (List ℕ))) → Meets heading replay plies (conditions ∷ []) → FitsAbout replay conditions plies
+pub fits_of : (heading : Heading) (replay : Replay) (plies : ℕ) (conditions : Conditions)
+    → Meets heading replay plies (conditions ∷ []) → FitsAbout replay conditions plies
 fits_of heading replay plies conditions met =
-    let all = (met_parted heading replay plies met.position conditions).0 (one_holds heading replay plies met.position conditions met.hold) in
+    let all =
+    (met_parted heading replay plies met.position conditions).0
+    (one_holds heading replay plies met.position conditions met.hold) in
     ((met.position, met.here, all.1, all.2), all.3)
 
-pub both_parts : (heading : Heading) (replay : Replay) (plies : ℕ) (conditions : List (Condition (List ℕ))) (first r : Bool) → IsTrue first
-    → (IsTrue first ↔ AllOfGame heading replay conditions) → (IsTrue r ↔ FitsAbout replay conditions plies) → IsTrue r ↔ Meets heading replay plies (conditions ∷ [])
-both_parts heading replay plies conditions first r holds of_game of_ply =
-    (λ t. one_meets heading replay plies conditions (of_game.0 holds) (of_ply.0 t), λ met. of_ply.1 (fits_of heading replay plies conditions met))
+pub both_parts : (heading : Heading) (replay : Replay) (plies : ℕ) (conditions : Conditions)
+    (first r : Bool) → IsTrue first
+    → (IsTrue first ↔ AllOfGame heading replay conditions)
+    → (IsTrue r ↔ FitsAbout replay conditions plies)
+    → IsTrue r ↔ Meets heading replay plies (conditions ∷ [])
+both_parts heading replay plies conditions first r holds of_game of_ply = (
+  λ t. one_meets heading replay plies conditions (of_game.0 holds) (of_ply.0 t),
+  λ met. of_ply.1 (fits_of heading replay plies conditions met),
+)
 
-pub first_part_fails : (heading : Heading) (replay : Replay) (plies : ℕ) (conditions : List (Condition (List ℕ))) (first : Bool) → first ≡ false
-    → (IsTrue first ↔ AllOfGame heading replay conditions) → IsTrue first ↔ Meets heading replay plies (conditions ∷ [])
-first_part_fails heading replay plies conditions first fails of_game = (λ t. absurd (cc), λ met. of_game.1 (game_of heading replay plies conditions met))
+pub first_part_fails : (heading : Heading) (replay : Replay) (plies : ℕ) (conditions : Conditions)
+    (first : Bool) → first ≡ false
+    → (IsTrue first ↔ AllOfGame heading replay conditions)
+    → IsTrue first ↔ Meets heading replay plies (conditions ∷ [])
+first_part_fails heading replay plies conditions first fails of_game =
+    (λ t. absurd (cc), λ met. of_game.1 (game_of heading replay plies conditions met))
 
 -- one alternative more
-one_more : (heading : Heading) (replay : Replay) (plies : ℕ) (a : List (Condition (List ℕ))) (more : List (List (Condition (List ℕ))))
-    → Meets heading replay plies (a ∷ more) → Meets heading replay plies (a ∷ []) ⊎ Meets heading replay plies more
+one_more : (heading : Heading) (replay : Replay) (plies : ℕ) (a : Conditions)
+    (more : List Conditions)
+    → Meets heading replay plies (a ∷ more)
+    → Meets heading replay plies (a ∷ []) ⊎ Meets heading replay plies more
 one_more heading replay plies a more met = elim met.hold [
   | inl all ↦ inl (record { position = met.position; here = met.here; hold = inl all })
   | inr some ↦ inr (record { position = met.position; here = met.here; hold = some })
 ]
 
-pub meets_found : (heading : Heading) (replay : Replay) (plies : ℕ) (left after : List (List (Condition (List ℕ)))) (a : List (Condition (List ℕ))) (r : Bool)
-    (whole : List (List (Condition (List ℕ)))) → left ≡ a ∷ after → r ≡ true → (IsTrue r ↔ Meets heading replay plies (a ∷ []))
-    → (Meets heading replay plies left ↔ Meets heading replay plies whole) → IsTrue true ↔ Meets heading replay plies whole
+pub meets_found : (heading : Heading) (replay : Replay) (plies : ℕ) (left after : List Conditions)
+    (a : Conditions) (r : Bool)
+    (whole : List Conditions) → left ≡ a ∷ after → r ≡ true
+    → (IsTrue r ↔ Meets heading replay plies (a ∷ []))
+    → (Meets heading replay plies left ↔ Meets heading replay plies whole)
+    → IsTrue true ↔ Meets heading replay plies whole
 meets_found heading replay plies left after a r whole front holds reports kept = (
   λ t. let met = reports.0 holds in
       kept.0 (subst (Meets heading replay plies) (sym front) (record {
@@ -245,21 +248,31 @@ meets_found heading replay plies left after a r whole front holds reports kept =
   λ met. refl,
 )
 
-pub meets_left : (heading : Heading) (replay : Replay) (plies : ℕ) (left after : List (List (Condition (List ℕ)))) (a : List (Condition (List ℕ))) (r : Bool)
-    (whole : List (List (Condition (List ℕ)))) → left ≡ a ∷ after → r ≡ false → (IsTrue r ↔ Meets heading replay plies (a ∷ []))
-    → (Meets heading replay plies left ↔ Meets heading replay plies whole) → Meets heading replay plies after ↔ Meets heading replay plies whole
+pub meets_left : (heading : Heading) (replay : Replay) (plies : ℕ) (left after : List Conditions)
+    (a : Conditions) (r : Bool)
+    (whole : List Conditions) → left ≡ a ∷ after → r ≡ false
+    → (IsTrue r ↔ Meets heading replay plies (a ∷ []))
+    → (Meets heading replay plies left ↔ Meets heading replay plies whole)
+    → Meets heading replay plies after ↔ Meets heading replay plies whole
 meets_left heading replay plies left after a r whole front fails reports kept = (
-  λ met. kept.0 (subst (Meets heading replay plies) (sym front) (record { position = met.position; here = met.here; hold = inr met.hold })),
-  λ met. elim (one_more heading replay plies a after (subst (Meets heading replay plies) front (kept.1 met))) [
-    | inl own ↦ let t : IsTrue r = reports.1 own in absurd (cc)
-    | inr more ↦ more
-  ],
+  λ met. kept.0
+      (subst (Meets heading replay plies) (sym front)
+      (record { position = met.position; here = met.here; hold = inr met.hold })),
+  λ met. elim
+      (one_more heading replay plies a after
+      (subst (Meets heading replay plies) front (kept.1 met))) [
+        | inl own ↦ let t : IsTrue r = reports.1 own in absurd (cc)
+        | inr more ↦ more
+      ],
 )
 
 -- what is looked for before a ply, where what the conditions say of the game is so
-pub fits_first : (heading : Heading) (replay : Replay) (conditions : List (Condition (List ℕ))) (from end : ℕ) (found : Option ℕ) → AllOfGame heading replay conditions
-    → IsFirstBefore (FitsAbout replay conditions) from end found → IsFirstBefore (λ plies. Meets heading replay plies (conditions ∷ [])) from end found
-fits_first heading replay conditions from end None of_game first = λ n low less met. first n low less (fits_of heading replay n conditions met)
+pub fits_first : (heading : Heading) (replay : Replay) (conditions : Conditions) (from end : ℕ)
+    (found : Option ℕ) → AllOfGame heading replay conditions
+    → IsFirstBefore (FitsAbout replay conditions) from end found
+    → IsFirstBefore (λ plies. Meets heading replay plies (conditions ∷ [])) from end found
+fits_first heading replay conditions from end None of_game first =
+    λ n low less met. first n low less (fits_of heading replay n conditions met)
 fits_first heading replay conditions from end (Some n) of_game (low, less, fits, least) = (
   low,
   less,
@@ -268,182 +281,193 @@ fits_first heading replay conditions from end (Some n) of_game (low, less, fits,
 )
 
 -- where it is not so, there is none
-pub no_first : (heading : Heading) (replay : Replay) (conditions : List (Condition (List ℕ))) (from end : ℕ) (r : Bool) → r ≡ false → (IsTrue r ↔ AllOfGame heading replay conditions)
+pub no_first : (heading : Heading) (replay : Replay) (conditions : Conditions) (from end : ℕ)
+    (r : Bool) → r ≡ false → (IsTrue r ↔ AllOfGame heading replay conditions)
     → IsFirstBefore (λ plies. Meets heading replay plies (conditions ∷ [])) from end None
 no_first heading replay conditions from end r fails reports n low less met =
     let so : IsTrue r = reports.1 (game_of heading replay n conditions met) in absurd (cc)
 
--- the conditions that speak of positions hold where what all say of positions is so
-on_position : (heading : Heading) (replay : Replay) (ply : ℕ) (P : State) (denied : Bool) (claim : Claim (List ℕ)) → is_on_position claim ≡ true
-    → Taken denied (IsSo heading replay ply P claim) ↔ SaysOfPosition P denied claim
-on_position heading replay ply P denied (Tag name relation contents) on = absurd (cc)
-on_position heading replay ply P denied (Fen pattern) on = (λ holds. holds, λ says. says)
-on_position heading replay ply P denied (Flip pattern) on = (λ holds. holds, λ says. says)
-on_position heading replay ply P denied (Material white black) on = (λ holds. holds, λ says. says)
-on_position heading replay ply P denied (Moves words) on = absurd (cc)
-on_position heading replay ply P denied (Plies comparison count) on = absurd (cc)
-on_position heading replay ply P denied (Result result) on = absurd (cc)
-on_position heading replay ply P denied (Next word) on = absurd (cc)
-on_position heading replay ply P denied (Played word) on = absurd (cc)
-on_position heading replay ply P denied (For count) on = absurd (cc)
-on_position heading replay ply P denied (Count comparison count) on = absurd (cc)
-on_position heading replay ply P denied (Turn side) on = (λ holds. holds, λ says. says)
-on_position heading replay ply P denied Check on = (λ holds. holds, λ says. says)
-on_position heading replay ply P denied Mate on = (λ holds. holds, λ says. says)
-on_position heading replay ply P denied Stalemate on = (λ holds. holds, λ says. says)
+-- the conditions that speak of positions hold where what all say of positions is so; none of them
+-- is `for` or `count`
+pub positions_met : (heading : Heading) (replay : Replay) (ply : ℕ) (P : State)
+    (conditions : Conditions)
+    → IsMetBy heading replay ply P (on_positions conditions) ↔ PositionsHold P conditions.positions
+positions_met heading replay ply P conditions = (λ met. met.0.2, λ all. ((tt, tt, all), tt))
 
-off_position : (P : State) (denied : Bool) (claim : Claim (List ℕ)) → is_on_position claim ≡ false → SaysOfPosition P denied claim
-off_position P denied (Tag name relation contents) off = tt
-off_position P denied (Fen pattern) off = absurd (cc)
-off_position P denied (Flip pattern) off = absurd (cc)
-off_position P denied (Material white black) off = absurd (cc)
-off_position P denied (Moves words) off = tt
-off_position P denied (Plies comparison count) off = tt
-off_position P denied (Result result) off = tt
-off_position P denied (Next word) off = tt
-off_position P denied (Played word) off = tt
-off_position P denied (For count) off = tt
-off_position P denied (Count comparison count) off = tt
-off_position P denied (Turn side) off = absurd (cc)
-off_position P denied Check off = absurd (cc)
-off_position P denied Mate off = absurd (cc)
-off_position P denied Stalemate off = absurd (cc)
-
-each_position_holds : (heading : Heading) (replay : Replay) (ply : ℕ) (P other : State) (conditions : List (Condition (List ℕ)))
-    → EachHold heading replay ply P other (on_positions conditions) ↔ EachOfPosition P other conditions
-each_position_holds heading replay ply P other [] = (λ hold. tt, λ all. tt)
-each_position_holds heading replay ply P other (condition ∷ more) =
-    let there = each_position_holds heading replay ply P other more in
-    let tried = if is_turned condition then other else P in
-    elim (is_on_position condition.claim) as (λ t. is_on_position condition.claim ≡ t
-    → EachHold heading replay ply P other (if t then condition ∷ on_positions more else on_positions more) ↔ EachOfPosition P other (condition ∷ more)) [
-      | true ↦ λ on.
-          let here = on_position heading replay ply tried condition.is_denied condition.claim on in (λ hold. (here.0 hold.0, there.0 hold.1), λ all. (here.1 all.0, there.1 all.1))
-      | false ↦ λ off. (λ hold. (off_position tried condition.is_denied condition.claim off, there.0 hold), λ all. there.1 all.1)
-    ] refl
-
-positions_hold : (heading : Heading) (replay : Replay) (ply : ℕ) (P : State) (conditions : List (Condition (List ℕ)))
-    → AllHold heading replay ply P (on_positions conditions) ↔ AllOfPosition P conditions
-positions_hold heading replay ply P conditions =
-    let plain = each_position_holds heading replay ply P P conditions in
-    let turned = each_position_holds heading replay ply P (mirror P) conditions in (
-      λ hold. elim hold [ inl h ↦ inl (plain.0 h) | inr h ↦ inr (turned.0 h) ],
-      λ all. elim all [ inl h ↦ inl (plain.1 h) | inr h ↦ inr (turned.1 h) ],
-    )
-
--- none of them is `for` or `count`
-pub positions_met : (heading : Heading) (replay : Replay) (ply : ℕ) (P : State) (conditions : List (Condition (List ℕ)))
-    → IsMetBy heading replay ply P (on_positions conditions) ↔ AllOfPosition P conditions
-positions_met heading replay ply P conditions =
-    let same = positions_hold heading replay ply P conditions in
-    let own = on_positions conditions in (
-      λ met. same.0 met.0,
-      λ all. (same.1 all, no_spans_hold (HoldsThere heading replay own) ply own (within_no_spans 0 own (positions_ask_none conditions))),
-    )
-
-pub reports_seen : (heading : Heading) (replay : Replay) (ply : ℕ) (P : State) (conditions : List (Condition (List ℕ))) (r : Bool) (men : Placement) (turn : Side)
+pub reports_seen : (heading : Heading) (replay : Replay) (ply : ℕ) (P : State)
+    (conditions : Conditions) (r : Bool) (men : Placement) (turn : Side)
     (Checked Stuck : Type 0) → IsSeenOf P men turn Checked Stuck
-    → (IsTrue r ↔ AllOfSeen men turn Checked Stuck conditions) → IsTrue r ↔ IsMetBy heading replay ply P (on_positions conditions)
+    → (IsTrue r ↔ AllOfSeen men turn Checked Stuck conditions.positions)
+    → IsTrue r ↔ IsMetBy heading replay ply P (on_positions conditions)
 reports_seen heading replay ply P conditions r men turn Checked Stuck seen reports =
     let same = positions_met heading replay ply P conditions in
-    let here = seen_said P men turn Checked Stuck conditions seen in
+    let here = seen_said P men turn Checked Stuck conditions.positions seen in
     (λ t. same.1 (here.0 (reports.0 t)), λ hold. reports.1 (here.1 (same.0 hold)))
 
 -- alternatives and one more
-hold_before : (heading : Heading) (replay : Replay) (ply : ℕ) (P : State) (before : List (List (Condition (List ℕ)))) (more : List (List (Condition (List ℕ))))
+hold_before : (heading : Heading) (replay : Replay) (ply : ℕ) (P : State) (before : List Conditions)
+    (more : List Conditions)
     → SomeHold heading replay ply P before → SomeHold heading replay ply P (before ++ more)
 hold_before heading replay ply P [] more hold = absurd hold
-hold_before heading replay ply P (first ∷ before) more hold = elim hold [ inl all ↦ inl all | inr some ↦ inr (hold_before heading replay ply P before more some) ]
+hold_before heading replay ply P (first ∷ before) more hold =
+    elim hold [
+      | inl all ↦ inl all
+      | inr some ↦ inr
+          (hold_before heading replay ply P before more some)
+    ]
 
-hold_after : (heading : Heading) (replay : Replay) (ply : ℕ) (P : State) (before : List (List (Condition (List ℕ)))) (more : List (List (Condition (List ℕ))))
+hold_after : (heading : Heading) (replay : Replay) (ply : ℕ) (P : State) (before : List Conditions)
+    (more : List Conditions)
     → SomeHold heading replay ply P more → SomeHold heading replay ply P (before ++ more)
 hold_after heading replay ply P [] more hold = hold
-hold_after heading replay ply P (first ∷ before) more hold = inr (hold_after heading replay ply P before more hold)
+hold_after heading replay ply P (first ∷ before) more hold =
+    inr (hold_after heading replay ply P before more hold)
 
-hold_either : (heading : Heading) (replay : Replay) (ply : ℕ) (P : State) (before : List (List (Condition (List ℕ)))) (more : List (List (Condition (List ℕ))))
-    → SomeHold heading replay ply P (before ++ more) → SomeHold heading replay ply P before ⊎ SomeHold heading replay ply P more
+hold_either : (heading : Heading) (replay : Replay) (ply : ℕ) (P : State) (before : List Conditions)
+    (more : List Conditions)
+    → SomeHold heading replay ply P (before ++ more)
+    → SomeHold heading replay ply P before ⊎ SomeHold heading replay ply P more
 hold_either heading replay ply P [] more hold = inr hold
 hold_either heading replay ply P (first ∷ before) more hold = elim hold [
   | inl all ↦ inl (inl all)
-  | inr some ↦ elim (hold_either heading replay ply P before more some) [ inl here ↦ inl (inr here) | inr there ↦ inr there ]
+  | inr some ↦ elim (hold_either heading replay ply P before more some)
+      [ inl here ↦ inl (inr here) | inr there ↦ inr there ]
 ]
 
 -- a ply meets alternatives and more where it meets those or these
-module _ (heading : Heading) (replay : Replay) (before more : List (List (Condition (List ℕ)))) where
-  either_met : (ply : ℕ) → Meets heading replay ply (before ++ more) → Meets heading replay ply before ⊎ Meets heading replay ply more
+module _ (heading : Heading) (replay : Replay) (before more : List Conditions) where
+  either_met : (ply : ℕ) → Meets heading replay ply (before ++ more)
+      → Meets heading replay ply before ⊎ Meets heading replay ply more
   either_met ply met = elim (hold_either heading replay ply met.position before more met.hold) [
     | inl hold ↦ inl (record { position = met.position; here = met.here; hold = hold })
     | inr hold ↦ inr (record { position = met.position; here = met.here; hold = hold })
   ]
 
-  met_before : (ply : ℕ) → Meets heading replay ply before → Meets heading replay ply (before ++ more)
-  met_before ply met = record { position = met.position; here = met.here; hold = hold_before heading replay ply met.position before more met.hold }
+  met_before : (ply : ℕ) → Meets heading replay ply before
+      → Meets heading replay ply (before ++ more)
+  met_before ply met =
+      record {
+        position = met.position;
+        here = met.here;
+        hold =
+            hold_before heading replay ply met.position before more met.hold;
+      }
 
   met_after : (ply : ℕ) → Meets heading replay ply more → Meets heading replay ply (before ++ more)
-  met_after ply met = record { position = met.position; here = met.here; hold = hold_after heading replay ply met.position before more met.hold }
+  met_after ply met =
+      record {
+        position = met.position;
+        here = met.here;
+        hold =
+            hold_after heading replay ply met.position before more met.hold;
+      }
 
 -- the least of the best so far and of the first ply of one more alternative
-pub next_best : (heading : Heading) (replay : Replay) (before : List (List (Condition (List ℕ)))) (more : List (List (Condition (List ℕ)))) (min max : ℕ) (best found : Option ℕ)
-    → IsFirst (λ plies. Meets heading replay plies before) min max best → IsFirstBefore (λ plies. Meets heading replay plies more) min (unwrap_or best (max + 1)) found
-    → IsFirst (λ plies. Meets heading replay plies (before ++ more)) min max (elim found [ None ↦ best | Some plies ↦ Some plies ])
+pub next_best : (heading : Heading) (replay : Replay) (before : List Conditions)
+    (more : List Conditions) (min max : ℕ) (best found : Option ℕ)
+    → IsFirst (λ plies. Meets heading replay plies before) min max best
+    → IsFirstBefore (λ plies. Meets heading replay plies more) min (unwrap_or best (max + 1))
+    found
+    → IsFirst (λ plies. Meets heading replay plies (before ++ more)) min max
+    (elim found [ None ↦ best | Some plies ↦ Some plies ])
 next_best heading replay before more min max best found first here = go best found first here
   where
-    either : (plies : ℕ) → Meets heading replay plies (before ++ more) → Meets heading replay plies before ⊎ Meets heading replay plies more
+    either : (plies : ℕ) → Meets heading replay plies (before ++ more)
+        → Meets heading replay plies before ⊎ Meets heading replay plies more
     either plies met = either_met heading replay before more plies met
 
-    go : (best found : Option ℕ) → IsFirst (λ plies. Meets heading replay plies before) min max best → IsFirstBefore (λ plies. Meets heading replay plies more) min (unwrap_or best (max + 1)) found
-        → IsFirst (λ plies. Meets heading replay plies (before ++ more)) min max (elim found [ None ↦ best | Some plies ↦ Some plies ])
-    go None None first here = λ n low high met. elim (either n met) [ inl old ↦ first n low high old | inr new ↦ here n low (omega arith) new ]
+    go : (best found : Option ℕ) → IsFirst (λ plies. Meets heading replay plies before) min max best
+        → IsFirstBefore (λ plies. Meets heading replay plies more) min (unwrap_or best (max + 1))
+        found
+        → IsFirst (λ plies. Meets heading replay plies (before ++ more)) min max
+        (elim found [ None ↦ best | Some plies ↦ Some plies ])
+    go None None first here =
+        λ n low high met. elim (either n met)
+        [ inl old ↦ first n low high old | inr new ↦ here n low (omega arith) new ]
     go None (Some plies) first here = (
       here.0,
       (let less = here.1 in omega arith),
-      (record { position = here.2.position; here = here.2.here; hold = hold_after heading replay plies here.2.position before more here.2.hold }),
+      (record {
+        position = here.2.position;
+        here = here.2.here;
+        hold =
+            hold_after heading replay plies here.2.position before more here.2.hold;
+      }),
       λ m low less met.
           let past = here.1 in
-          elim (either m met) [ inl old ↦ first m low (omega arith) old | inr new ↦ here.3 m low less new ],
+          elim (either m met)
+          [ inl old ↦ first m low (omega arith) old | inr new ↦ here.3 m low less new ],
     )
     go (Some best) None first here = (
       first.0,
       first.1,
-      (record { position = first.2.position; here = first.2.here; hold = hold_before heading replay best first.2.position before more first.2.hold }),
-      λ m low less met. elim (either m met) [ inl old ↦ first.3 m low less old | inr new ↦ here m low less new ],
+      (record {
+        position = first.2.position;
+        here = first.2.here;
+        hold =
+            hold_before heading replay best first.2.position before more first.2.hold;
+      }),
+      λ m low less met. elim (either m met)
+          [ inl old ↦ first.3 m low less old | inr new ↦ here m low less new ],
     )
     go (Some best) (Some plies) first here = (
       here.0,
       (let less = here.1 in let high = first.1 in omega arith),
-      (record { position = here.2.position; here = here.2.here; hold = hold_after heading replay plies here.2.position before more here.2.hold }),
+      (record {
+        position = here.2.position;
+        here = here.2.here;
+        hold =
+            hold_after heading replay plies here.2.position before more here.2.hold;
+      }),
       λ m low less met.
           let past = here.1 in
-          elim (either m met) [ inl old ↦ first.3 m low (omega arith) old | inr new ↦ here.3 m low less new ],
+          elim (either m met)
+          [ inl old ↦ first.3 m low (omega arith) old | inr new ↦ here.3 m low less new ],
     )
 
--- one more alternative of which what it says of the game is so is kept by what it says of positions, and one of which it is not so is dropped
-pub kept_one : (heading : Heading) (replay : Replay) (ply : ℕ) (P : State) (before rest : List (List (Condition (List ℕ)))) (own : List (Condition (List ℕ))) (most : ℕ)
+-- one more alternative of which what it says of the game is so is kept by what it says of
+-- positions, and one of which it is not so is dropped
+pub kept_one : (heading : Heading) (replay : Replay) (ply : ℕ) (P : State)
+    (before rest : List Conditions) (own : Conditions) (most : ℕ)
     → AllOfGame heading replay own → AllAskWithin most own
-    → SomeHold heading replay ply P ((before ++ on_positions own ∷ []) ++ rest) ↔ SomeHold heading replay ply P (before ++ own ∷ rest)
+    → SomeHold heading replay ply P ((before ++ on_positions own ∷ []) ++ rest)
+    ↔ SomeHold heading replay ply P (before ++ own ∷ rest)
 kept_one heading replay ply P before rest own most of_game within =
     let parts = met_parted heading replay ply P own in
     let same = positions_met heading replay ply P own in
     let still = all_still replay ply most own within in
-    let spans = no_spans_hold (FitsAt replay own) ply own (within_no_spans most own within) in (
+    let spans = no_spans_hold (FitsAt replay own) ply own.spans within.2 in (
       λ hold. elim (hold_either heading replay ply P (before ++ on_positions own ∷ []) rest hold) [
         | inl front ↦ elim (hold_either heading replay ply P before (on_positions own ∷ []) front) [
           | inl old ↦ hold_before heading replay ply P before (own ∷ rest) old
-          | inr here ↦ hold_after heading replay ply P before (own ∷ rest) (inl (parts.1 (of_game, same.0 (one_holds heading replay ply P (on_positions own) here), still, spans)))
+          | inr here ↦ hold_after heading replay ply P before (own
+              ∷ rest) (inl
+              (parts.1 (
+                of_game,
+                same.0 (one_holds heading replay ply P (on_positions own) here),
+                still,
+                spans,
+              )))
         ]
         | inr there ↦ hold_after heading replay ply P before (own ∷ rest) (inr there)
       ],
       λ hold. elim (hold_either heading replay ply P before (own ∷ rest) hold) [
-        | inl old ↦ hold_before heading replay ply P (before ++ on_positions own ∷ []) rest (hold_before heading replay ply P before (on_positions own ∷ []) old)
+        | inl old ↦ hold_before heading replay ply P (before ++ on_positions own
+            ∷ []) rest (hold_before heading replay ply P before (on_positions own ∷ []) old)
         | inr more ↦ elim more [
-          | inl here ↦ hold_before heading replay ply P (before ++ on_positions own ∷ []) rest (hold_after heading replay ply P before (on_positions own ∷ []) (inl (same.1 (parts.0 here).1)))
+          | inl here ↦ hold_before heading replay ply P (before ++ on_positions own
+              ∷ []) rest (hold_after heading replay ply P before (on_positions own
+              ∷ []) (inl (same.1 (parts.0 here).1)))
           | inr there ↦ hold_after heading replay ply P (before ++ on_positions own ∷ []) rest there
         ]
       ],
     )
 
-pub dropped_one : (heading : Heading) (replay : Replay) (ply : ℕ) (P : State) (before rest : List (List (Condition (List ℕ)))) (own : List (Condition (List ℕ))) (r : Bool) → r ≡ false
-    → (IsTrue r ↔ AllOfGame heading replay own) → SomeHold heading replay ply P (before ++ rest) ↔ SomeHold heading replay ply P (before ++ own ∷ rest)
+pub dropped_one : (heading : Heading) (replay : Replay) (ply : ℕ) (P : State)
+    (before rest : List Conditions) (own : Conditions) (r : Bool) → r ≡ false
+    → (IsTrue r ↔ AllOfGame heading replay own)
+    → SomeHold heading replay ply P (before ++ rest)
+    ↔ SomeHold heading replay ply P (before ++ own ∷ rest)
 dropped_one heading replay ply P before rest own r fails reports = (
   λ hold. elim (hold_either heading replay ply P before rest hold) [
     | inl old ↦ hold_before heading replay ply P before (own ∷ rest) old
@@ -452,35 +476,52 @@ dropped_one heading replay ply P before rest own r fails reports = (
   λ hold. elim (hold_either heading replay ply P before (own ∷ rest) hold) [
     | inl old ↦ hold_before heading replay ply P before rest old
     | inr more ↦ elim more [
-      | inl here ↦ let so : IsTrue r = reports.1 ((met_parted heading replay ply P own).0 here).0 in absurd (cc)
+      | inl here ↦ let so : IsTrue r = reports.1 ((met_parted heading replay ply P own).0 here).0 in
+          absurd (cc)
       | inr there ↦ hold_after heading replay ply P before rest there
     ]
   ],
 )
 
 -- the same plies meet alternatives that hold of the same positions
-pub same_plies : (heading : Heading) (replay : Replay) (alternatives others : List (List (Condition (List ℕ))))
-    → ((ply : ℕ) (P : State) → SomeHold heading replay ply P alternatives ↔ SomeHold heading replay ply P others) → (ply : ℕ) → Meets heading replay ply alternatives ↔ Meets heading replay ply others
+pub same_plies : (heading : Heading) (replay : Replay) (alternatives others : List Conditions)
+    → ((ply : ℕ) (P : State) → SomeHold heading replay ply P alternatives
+    ↔ SomeHold heading replay ply P others) → (ply : ℕ)
+    → Meets heading replay ply alternatives ↔ Meets heading replay ply others
 same_plies heading replay alternatives others same ply = (
-  λ met. record { position = met.position; here = met.here; hold = (same ply met.position).0 met.hold },
-  λ met. record { position = met.position; here = met.here; hold = (same ply met.position).1 met.hold },
+  λ met. record {
+    position = met.position;
+    here = met.here;
+    hold =
+        (same ply met.position).0 met.hold;
+  },
+  λ met. record {
+    position = met.position;
+    here = met.here;
+    hold =
+        (same ply met.position).1 met.hold;
+  },
 )
 
 -- the answers for each ply, with one more alternative
-module _ (heading : Heading) (replay : Replay) (before : List (List (Condition (List ℕ)))) (own : List (Condition (List ℕ))) where
+module _ (heading : Heading) (replay : Replay) (before : List Conditions) (own : Conditions) where
   pub met_added : (old new : List Bool) → AllOfGame heading replay own → length new ≡ length old
-      → ((ply : ℕ) → ply < length old → IsTrue (get_or new ply false) ↔ (IsTrue (get_or old ply false) ⊎ FitsAbout replay own ply))
+      → ((ply : ℕ) → ply < length old → IsTrue (get_or new ply false)
+      ↔ (IsTrue (get_or old ply false) ⊎ FitsAbout replay own ply))
       → AreMet heading replay before old → AreMet heading replay (before ++ own ∷ []) new
   met_added old new of_game size reports met = record {
     each = size ∙ met.each;
     reports = λ ply is here.
-        let within : ply < length old = let less = slice_get_within new ply is here in omega (arith, less, size) in
-        let so_far = met.reports ply (get_or old ply false) (slice_get-get_or old ply false within) in
+        let within : ply < length old = let less = slice_get_within new ply is here in
+        omega (arith, less, size) in
+        let so_far = met.reports ply (get_or old ply false) (slice_get-get_or old ply false within)
+        in
         let now = reports ply within in
         let same : get_or new ply false ≡ is = get_or_from_slice_get new ply is false here in (
           λ t. elim (now.0 (same ∙ t)) [
             | inl old ↦ met_before heading replay before (own ∷ []) ply (so_far.0 old)
-            | inr fits ↦ met_after heading replay before (own ∷ []) ply (one_meets heading replay ply own of_game fits)
+            | inr fits ↦ met_after heading replay before (own
+                ∷ []) ply (one_meets heading replay ply own of_game fits)
           ],
           λ all. sym same ∙ elim (either_met heading replay before (own ∷ []) ply all) [
             | inl old ↦ now.1 (inl (so_far.1 old))
@@ -489,7 +530,8 @@ module _ (heading : Heading) (replay : Replay) (before : List (List (Condition (
         );
   }
 
-  pub met_dropped : (met : List Bool) (r : Bool) → r ≡ false → (IsTrue r ↔ AllOfGame heading replay own)
+  pub met_dropped : (met : List Bool) (r : Bool) → r ≡ false
+      → (IsTrue r ↔ AllOfGame heading replay own)
       → AreMet heading replay before met → AreMet heading replay (before ++ own ∷ []) met
   met_dropped answers r fails reports met = record {
     each = met.each;
@@ -497,23 +539,31 @@ module _ (heading : Heading) (replay : Replay) (before : List (List (Condition (
       λ t. met_before heading replay before (own ∷ []) ply ((met.reports ply is here).0 t),
       λ all. elim (either_met heading replay before (own ∷ []) ply all) [
         | inl old ↦ (met.reports ply is here).1 old
-        | inr one ↦ let so : IsTrue r = reports.1 (game_of heading replay ply own one) in absurd (cc)
+        | inr one ↦ let so : IsTrue r = reports.1 (game_of heading replay ply own one) in
+            absurd (cc)
       ],
     );
   }
 
 -- no ply meets no alternative
-pub none_met : (heading : Heading) (replay : Replay) (count : ℕ) → length replay.positions ≡ count + 1 → AreMet heading replay [] (replicate count false ++ false ∷ [])
+pub none_met : (heading : Heading) (replay : Replay) (count : ℕ)
+    → length replay.positions ≡ count + 1
+    → AreMet heading replay [] (replicate count false ++ false ∷ [])
 none_met heading replay count size = record {
   each = lasting count ∙ sym size;
-  reports = λ ply is here. (λ t. let no = all_false count ply is here in absurd (cc (no, t)), λ met. absurd met.hold);
+  reports = λ ply is here. (
+    λ t. let no = all_false count ply is here in
+        absurd (cc (no, t)),
+    λ met. absurd met.hold,
+  );
 }
   where
     lasting : (count : ℕ) → length (replicate count false ++ false ∷ []) ≡ count + 1
     lasting zero = refl
     lasting (suc count) = let rest = lasting count in omega (arith, rest)
 
-    all_false : (count ply : ℕ) (is : Bool) → slice_get (replicate count false ++ false ∷ []) ply ≡ Some is → is ≡ false
+    all_false : (count ply : ℕ) (is : Bool)
+        → slice_get (replicate count false ++ false ∷ []) ply ≡ Some is → is ≡ false
     all_false zero zero is here = cc (here)
     all_false zero (suc ply) is here = absurd (cc (here))
     all_false (suc count) zero is here = cc (here)

@@ -1,5 +1,6 @@
 -- Whether the value of a tag stands in a relation to a text is settled.
-use Rattle.std.proofs.Common.{◌≡◌, ◌↔◌, ◌==◌, ◌<◌, ℕ, length, Some, None, Bool, true, false, List, [], ◌∷◌, IsTrue, refl, sym, ap, inl, inr, arith}
+use Rattle.std.proofs.Common.{◌≡◌, ◌↔◌, ◌==◌, ◌<◌, ℕ, length, Some, None, Bool, true, false, List}
+use Rattle.std.proofs.Common.{[], ◌∷◌, IsTrue, refl, sym, ap, inl, inr, arith}
 use Rattle.std.proofs.lemmas.Bool.{eqb-true, cases_lt}
 use Rattle.std.proofs.lemmas.Bool.Decides.{nat_tests}
 use Rattle.std.specs.declared.cmp.Ordering.{Ordering}
@@ -12,12 +13,15 @@ use Rattle.pgn_criteria.specs.Public.Comparing.{order_of, Allows, Stands, Compar
 use Rattle.pgn_criteria.specs.declared.compare.Comparison.{Comparison}
 use Rattle.pgn_criteria.specs.declared.compare.Comparison.TheVariants as compared
 use Rattle.pgn_criteria.specs.declared.compare.Relation.{Relation}
-use Rattle.pgn_criteria.specs.declared.compare.Relation.TheVariants.{Equal, Unequal, Less, LessOrEqual, Greater, GreaterOrEqual, Has, Begins}
+use Rattle.pgn_criteria.specs.declared.compare.Relation.TheVariants.{Equal, Unequal, Less}
+use Rattle.pgn_criteria.specs.declared.compare.Relation.TheVariants.{LessOrEqual, Greater}
+use Rattle.pgn_criteria.specs.declared.compare.Relation.TheVariants.{GreaterOrEqual, Has, Begins}
 use Rattle.pgn_criteria.proofs.CompareFacts.{stands_so}
 use Rattle.pgn_criteria.proofs.WithinFacts.{begins_next, has_next, has_at_once, has_nothing}
 
 -- where a test of the first fact is one of the second, the second is settled with the first
-pub settled_by : {A B : Type 0} → ((r : Bool) → (IsTrue r ↔ A) → IsTrue r ↔ B) → Settled A → Settled B
+pub settled_by : {A B : Type 0} → ((r : Bool) → (IsTrue r ↔ A) → IsTrue r ↔ B) → Settled A
+    → Settled B
 settled_by how (inl a) = inl ((how true (λ t. a, λ x. refl)).0 refl)
 settled_by how (inr none) =
     inr (λ b. let t : false ≡ true = (how false (λ f. absurd (cc), λ a. absurd (none a))).1 b in cc)
@@ -29,10 +33,12 @@ settled_test r reports = settled_like reports.0 reports.1 (settled_true r)
 -- ---- numbers
 
 settled_below : (a b : ℕ) → Settled (a < b)
-settled_below a b = elim (cases_lt a b) [ inl less ↦ inl less | inr over ↦ inr (λ less. omega (arith, less, over)) ]
+settled_below a b =
+    elim (cases_lt a b) [ inl less ↦ inl less | inr over ↦ inr (λ less. omega (arith, less, over)) ]
 
 settled_same : (a b : ℕ) → Settled (a ≡ b)
-settled_same a b = settled_like (eqb-true a b) (λ e. grind (arith, nat_tests)) (settled_true (a == b))
+settled_same a b =
+    settled_like (eqb-true a b) (λ e. grind (arith, nat_tests)) (settled_true (a == b))
 
 pub settled_compared : (comparison : Comparison) (a b : ℕ) → Settled (Compares comparison a b)
 settled_compared compared.Equal a b = settled_same a b
@@ -63,7 +69,8 @@ settled_begins : (a b : List ℕ) → Settled (Allows Begins a b)
 settled_begins a [] = inl (a, refl)
 settled_begins [] (y ∷ b) = inr (λ begun. let e = begun.1 in cc)
 settled_begins (x ∷ a) (y ∷ b) = elim (settled_same x y) [
-  | inl same ↦ let next = begins_next (x ∷ a) (y ∷ b) a b x refl (ap (λ (z : ℕ). z ∷ b) (sym same)) in settled_like next.0 next.1 (settled_begins a b)
+  | inl same ↦ let next = begins_next (x ∷ a) (y ∷ b) a b x refl (ap (λ (z : ℕ). z ∷ b) (sym same))
+      in settled_like next.0 next.1 (settled_begins a b)
   | inr other ↦ inr (λ begun. let e = begun.1 in other (cc))
 ]
 
@@ -89,21 +96,27 @@ settled_relation Begins a b = settled_begins a b
 -- a text is the contents of a string where the longest contents that it begins with are all of it
 settled_contents : (text : List ℕ) → Settled (IsContents text)
 settled_contents text =
-    elim (contents_front false text) as (λ o. o ≡ contents_front false text → Settled (IsContents text)) [
+    elim (contents_front false text) as (λ o. o ≡ contents_front false text
+    → Settled (IsContents text)) [
       | None ↦ λ none. settled_test false (is_contents-none text none)
-      | Some found ↦ λ read. settled_test (length found.1 == 0) (is_contents-some text found.0 found.1 (length found.1 == 0) read refl)
+      | Some found ↦ λ read. settled_test (length found.1 == 0)
+          (is_contents-some text found.0 found.1 (length found.1 == 0) read refl)
     ] refl
 
-settled_values : (relation : Relation) (given text : List ℕ) → IsContents given → IsContents text → Settled (Stands relation given text)
+settled_values : (relation : Relation) (given text : List ℕ) → IsContents given → IsContents text
+    → Settled (Stands relation given text)
 settled_values relation given text of_given of_text =
-    settled_by (λ r reports. stands_so relation given text r of_given of_text reports) (settled_relation relation (value_of given) (value_of text))
+    settled_by (λ r reports. stands_so relation given text r of_given of_text reports)
+    (settled_relation relation (value_of given) (value_of text))
 
 -- without contents of strings there are no values
-pub settled_stands : (relation : Relation) (given text : List ℕ) → Settled (Stands relation given text)
+pub settled_stands : (relation : Relation) (given text : List ℕ)
+    → Settled (Stands relation given text)
 settled_stands relation given text = elim (settled_contents given) [
   | inr none ↦ inr (λ stands. none (stands.signs, stands.has.spells, stands.has.each))
   | inl of_given ↦ elim (settled_contents text) [
-    | inr none ↦ inr (λ stands. none (stands.other_signs, stands.other_has.spells, stands.other_has.each))
+    | inr none ↦ inr (λ stands.
+        none (stands.other_signs, stands.other_has.spells, stands.other_has.each))
     | inl of_text ↦ settled_values relation given text of_given of_text
   ]
 ]

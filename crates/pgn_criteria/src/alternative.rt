@@ -1,15 +1,22 @@
 //! Alternatives of criteria.
-ghost use Rattle.std.specs.Prelude.{◌≡◌, ◌↔◌, false, List, map, IsTrue, IfOk, IfSome, MatchOption};
+ghost use Rattle.std.specs.Prelude.{◌≡◌, ◌↔◌, [], false, List, map, IsTrue, IfOk, IfSome};
+ghost use Rattle.std.specs.Prelude.{MatchOption};
 ghost use Rattle.chess.specs.Public.Placements.{Placement};
 ghost use Rattle.pgn_criteria.specs.Private.Planning.{Plans};
-ghost use Rattle.pgn_criteria.specs.Private.Stages.{AreLegal, AreGood, AllOfGame, AllOfHeading, AllAskWithin, AreFreeOfMoves, AllOfPly, AllSaid, AllOfSeen, AreFixed, AreMirrored, OfPattern, AllOfPatterns, AllOfStage, AllOfRest, AreNoSpans, AreNoCounts, SpansStand, claim_seen, seen, stage_of};
+ghost use Rattle.pgn_criteria.specs.Private.Stages.{AreLegal, AreGood, AllOfGame, AllOfHeading};
+ghost use Rattle.pgn_criteria.specs.Private.Stages.{AllAskWithin, AreFreeOfMoves, AllOfPly};
+ghost use Rattle.pgn_criteria.specs.Private.Stages.{AllSaid, AllOfSeen, AreFixed, AreMirrored};
+ghost use Rattle.pgn_criteria.specs.Private.Stages.{OfPattern, AllOfPatterns, AllOfStage};
+ghost use Rattle.pgn_criteria.specs.Private.Stages.{AllOfRest, AreNoCounts, SpansStand};
+ghost use Rattle.pgn_criteria.specs.Private.Stages.{position_seen, seen, stage_of};
 ghost use Rattle.pgn_criteria.specs.Public.Sieves.{NowhereSeen, codes_in};
 ghost use Rattle.pgn_criteria.specs.Private.Marks.{AreMarksOf, FitsSeen};
 ghost use Rattle.pgn_criteria.specs.Private.Tracks.{Nowhere};
 ghost use Rattle.pgn_criteria.specs.declared.meets.Stage.TheVariants.{Squares};
 
 use crate::by_marks::marks_of_all;
-use crate::condition::{Claim, Condition};
+use crate::condition::{GameClaim, MoveClaim, PositionClaim, PositionCondition, SpanClaim, Stated};
+use crate::conditions::Conditions;
 use crate::headed::Headed;
 use crate::marks::marks_are_shown;
 use crate::meets::{
@@ -21,16 +28,17 @@ use crate::numbers::numbers_are_shown;
 use crate::plan::Plan;
 use crate::seen::Seen;
 use crate::sieve::Sieve;
-use crate::spans::{are_no_counts, are_no_spans, spans_stand};
+use crate::spans::{are_no_counts, spans_stand};
 use chess::SquareSet;
 use pgn_game::Replayed;
 use std::alloc::{AllocError, Global};
 use std::marker::Model;
 
-/// Conditions as they are tried at a position, whether they have `either` or not. Contracts see the conditions.
+/// Conditions as they are tried at a position, whether they have `either` or not. Contracts see the
+/// conditions.
 #[derive(Drop)]
 pub(crate) struct Form {
-    pub(crate) conditions: Vec<Condition<Vec<u8>>>,
+    pub(crate) conditions: Vec<PositionCondition<Vec<u8>>>,
     /// What the patterns among them ask of squares, and where men may stand then.
     plan: Plan,
     free: SquareSet,
@@ -38,7 +46,8 @@ pub(crate) struct Form {
     is_planned: bool,
     /// Whether the others say nothing of positions.
     is_bare: bool,
-    /// Whether the sieve is asked of a position before the plan. It takes fewer steps where patterns are asked either way.
+    /// Whether the sieve is asked of a position before the plan. It takes fewer steps where
+    /// patterns are asked either way.
     is_sifted: bool,
     /// A man who has to stand on known squares, or may not, if the patterns say so of one.
     sieve: Option<Sieve>,
@@ -47,12 +56,12 @@ pub(crate) struct Form {
 impl Model for Form {
     ghost use Rattle.std.specs.Prelude.{ℕ, List, IfSome, IsTrue, map};
     ghost use Rattle.pgn_criteria.specs.Private.Tracks.{Sifts};
-    ghost use Rattle.pgn_criteria.specs.declared.condition.Condition.{Condition};
+    ghost use Rattle.pgn_criteria.specs.declared.condition.PositionCondition.{PositionCondition};
     ghost use Rattle.pgn_criteria.specs.Private.Layouts.{IsRest};
     ghost use Rattle.pgn_criteria.specs.Private.Planning.{IsSoundPlan, IsPlanned};
     ghost use Rattle.pgn_criteria.specs.Private.Stages.{ArePatterns, seen};
 
-    ghost Value = { List (Condition (List ℕ)) };
+    ghost Value = { List (PositionCondition (List ℕ)) };
 
     ghost view = { λ a. map (seen (λ text. text.items)) a.conditions.items };
 
@@ -68,44 +77,57 @@ impl Model for Form {
 /// Conditions that are to hold together. Contracts see the conditions.
 #[derive(Drop)]
 pub struct Alternative {
-    /// The conditions as they stand.
+    pub(crate) games: Vec<Stated<GameClaim<Vec<u8>>>>,
+    moves: Vec<Stated<MoveClaim<Vec<u8>>>>,
+    pub(crate) spans: Vec<SpanClaim>,
+    /// The conditions on positions as they stand.
     pub(crate) plain: Form,
-    /// Where some have `either`, the conditions that hold at a position where those hold at its mirror, and the others at the position.
+    /// Where some have `either`, the conditions that hold at a position where those hold at its
+    /// mirror, and the others at the position.
     mirrored: Option<Form>,
 }
 
 impl Model for Alternative {
-    ghost use Rattle.std.specs.Prelude.{ℕ, List, MatchOption};
-    ghost use Rattle.pgn_criteria.specs.declared.condition.Condition.{Condition};
-    ghost use Rattle.pgn_criteria.specs.Private.Stages.{AreFixed, AreMirrored};
+    ghost use Rattle.std.specs.Prelude.{MatchOption, map};
+    ghost use Rattle.pgn_criteria.specs.Public.Conditions.{Conditions as Asked};
+    ghost use Rattle.pgn_criteria.specs.Private.Stages.{AreFixed, AreMirrored, game_seen};
+    ghost use Rattle.pgn_criteria.specs.Private.Stages.{move_seen, stated};
 
-    ghost Value = { List (Condition (List ℕ)) };
+    ghost Value = { Asked };
 
-    ghost view = { λ a. a.plain };
+    ghost view = { λ a. record {
+      games = map (stated (game_seen (λ text. text.items))) a.games.items;
+      positions = a.plain;
+      moves = map (stated (move_seen (λ text. text.items))) a.moves.items;
+      spans = a.spans.items;
+    } };
 
     ghost invariant = { λ a. MatchOption a.mirrored (AreFixed a.plain) (λ form. AreMirrored form a.plain) };
 }
 
-/// Plans what a condition asks of squares, if it is a pattern. Answers whether that is all that it asks.
+/// Plans what a condition asks of squares, if it is a pattern. Answers whether that is all that it
+/// asks.
 fn plan_one(
     alloc: Global,
     plan: &mut Plan,
-    condition: &Condition<Vec<u8>>,
+    condition: &PositionCondition<Vec<u8>>,
 ) -> Result<bool, AllocError>
-    ensures { IfOk result (Plans (λ p. stage_of (claim_seen (λ text. text.items) condition.now.claim) ≡ Squares → OfPattern p (seen (λ text. text.items) condition.now)) (λ p. Unit {0}) plan.old plan.new) }
+    ensures { IfOk result
+        (Plans (λ p. stage_of (position_seen (λ text. text.items) condition.now.claim) ≡ Squares
+        → OfPattern p (seen (λ text. text.items) condition.now)) (λ p. Unit {0}) plan.old plan.new) }
 {
     if stage_of(&condition.claim) != Stage::Squares {
         return Ok(true);
     }
     match &condition.claim {
-        Claim::Fen(pattern) => {
+        PositionClaim::Fen(pattern) => {
             if condition.is_denied {
                 plan.add_denied(alloc, pattern)
             } else {
                 plan.add_pattern(pattern)
             }
         }
-        Claim::Flip(pattern) => {
+        PositionClaim::Flip(pattern) => {
             if condition.is_denied {
                 plan.add_no_way(alloc, pattern)
             } else {
@@ -116,13 +138,16 @@ fn plan_one(
     }
 }
 
-/// Plans what conditions ask of squares. Answers whether that is all that the patterns among them ask.
+/// Plans what conditions ask of squares. Answers whether that is all that the patterns among them
+/// ask.
 fn plan_all(
     alloc: Global,
     plan: &mut Plan,
-    conditions: &[Condition<Vec<u8>>],
+    conditions: &[PositionCondition<Vec<u8>>],
 ) -> Result<bool, AllocError>
-    ensures { IfOk result (Plans (λ p. AllOfPatterns p (map (seen (λ text. text.items)) conditions.now)) (λ p. Unit {0}) plan.old plan.new) }
+    ensures { IfOk result
+        (Plans (λ p. AllOfPatterns p (map (seen (λ text. text.items)) conditions.now)) (λ p.
+        Unit {0}) plan.old plan.new) }
 {
     let mut is_all = true;
     for condition in conditions {
@@ -133,7 +158,7 @@ fn plan_all(
 
 impl Form {
     /// The form with these conditions.
-    fn new(alloc: Global, conditions: Vec<Condition<Vec<u8>>>) -> Result<Self, AllocError>
+    fn new(alloc: Global, conditions: Vec<PositionCondition<Vec<u8>>>) -> Result<Self, AllocError>
         ensures { IfOk result (λ own. own ≡ map (seen (λ text. text.items)) conditions.items) }
     {
         let mut plan = Plan::new(alloc);
@@ -153,10 +178,12 @@ impl Form {
         })
     }
 
-    /// Whether the patterns can be met before the plies or after one of them, by the squares of one man.
+    /// Whether the patterns can be met before the plies or after one of them, by the squares of one
+    /// man.
     #[inline(always)]
     fn may_be_met<S: Seen>(&self, start: &S, plies: &[u8]) -> bool
-        ensures { result ≡ false → Nowhere (λ men. AllOfPatterns men self.now) (S.men start.now) (codes_in plies.now) }
+        ensures { result ≡ false
+            → Nowhere (λ men. AllOfPatterns men self.now) (S.men start.now) (codes_in plies.now) }
     {
         match &self.sieve {
             Some(sieve) => sieve.lets_through(start, plies),
@@ -164,10 +191,13 @@ impl Form {
         }
     }
 
-    /// Whether the marks that the conditions need, and as few men as they allow, may be so before the plies or after one of them.
+    /// Whether the marks that the conditions need, and as few men as they allow, may be so before
+    /// the plies or after one of them.
     #[inline(always)]
     fn needs_are_shown<S: Seen>(&self, start: &S, plies: &[u8]) -> bool
-        ensures { result ≡ false → NowhereSeen (FitsSeen self.now) (S.men start.now) (S.turn start.now) (S.checked start.now) (S.stuck start.now) (codes_in plies.now) }
+        ensures { result ≡ false
+            → NowhereSeen (FitsSeen self.now) (S.men start.now) (S.turn start.now)
+            (S.checked start.now) (S.stuck start.now) (codes_in plies.now) }
     {
         if !marks_are_shown(&self.conditions, start, plies) {
             return false;
@@ -175,10 +205,12 @@ impl Form {
         numbers_are_shown(&self.conditions, start, plies)
     }
 
-    /// The marks of positions with which all conditions hold. It is `None` where one of them speaks of men or of moves.
+    /// The marks of positions with which all conditions hold. It is `None` where one of them speaks
+    /// of men.
     fn marks(&self) -> Option<u8>
-        ensures { IfSome result (λ set. AreFreeOfMoves self.now
-            × ((men : Placement) → AreMarksOf set (λ turn check stuck. AllSaid men turn (IsTrue check) (IsTrue stuck) self.now))) }
+        ensures { IfSome result (λ set. (men : Placement)
+            → AreMarksOf set (λ turn check stuck.
+            AllSaid men turn (IsTrue check) (IsTrue stuck) self.now)) }
     {
         marks_of_all(&self.conditions)
     }
@@ -186,7 +218,9 @@ impl Form {
     /// Whether the position meets the conditions that speak of it and are no patterns.
     #[inline(always)]
     fn rest_is_met<S: Seen>(&self, position: &S) -> bool
-        ensures { IsTrue result ↔ AllOfRest (S.men position.now) (S.turn position.now) (S.checked position.now) (S.stuck position.now) self.now }
+        ensures { IsTrue result
+            ↔ AllOfRest (S.men position.now) (S.turn position.now) (S.checked position.now)
+            (S.stuck position.now) self.now }
     {
         self.is_bare || are_of_rest(&self.conditions, position)
     }
@@ -202,10 +236,13 @@ impl Form {
         }
     }
 
-    /// Whether the position meets all conditions that speak of it. What is planned is looked at first, and patterns of which that is not all last.
+    /// Whether the position meets all conditions that speak of it. What is planned is looked at
+    /// first, and patterns of which that is not all last.
     #[inline(always)]
     fn is_met<S: Seen>(&self, position: &S) -> bool
-        ensures { IsTrue result ↔ AllSaid (S.men position.now) (S.turn position.now) (S.checked position.now) (S.stuck position.now) self.now }
+        ensures { IsTrue result
+            ↔ AllSaid (S.men position.now) (S.turn position.now) (S.checked position.now)
+            (S.stuck position.now) self.now }
     {
         if self.is_sifted && !self.may_stand(position) {
             return false;
@@ -219,9 +256,10 @@ impl Form {
 /// What is tried at the mirror of a position, if one of the conditions has `either`.
 fn mirrored_form(
     alloc: Global,
-    conditions: &[Condition<Vec<u8>>],
+    conditions: &[PositionCondition<Vec<u8>>],
 ) -> Result<Option<Form>, AllocError>
-    ensures { IfOk result (λ found. MatchOption found (AreFixed (map (seen (λ text. text.items)) conditions.now))
+    ensures { IfOk result (λ found.
+        MatchOption found (AreFixed (map (seen (λ text. text.items)) conditions.now))
         (λ form. AreMirrored form (map (seen (λ text. text.items)) conditions.now))) }
 {
     if are_fixed(conditions) {
@@ -233,15 +271,18 @@ fn mirrored_form(
 
 impl Alternative {
     /// The alternative with these conditions.
-    pub(crate) fn new(
-        alloc: Global,
-        conditions: Vec<Condition<Vec<u8>>>,
-    ) -> Result<Self, AllocError>
-        ensures { IfOk result (λ own. own ≡ map (seen (λ text. text.items)) conditions.items) }
+    pub(crate) fn new(alloc: Global, conditions: Conditions) -> Result<Self, AllocError>
+        ensures { IfOk result (λ own. own ≡ conditions) }
     {
-        let mirrored = mirrored_form(alloc, &conditions)?;
-        let plain = Form::new(alloc, conditions)?;
-        Ok(Alternative { plain, mirrored })
+        let mirrored = mirrored_form(alloc, &conditions.positions)?;
+        let plain = Form::new(alloc, conditions.positions)?;
+        Ok(Alternative {
+            games: conditions.games,
+            moves: conditions.moves,
+            spans: conditions.spans,
+            plain,
+            mirrored,
+        })
     }
 
     /// Whether the game meets the conditions, as far as they speak of it alone.
@@ -251,23 +292,28 @@ impl Alternative {
         requires legal { AreLegal replayed.now }
         ensures { IsTrue result ↔ AllOfGame (H.heading game.now) replayed.now self.now }
     {
-        are_of_game(&self.plain.conditions, game, replayed)
+        are_of_game(&self.games, game, replayed)
     }
 
     /// Whether the tags and the result of the game meet the conditions that speak of them.
     pub(crate) fn is_of_heading<'a, H: Headed<'a>>(&'a self, game: &H) -> bool
         requires valid { H.valid game.now }
         requires good { AreGood self.now }
-        ensures { IsTrue result ↔ AllOfHeading (H.heading game.now) self.now }
+        ensures { IsTrue result ↔ AllOfHeading (H.heading game.now) self.now.games }
     {
-        are_of_heading(&self.plain.conditions, game)
+        are_of_heading(&self.games, game)
     }
 
-    /// How many first moves of the game the conditions ask for at most; `None` where they ask for each.
+    /// How many first moves of the game the conditions ask for at most; `None` where they ask for
+    /// each.
     pub(crate) fn opening(&self) -> Option<usize>
         ensures { IfSome result (λ most. AllAskWithin most self.now) }
     {
-        longest_opening(&self.plain.conditions)
+        if self.moves.is_empty() && self.spans.is_empty() {
+            Some(longest_opening(&self.games))
+        } else {
+            None
+        }
     }
 
     /// Whether the moves before and after so many plies meet the conditions that speak of them.
@@ -275,21 +321,27 @@ impl Alternative {
         requires { AreLegal replayed.now }
         ensures { IsTrue result ↔ AllOfPly replayed.now plies self.now }
     {
-        are_of_ply(&self.plain.conditions, replayed, plies)
+        are_of_ply(&self.moves, replayed, plies)
     }
 
     /// Whether none of the conditions speaks of the moves of the game.
     pub(crate) fn is_free_of_moves(&self) -> bool
         ensures { IsTrue result ↔ AreFreeOfMoves self.now }
     {
-        are_free_of_moves(&self.plain.conditions)
+        self.moves.is_empty() && self.spans.is_empty() && are_free_of_moves(&self.games)
     }
 
-    /// The marks of positions with which the conditions hold. It is `None` where one of them has `either`, or speaks of men or of moves.
+    /// The marks of positions with which the conditions hold. It is `None` where one of them has
+    /// `either`, or speaks of men or of moves.
     pub(crate) fn marks(&self) -> Option<u8>
         ensures { IfSome result (λ set. AreFreeOfMoves self.now
-            × ((men : Placement) → AreMarksOf set (λ turn check stuck. AllOfSeen men turn (IsTrue check) (IsTrue stuck) self.now))) }
+            × ((men : Placement)
+            → AreMarksOf set (λ turn check stuck.
+            AllOfSeen men turn (IsTrue check) (IsTrue stuck) self.now.positions))) }
     {
+        if !self.is_free_of_moves() {
+            return None;
+        }
         match &self.mirrored {
             Some(_) => None,
             None => self.plain.marks(),
@@ -298,29 +350,33 @@ impl Alternative {
 
     /// Whether none of the conditions has `for` or `count`.
     pub(crate) fn is_free_of_spans(&self) -> bool
-        ensures { IsTrue result ↔ AreNoSpans self.now }
+        ensures { IsTrue result ↔ (self.now.spans ≡ []) }
     {
-        are_no_spans(&self.plain.conditions)
+        self.spans.is_empty()
     }
 
     /// Whether none of the conditions has `count`.
     pub(crate) fn is_free_of_counts(&self) -> bool
-        ensures { IsTrue result ↔ AreNoCounts self.now }
+        ensures { IsTrue result ↔ AreNoCounts self.now.spans }
     {
-        are_no_counts(&self.plain.conditions)
+        are_no_counts(&self.spans)
     }
 
-    /// Whether `for` and `count` are met at a ply that begins a run of so many plies that fit, where so many fit in all.
+    /// Whether `for` and `count` are met at a ply that begins a run of so many plies that fit,
+    /// where so many fit in all.
     pub(crate) fn spans_stand(&self, run: u128, many: u128) -> bool
-        ensures { IsTrue result ↔ SpansStand run many self.now }
+        ensures { IsTrue result ↔ SpansStand run many self.now.spans }
     {
-        spans_stand(&self.plain.conditions, run, many)
+        spans_stand(&self.spans, run, many)
     }
 
-    /// Whether the position meets the conditions that speak of it, as they stand or with those that have `either` tried at its mirror.
+    /// Whether the position meets the conditions that speak of it, as they stand or with those that
+    /// have `either` tried at its mirror.
     #[inline(always)]
     pub(crate) fn is_met<S: Seen>(&self, position: &S) -> bool
-        ensures { IsTrue result ↔ AllOfSeen (S.men position.now) (S.turn position.now) (S.checked position.now) (S.stuck position.now) self.now }
+        ensures { IsTrue result
+            ↔ AllOfSeen (S.men position.now) (S.turn position.now) (S.checked position.now)
+            (S.stuck position.now) self.now.positions }
     {
         if self.plain.is_met(position) {
             return true;
@@ -334,7 +390,9 @@ impl Alternative {
     /// Whether some position before the plies or after one of them can meet the conditions.
     #[inline(always)]
     pub(crate) fn may_be_met<S: Seen>(&self, start: &S, plies: &[u8]) -> bool
-        ensures { result ≡ false → NowhereSeen (FitsSeen self.now) (S.men start.now) (S.turn start.now) (S.checked start.now) (S.stuck start.now) (codes_in plies.now) }
+        ensures { result ≡ false
+            → NowhereSeen (FitsSeen self.now.positions) (S.men start.now) (S.turn start.now)
+            (S.checked start.now) (S.stuck start.now) (codes_in plies.now) }
     {
         if !self.plain.needs_are_shown(start, plies) {
             return false;

@@ -1,11 +1,15 @@
-//! Why lines of criteria that are accepted mislead: what they say is never so, or they compare bytes where a number or a date is meant.
+//! Why lines of criteria that are accepted mislead: what they say is never so, or they compare
+//! bytes where a number or a date is meant.
 ghost use Rattle.std.specs.Prelude.{IfSome};
 ghost use Rattle.pgn_criteria.specs.Private.Doubts.{IsNever};
-ghost use Rattle.pgn_criteria.specs.Private.Stages.{claim_seen};
+ghost use Rattle.pgn_criteria.specs.Private.Stages.{position_seen};
 
-use crate::condition::{Claim, Condition};
+use crate::alternative::Alternative;
+use crate::condition::{
+    Condition, GameClaim, MoveClaim, PositionClaim, PositionCondition, SpanClaim, Stated,
+};
 use crate::cut::next_part;
-use crate::line::{core_of, is_nothing};
+use crate::line::{Meaning, meaning_of};
 use crate::meets::Criteria;
 use std::alloc::{AllocError, Global};
 
@@ -45,121 +49,163 @@ const ROW: &str =
     "for: each move changes who is to move, so turn holds at no two positions in a row";
 
 /// Why what a claim says of men is never so, where that is seen.
-fn men_doubt(claim: &Claim<Vec<u8>>) -> Option<&'static str>
-    ensures { IfSome result (λ why. IsNever (claim_seen (λ text. text.items) claim.now)) }
+fn men_doubt(claim: &PositionClaim<&[u8]>) -> Option<&'static str>
+    ensures { IfSome result (λ why. IsNever (position_seen (λ bytes. bytes.now) claim.now)) }
 {
     match claim {
-        Claim::Fen(pattern) if has_misfit(pattern) => Some(RANK),
-        Claim::Flip(pattern) if has_misfit(pattern) => Some(RANK),
-        Claim::Material { white, black } if let_no_kings(white, black) => Some(KINGS),
+        PositionClaim::Fen(pattern) if has_misfit(pattern) => Some(RANK),
+        PositionClaim::Flip(pattern) if has_misfit(pattern) => Some(RANK),
+        PositionClaim::Material { white, black } if let_no_kings(white, black) => Some(KINGS),
         _ => None,
     }
 }
 
-/// Why what a claim says of moves is never so, where that is seen: it has a word that is no move's standard text.
-fn word_doubt(claim: &Claim<Vec<u8>>) -> Option<&'static str> {
-    match claim {
-        Claim::Moves(words) if !can_be_moves(words) => Some(MOVES),
-        Claim::Next(word) if !can_be_move(word) => Some(NEXT),
-        Claim::Played(word) if !can_be_move(word) => Some(PLAYED),
-        _ => None,
-    }
-}
-
-/// Whether the one condition sets who is to move, and the other asks for two positions in a row or more.
-fn is_row(turn: &Condition<Vec<u8>>, span: &Condition<Vec<u8>>) -> bool {
-    let Claim::Turn(_) = turn.claim else {
+/// Whether the condition sets who is to move, and the claim asks for two positions in a row or
+/// more.
+fn is_row<T>(condition: &PositionCondition<T>, span: &SpanClaim) -> bool {
+    let PositionClaim::Turn(_) = condition.claim else {
         return false;
     };
-    match span.claim {
-        Claim::For(count) => !turn.is_either && count > 1,
-        _ => false,
+    match span {
+        SpanClaim::For(count) => !condition.is_either && *count > 1,
+        SpanClaim::Count { .. } => false,
     }
 }
 
 /// Whether the one condition asks for stalemate, and the other for check or mate.
-fn is_stuck_in_check(stalemate: &Condition<Vec<u8>>, check: &Condition<Vec<u8>>) -> bool {
-    let Claim::Stalemate = stalemate.claim else {
+fn is_stuck_in_check<T, U>(stalemate: &PositionCondition<T>, check: &PositionCondition<U>) -> bool {
+    let PositionClaim::Stalemate = stalemate.claim else {
         return false;
     };
     match check.claim {
-        Claim::Check | Claim::Mate => !stalemate.is_denied && !check.is_denied,
+        PositionClaim::Check | PositionClaim::Mate => !stalemate.is_denied && !check.is_denied,
         _ => false,
     }
 }
 
-/// Why two conditions of an alternative never hold together, where that is seen.
-fn pair_doubt(one: &Condition<Vec<u8>>, other: &Condition<Vec<u8>>) -> Option<&'static str> {
-    if is_row(one, other) || is_row(other, one) {
-        return Some(ROW);
+/// How many conditions of an alternative stand before a line.
+#[derive(Clone, Copy)]
+struct Before {
+    /// Of those on a position.
+    positions: usize,
+    /// Of those on the plies at which the others hold.
+    spans: usize,
+}
+
+impl Before {
+    /// None.
+    fn nothing() -> Self {
+        Before {
+            positions: 0,
+            spans: 0,
+        }
     }
-    if is_stuck_in_check(one, other) || is_stuck_in_check(other, one) {
-        return Some(STUCK);
+
+    /// With this one too.
+    fn with<T>(self, condition: &Condition<T>) -> Self {
+        match condition {
+            Condition::Position(_) => Before {
+                positions: self.positions.saturating_add(1),
+                spans: self.spans,
+            },
+            Condition::Span(_) => Before {
+                positions: self.positions,
+                spans: self.spans.saturating_add(1),
+            },
+            _ => self,
+        }
+    }
+}
+
+/// Why a condition on a position misleads, by itself or beside those of its alternative before it.
+fn position_doubt(
+    own: &Alternative,
+    before: Before,
+    condition: &PositionCondition<&[u8]>,
+) -> Option<&'static str> {
+    if let Some(why) = men_doubt(&condition.claim) {
+        return Some(why);
+    }
+    for span in own.spans.iter().take(before.spans) {
+        if is_row(condition, span) {
+            return Some(ROW);
+        }
+    }
+    for other in own.plain.conditions.iter().take(before.positions) {
+        if is_stuck_in_check(condition, other) || is_stuck_in_check(other, condition) {
+            return Some(STUCK);
+        }
     }
     None
 }
 
-/// Why the condition at this place of an alternative misleads, by itself or beside those before it.
-fn doubt_at(conditions: &[Condition<Vec<u8>>], place: usize) -> Option<&'static str> {
-    let condition = conditions.get(place)?;
-    if let Some(why) = men_doubt(&condition.claim) {
-        return Some(why);
-    }
-    if let Some(why) = word_doubt(&condition.claim) {
-        return Some(why);
-    }
-    for before in conditions.iter().take(place) {
-        if let Some(why) = pair_doubt(before, condition) {
-            return Some(why);
+/// Why a claim on several plies misleads beside the conditions of its alternative before it.
+fn span_doubt(own: &Alternative, before: Before, claim: &SpanClaim) -> Option<&'static str> {
+    for condition in own.plain.conditions.iter().take(before.positions) {
+        if is_row(condition, claim) {
+            return Some(ROW);
         }
     }
-    tag_doubt(conditions, condition)
+    None
 }
 
-/// What stands on a line of criteria that are accepted.
-enum Content {
-    /// An empty line or a comment.
-    Nothing,
-    /// The word `or`.
-    Or,
-    /// A condition.
-    Condition,
+/// Why a condition on the game misleads: it has a word that is no move's standard text, or compares
+/// bytes of a tag where a number or a date
+/// is meant.
+fn game_doubt(own: &Alternative, condition: &Stated<GameClaim<&[u8]>>) -> Option<&'static str> {
+    match &condition.claim {
+        GameClaim::Moves(words) if !can_be_moves(words) => Some(MOVES),
+        _ => tag_doubt(&own.games, condition),
+    }
 }
 
-/// What stands on a line of criteria that are accepted.
-fn content_of(line: &[u8]) -> Content {
-    let core = core_of(line);
-    if core == b"or".as_slice() {
-        return Content::Or;
+/// Why what a claim says of a move is never so, where that is seen: its word is no move's standard
+/// text.
+fn move_doubt(claim: &MoveClaim<&[u8]>) -> Option<&'static str> {
+    match claim {
+        MoveClaim::Next(word) if !can_be_move(word) => Some(NEXT),
+        MoveClaim::Played(word) if !can_be_move(word) => Some(PLAYED),
+        _ => None,
     }
-    if is_nothing(core) {
-        return Content::Nothing;
+}
+
+/// Why a condition of an alternative misleads, by itself or beside others.
+fn doubt_of(
+    own: &Alternative,
+    before: Before,
+    condition: &Condition<&[u8]>,
+) -> Option<&'static str> {
+    match condition {
+        Condition::Game(condition) => game_doubt(own, condition),
+        Condition::Position(condition) => position_doubt(own, before, condition),
+        Condition::Move(condition) => move_doubt(&condition.claim),
+        Condition::Span(claim) => span_doubt(own, before, claim),
     }
-    Content::Condition
 }
 
 impl Criteria {
-    /// The lines that mislead, in their order. The text is the one that the criteria were read from.
+    /// The lines that mislead, in their order. The text is the one that the criteria were read
+    /// from.
     pub fn doubts(&self, alloc: Global, text: &[u8]) -> Result<Vec<Doubt>, AllocError> {
         let mut doubts = Vec::new(alloc);
         let mut alternative = 0usize;
-        let mut place = 0usize;
+        let mut before = Before::nothing();
         let mut rest = text;
-        for before in 0..text.len().saturating_add(1) {
+        for lines in 0..text.len().saturating_add(1) {
             let (line, after) = next_part(b'\n', rest);
-            match content_of(line) {
-                Content::Nothing => {}
-                Content::Or => {
+            match meaning_of(line) {
+                Some(Meaning::Or) => {
                     alternative = alternative.saturating_add(1);
-                    place = 0;
+                    before = Before::nothing();
                 }
-                Content::Condition => {
-                    if let Some(why) = self.doubt_in(alternative, place) {
-                        let line = before.saturating_add(1);
+                Some(Meaning::Asks(condition)) => {
+                    if let Some(why) = self.doubt_in(alternative, before, &condition) {
+                        let line = lines.saturating_add(1);
                         doubts.push(Doubt { line, why })?;
                     }
-                    place = place.saturating_add(1);
+                    before = before.with(&condition);
                 }
+                _ => {}
             }
             let Some(after) = after else {
                 return Ok(doubts);
@@ -169,9 +215,14 @@ impl Criteria {
         Ok(doubts)
     }
 
-    /// Why the condition at this place of the alternative misleads.
-    fn doubt_in(&self, alternative: usize, place: usize) -> Option<&'static str> {
+    /// Why this condition of the alternative misleads.
+    fn doubt_in(
+        &self,
+        alternative: usize,
+        before: Before,
+        condition: &Condition<&[u8]>,
+    ) -> Option<&'static str> {
         let own = self.alternatives.get(alternative)?;
-        doubt_at(&own.plain.conditions, place)
+        doubt_of(own, before, condition)
     }
 }

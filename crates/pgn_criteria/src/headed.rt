@@ -17,12 +17,14 @@ pub trait Headed<'a> {
     /// What is known of it.
     ghost valid: { Self → Type 0 };
 
-    /// The contents of the string of the tag with that name, if there is one and they are contents of a string.
+    /// The contents of the string of the tag with that name, if there is one and they are contents
+    /// of a string.
     fn tag(&self, name: &'a [u8]) -> Option<&'a [u8]>
         requires { valid self.now }
         ensures { MatchOption result
             ((contents : List ℕ) → (heading self.now).named name.now ≡ Some contents → IsContents contents → ⊥)
-            (λ contents. ((heading self.now).named name.now ≡ Some contents.now) × IsContents contents.now) };
+            (λ contents. ((heading self.now).named name.now ≡ Some contents.now)
+            × IsContents contents.now) };
 
     /// The result.
     fn result(&self) -> &'a [u8]

@@ -1,8 +1,13 @@
-//! What holds of every text, whatever reads it. Each law is the contract of a function that does nothing.
+//! What holds of every text, whatever reads it. Each law is the contract of a function that does
+//! nothing.
 
-ghost use Rattle.pgn_criteria.specs.Public.Laws.{TextHasOneMeaning, TextHasOneAnswer, MemoryIsTheOnlyFault, EachPositionMeetsOrDoesNot, MirrorIsUndone, FlipIsUndone, SidesAreAlike, StepShowsNextPosition};
+ghost use Rattle.pgn_criteria.specs.Public.Laws.{TextHasOneMeaning, TextHasOneAnswer};
+ghost use Rattle.pgn_criteria.specs.Public.Laws.{MemoryIsTheOnlyFault, EachPositionMeetsOrDoesNot};
+ghost use Rattle.pgn_criteria.specs.Public.Laws.{MirrorIsUndone, FlipIsUndone, SidesAreAlike};
+ghost use Rattle.pgn_criteria.specs.Public.Laws.{StepShowsNextPosition};
 
-/// A text spells at most one list of alternatives, and is either accepted, or too long, or refused for one of its lines. Memory runs out
+/// A text spells at most one list of alternatives, and is either accepted, or too long, or refused
+/// for one of its lines. Memory runs out
 /// only where the text is neither too long nor bad.
 pub fn one_meaning()
     ensures meaning { TextHasOneMeaning }
@@ -15,7 +20,8 @@ pub fn met_or_not()
     ensures { EachPositionMeetsOrDoesNot }
 {}
 
-/// The mirror of a mirror is the position itself, and files that are turned twice stand as before. Conditions that all have `either` hold
+/// The mirror of a mirror is the position itself, and files that are turned twice stand as before.
+/// Conditions that all have `either` hold
 /// of a position exactly where they hold of its mirror.
 pub fn mirrors()
     ensures mirror { MirrorIsUndone }
@@ -23,7 +29,8 @@ pub fn mirrors()
     ensures alike { SidesAreAlike }
 {}
 
-/// Where a walk shows a position, a step by the code of a pseudo-legal move shows the position after the move.
+/// Where a walk shows a position, a step by the code of a pseudo-legal move shows the position
+/// after the move.
 pub fn walks()
     ensures { StepShowsNextPosition }
 {}

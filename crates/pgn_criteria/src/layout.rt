@@ -1,5 +1,6 @@
 //! What patterns ask of squares that they name, laid out once.
-ghost use Rattle.std.specs.Prelude.{◌≡◌, ◌↔◌, ◌≤◌, ◌<◌, ◌+◌, ◌∷◌, List, Option, IsTrue, IfOk, IfSome, OnOk, MatchOption, length, drop, true};
+ghost use Rattle.std.specs.Prelude.{◌≡◌, ◌↔◌, ◌≤◌, ◌<◌, ◌+◌, ◌∷◌, List, Option, IsTrue, IfOk};
+ghost use Rattle.std.specs.Prelude.{IfSome, OnOk, MatchOption, length, drop, true};
 ghost use Rattle.chess.specs.Public.Fen.{row};
 ghost use Rattle.chess.specs.Public.Placements.{Placement, man_at};
 ghost use Rattle.chess.specs.Public.Sets.{is_in, no_places, HoldsExactly};
@@ -8,7 +9,8 @@ ghost use Rattle.chess.specs.declared.board.man.Kind.{Kind};
 ghost use Rattle.chess.specs.declared.board.man.Side.{Side};
 ghost use Rattle.pgn_criteria.specs.Private.Items.{IsOf};
 ghost use Rattle.pgn_criteria.specs.declared.rank.SquareTest.TheVariants.{Not, Other};
-ghost use Rattle.pgn_criteria.specs.Private.Layouts.{IsRest, EachFrom, AllStand, Laid, Lays, KindWithin, NoneOf};
+ghost use Rattle.pgn_criteria.specs.Private.Layouts.{IsRest, EachFrom, AllStand, Laid, Lays};
+ghost use Rattle.pgn_criteria.specs.Private.Layouts.{KindWithin, NoneOf};
 ghost use Rattle.pgn_criteria.specs.Public.Mirrors.{beside, flipped_men};
 ghost use Rattle.pgn_criteria.specs.Public.Patterns.{CanBeSplit, FitsPattern};
 ghost use Rattle.pgn_criteria.specs.Private.Items.{items_of};
@@ -53,7 +55,8 @@ impl Asked {
     /// Whether that stands on the square.
     #[inline(always)]
     fn is_met<S: Seen>(&self, position: &S) -> bool
-        ensures { IsTrue result ↔ IsOf self.now.class (man_at (S.men position.now) self.now.square) }
+        ensures { IsTrue result
+            ↔ IsOf self.now.class (man_at (S.men position.now) self.now.square) }
     {
         position.invariant();
         match self.class {
@@ -64,7 +67,8 @@ impl Asked {
     }
 }
 
-/// Squares with what must stand on them, squares with a man who must not, and squares that must be empty.
+/// Squares with what must stand on them, squares with a man who must not, and squares that must be
+/// empty.
 #[derive(Drop)]
 pub(crate) struct Layout {
     asked: Vec<Asked>,
@@ -87,7 +91,8 @@ fn all_stand<S: Seen>(all: &[Asked], position: &S) -> bool
 
 /// What asks of men whose files are turned what these ask of the men.
 fn all_beside(alloc: Global, all: &[Asked]) -> Result<Vec<Asked>, AllocError>
-    ensures { IfOk result (λ own. (men : Placement) → AllStand men own.items ↔ AllStand (flipped_men men) all.now) }
+    ensures { IfOk result (λ own. (men : Placement)
+        → AllStand men own.items ↔ AllStand (flipped_men men) all.now) }
 {
     let mut own = Vec::new(alloc);
     for asked in all {
@@ -127,7 +132,9 @@ impl Layout {
 
     /// Adds a square on which a man must not stand, if that is so.
     fn bar(&mut self, is_barred: bool, man: Man, square: Square) -> Result<(), AllocError>
-        ensures { OnOk result (Lays (λ p. IsTrue is_barred → IsOf (Not man) (man_at p square)) (λ p. Unit {0}) self.old self.new true) }
+        ensures { OnOk result
+            (Lays (λ p. IsTrue is_barred → IsOf (Not man) (man_at p square)) (λ p.
+            Unit {0}) self.old self.new true) }
     {
         if is_barred {
             let class = SquareTest::Not(man);
@@ -138,7 +145,8 @@ impl Layout {
 
     /// Adds a square on which no man of these kinds must stand.
     fn bar_kinds(&mut self, side: Side, kinds: Kinds, square: Square) -> Result<(), AllocError>
-        ensures { OnOk result (Lays (λ p. NoneOf side kinds (man_at p square)) (λ p. Unit {0}) self.old self.new true) }
+        ensures { OnOk result
+            (Lays (λ p. NoneOf side kinds (man_at p square)) (λ p. Unit {0}) self.old self.new true) }
     {
         self.bar(
             kinds.pawn,
@@ -193,7 +201,8 @@ impl Layout {
 
     /// Adds a square on which none of the men must stand.
     fn bar_men(&mut self, men: Men, square: Square) -> Result<(), AllocError>
-        ensures { OnOk result (Lays (λ p. IsOf (Other men) (man_at p square)) (λ p. Unit {0}) self.old self.new true) }
+        ensures { OnOk result
+            (Lays (λ p. IsOf (Other men) (man_at p square)) (λ p. Unit {0}) self.old self.new true) }
     {
         self.bar_kinds(Side::White, men.white, square)?;
         self.bar_kinds(Side::Black, men.black, square)?;
@@ -202,7 +211,8 @@ impl Layout {
 
     /// Adds a square and what must stand on it.
     fn add(&mut self, class: SquareTest, square: Square) -> Result<(), AllocError>
-        ensures { OnOk result (Lays (λ p. IsOf class (man_at p square)) (λ p. Unit {0}) self.old self.new true) }
+        ensures { OnOk result
+            (Lays (λ p. IsOf class (man_at p square)) (λ p. Unit {0}) self.old self.new true) }
     {
         match class {
             SquareTest::Any => Ok(()),
@@ -229,7 +239,9 @@ impl Layout {
         requires room { before + count ≤ 8 }
         requires low { 1 ≤ rank }
         requires high { rank ≤ 8 }
-        ensures { OnOk result (Lays (λ p. EachFrom p class rank before 0 count) (λ p. Unit {0}) self.old self.new true) }
+        ensures { OnOk result
+            (Lays (λ p. EachFrom p class rank before 0 count) (λ p.
+            Unit {0}) self.old self.new true) }
     {
         for step in 0..count {
             if let Some(square) = Square::new(before + step + 1, rank) {
@@ -239,7 +251,8 @@ impl Layout {
         Ok(())
     }
 
-    /// Adds what the first of some items asks, where so many squares of the rank are taken. Answers the items after it, and how many
+    /// Adds what the first of some items asks, where so many squares of the rank are taken. Answers
+    /// the items after it, and how many
     /// squares are taken then, if that is known.
     fn add_item<'a>(
         &mut self,
@@ -250,8 +263,11 @@ impl Layout {
         requires within { taken ≤ 8 }
         requires low { 1 ≤ rank }
         requires high { rank ≤ 8 }
-        ensures { IfOk result (λ next. MatchOption next (self.new ≡ self.old) (λ next. (next.1 ≤ 8) × (length next.0.now < length items.now)
-            × Lays (λ p. CanBeSplit (items_of items.now) (drop taken (row p rank))) (λ p. CanBeSplit (items_of next.0.now) (drop next.1 (row p rank)))
+        ensures { IfOk result (λ next.
+            MatchOption next (self.new ≡ self.old) (λ next. (next.1 ≤ 8)
+            × (length next.0.now < length items.now)
+            × Lays (λ p. CanBeSplit (items_of items.now) (drop taken (row p rank))) (λ p.
+            CanBeSplit (items_of next.0.now) (drop next.1 (row p rank)))
             self.old self.new true)) }
     {
         match next_item(items) {
@@ -279,7 +295,9 @@ impl Layout {
     fn add_rank(&mut self, items: &[u8], rank: u8) -> Result<bool, AllocError>
         requires low { 1 ≤ rank }
         requires high { rank ≤ 8 }
-        ensures { IfOk result (Lays (λ p. CanBeSplit (items_of items.now) (row p rank)) (λ p. Unit {0}) self.old self.new) }
+        ensures { IfOk result
+            (Lays (λ p. CanBeSplit (items_of items.now) (row p rank)) (λ p.
+            Unit {0}) self.old self.new) }
     {
         let mut taken = 0u8;
         let mut rest = items;
@@ -295,7 +313,8 @@ impl Layout {
 
     /// Adds what a pattern asks. Answers whether it is all that it asks.
     pub(crate) fn add_pattern(&mut self, pattern: &[u8]) -> Result<bool, AllocError>
-        ensures { IfOk result (Lays (λ p. FitsPattern p pattern.now) (λ p. Unit {0}) self.old self.new) }
+        ensures { IfOk result
+            (Lays (λ p. FitsPattern p pattern.now) (λ p. Unit {0}) self.old self.new) }
     {
         let mut rest = pattern;
         let mut is_all = true;
@@ -312,7 +331,8 @@ impl Layout {
 
     /// What is laid out for men whose files are turned.
     pub(crate) fn turned(&self, alloc: Global) -> Result<Self, AllocError>
-        ensures { IfOk result (λ own. (men : Placement) → Laid men own ↔ Laid (flipped_men men) self.now) }
+        ensures { IfOk result (λ own. (men : Placement)
+            → Laid men own ↔ Laid (flipped_men men) self.now) }
     {
         let asked = all_beside(alloc, &self.asked)?;
         let barred = all_beside(alloc, &self.barred)?;
@@ -362,7 +382,8 @@ impl Layout {
         free
     }
 
-    /// Whether the men stand as is laid out, where the set is that of the squares that they may stand on.
+    /// Whether the men stand as is laid out, where the set is that of the squares that they may
+    /// stand on.
     #[inline(always)]
     pub(crate) fn is_met<S: Seen>(&self, free: &SquareSet, position: &S) -> bool
         requires { IsRest self.now.empty free.now }
@@ -432,7 +453,8 @@ fn is_side_within<S: Seen>(position: &S, side: Side, free: &SquareSet) -> bool
 
 /// Whether all men stand on squares of the set.
 fn are_within<S: Seen>(position: &S, free: &SquareSet) -> bool
-    ensures { IsTrue result ↔ ((side : Side) (kind : Kind) → KindWithin (S.men position.now) free.now side kind) }
+    ensures { IsTrue result
+        ↔ ((side : Side) (kind : Kind) → KindWithin (S.men position.now) free.now side kind) }
 {
     is_side_within(position, Side::White, free) && is_side_within(position, Side::Black, free)
 }

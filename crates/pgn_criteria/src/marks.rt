@@ -1,14 +1,16 @@
-//! Check, and that there is no move: games whose plies never show what conditions need of the two are passed over.
+//! Check, and that there is no move: games whose plies never show what conditions need of the two
+//! are passed over.
 ghost use Rattle.std.specs.Prelude.{◌≡◌, ◌↔◌, ℕ, List, true, false, map, IsTrue};
 ghost use Rattle.std.specs.List.{AllByRecursion};
 ghost use Rattle.chess.specs.declared.board.man.Side.{Side};
 ghost use Rattle.pgn_game.specs.Public.PlyCodes.{PlyCode};
 ghost use Rattle.pgn_criteria.specs.Public.ByMarks.{NoneMeets, IsNextMet};
 ghost use Rattle.pgn_criteria.specs.Public.Sieves.{NowhereSeen, codes_in};
-ghost use Rattle.pgn_criteria.specs.Private.Marks.{NeedMark, LacksMarks, Needs, FitsSeen, asks_mark};
-ghost use Rattle.pgn_criteria.specs.Private.Stages.{claim_seen, seen};
+ghost use Rattle.pgn_criteria.specs.Private.Marks.{NeedMark, LacksMarks, Needs, FitsSeen};
+ghost use Rattle.pgn_criteria.specs.Private.Marks.{asks_mark};
+ghost use Rattle.pgn_criteria.specs.Private.Stages.{position_seen, seen};
 
-use crate::condition::{Claim, Condition};
+use crate::condition::{PositionClaim, PositionCondition};
 use crate::seen::Seen;
 
 /// What may be so of the side to move.
@@ -21,19 +23,19 @@ pub(crate) enum Mark {
 }
 
 /// Whether the claim asks for the mark.
-fn asks_mark(claim: &Claim<Vec<u8>>, mark: Mark) -> bool
-    ensures { result ≡ asks_mark mark (claim_seen (λ text. text.items) claim.now) }
+fn asks_mark(claim: &PositionClaim<Vec<u8>>, mark: Mark) -> bool
+    ensures { result ≡ asks_mark mark (position_seen (λ text. text.items) claim.now) }
 {
     match claim {
-        Claim::Check => mark == Mark::Check,
-        Claim::Mate => true,
-        Claim::Stalemate => mark == Mark::Stuck,
+        PositionClaim::Check => mark == Mark::Check,
+        PositionClaim::Mate => true,
+        PositionClaim::Stalemate => mark == Mark::Stuck,
         _ => false,
     }
 }
 
 /// Whether the conditions hold only where the mark is so.
-fn need_mark(conditions: &[Condition<Vec<u8>>], mark: Mark) -> bool
+fn need_mark(conditions: &[PositionCondition<Vec<u8>>], mark: Mark) -> bool
     ensures { IsTrue result → NeedMark mark (map (seen (λ text. text.items)) conditions.now) }
 {
     for condition in conditions {
@@ -47,16 +49,21 @@ fn need_mark(conditions: &[Condition<Vec<u8>>], mark: Mark) -> bool
 /// Whether the marks that are needed are so.
 #[inline(always)]
 fn shows(check: bool, stuck: bool, is_checked: bool, is_stuck: bool) -> bool
-    ensures { IsTrue result ↔ ((check ≡ true → is_checked ≡ true) × (stuck ≡ true → is_stuck ≡ true)) }
+    ensures { IsTrue result
+        ↔ ((check ≡ true → is_checked ≡ true) × (stuck ≡ true → is_stuck ≡ true)) }
 {
     (!check || is_checked) && (!stuck || is_stuck)
 }
 
-/// The plies from where the marks that are needed may be so: eight plies are passed over at once where none of them has a mark.
+/// The plies from where the marks that are needed may be so: eight plies are passed over at once
+/// where none of them has a mark.
 pub(crate) fn after_eights(check: bool, stuck: bool, plies: &[u8]) -> &[u8]
-    ensures met { (set : ℕ) → Needs check stuck set → (turn : Side) → (NoneMeets set turn (codes_in result.now) → NoneMeets set turn (codes_in plies.now))
-        × ((side : Side) (left : List PlyCode) → IsNextMet set turn (codes_in result.now) side left → IsNextMet set turn (codes_in plies.now) side left) }
-    ensures lacks { AllByRecursion (LacksMarks check stuck) (codes_in result.now) → AllByRecursion (LacksMarks check stuck) (codes_in plies.now) }
+    ensures met { (set : ℕ) → Needs check stuck set → (turn : Side)
+        → (NoneMeets set turn (codes_in result.now) → NoneMeets set turn (codes_in plies.now))
+        × ((side : Side) (left : List PlyCode) → IsNextMet set turn (codes_in result.now) side left
+        → IsNextMet set turn (codes_in plies.now) side left) }
+    ensures lacks { AllByRecursion (LacksMarks check stuck) (codes_in result.now)
+        → AllByRecursion (LacksMarks check stuck) (codes_in plies.now) }
 {
     let mut rest = plies;
     while rest.len() >= 24 {
@@ -70,7 +77,8 @@ pub(crate) fn after_eights(check: bool, stuck: bool, plies: &[u8]) -> &[u8]
     rest
 }
 
-/// Whether after one of the plies the side to move is in check, if that is needed, and has no move, if that is needed.
+/// Whether after one of the plies the side to move is in check, if that is needed, and has no move,
+/// if that is needed.
 fn some_ply_shows(check: bool, stuck: bool, plies: &[u8]) -> bool
     ensures { result ≡ false → AllByRecursion (LacksMarks check stuck) (codes_in plies.now) }
 {
@@ -86,11 +94,13 @@ fn some_ply_shows(check: bool, stuck: bool, plies: &[u8]) -> bool
 
 /// Whether the marks that the conditions need may be so before the plies or after one of them.
 pub(crate) fn marks_are_shown<S: Seen>(
-    conditions: &[Condition<Vec<u8>>],
+    conditions: &[PositionCondition<Vec<u8>>],
     start: &S,
     plies: &[u8],
 ) -> bool
-    ensures { result ≡ false → NowhereSeen (FitsSeen (map (seen (λ text. text.items)) conditions.now)) (S.men start.now) (S.turn start.now) (S.checked start.now) (S.stuck start.now) (codes_in plies.now) }
+    ensures { result ≡ false
+        → NowhereSeen (FitsSeen (map (seen (λ text. text.items)) conditions.now)) (S.men start.now)
+        (S.turn start.now) (S.checked start.now) (S.stuck start.now) (codes_in plies.now) }
 {
     let check = need_mark(conditions, Mark::Check);
     let stuck = need_mark(conditions, Mark::Stuck);

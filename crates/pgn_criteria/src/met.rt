@@ -7,7 +7,7 @@ ghost use Rattle.pgn_game.specs.Public.PackedGames.{PackedGame, IsPacked, FitsRe
 ghost use Rattle.pgn_game.specs.Public.PackReading.{IsRawOfGame, raw_of};
 ghost use Rattle.pgn_game.specs.Public.Replays.{Replay, IsSomeReplay};
 ghost use Rattle.pgn_game.specs.Public.Starts.{fen_tag};
-ghost use Rattle.pgn_criteria.specs.declared.condition.Condition.{Condition};
+ghost use Rattle.pgn_criteria.specs.Public.Conditions.{Conditions};
 ghost use Rattle.pgn_criteria.specs.Public.Meeting.{Heading, heading_of, AreMet};
 ghost use Rattle.pgn_criteria.specs.Private.Stages.{AllGood, AreGood, AreLegal};
 
@@ -39,7 +39,7 @@ fn add_alternative<'a, H: Headed<'a>>(
     requires valid { H.valid game.now }
     requires good { AreGood alternative.now }
     requires legal { AreLegal replayed.now }
-    ensures { (before : List (List (Condition (List ℕ)))) → AreMet (H.heading game.now) replayed.now before met.old
+    ensures { (before : List Conditions) → AreMet (H.heading game.now) replayed.now before met.old
         → AreMet (H.heading game.now) replayed.now (before ++ alternative.now ∷ []) met.new }
 {
     if alternative.is_of_game(game, replayed) {
@@ -57,7 +57,8 @@ fn met_by<'a, H: Headed<'a>>(
     requires valid { H.valid game.now }
     requires good { AllGood alternatives.now }
     requires legal { AreLegal replayed.now }
-    ensures { IfOk result (λ met. AreMet (H.heading game.now) replayed.now alternatives.now met.items) }
+    ensures { IfOk result (λ met.
+        AreMet (H.heading game.now) replayed.now alternatives.now met.items) }
 {
     let mut met = no_plies(alloc, replayed)?;
     for alternative in alternatives {
@@ -67,8 +68,10 @@ fn met_by<'a, H: Headed<'a>>(
 }
 
 impl Criteria {
-    /// For each ply of the main line, from 0 to its last, whether its position meets the criteria. The replay is to be that of the game, of
-    /// its main line or of all its lines. Conditions on tags and on the first moves are decided once. The time that it takes grows as the
+    /// For each ply of the main line, from 0 to its last, whether its position meets the criteria.
+    /// The replay is to be that of the game, of
+    /// its main line or of all its lines. Conditions on tags and on the first moves are decided
+    /// once. The time that it takes grows as the
     /// number of plies does, however long the runs are that `for` asks for.
     pub fn met_plies<'a>(
         &'a self,
@@ -77,13 +80,15 @@ impl Criteria {
         replayed: &Replayed,
     ) -> Result<Vec<bool>, AllocError>
         requires of_game { IsSomeReplay (tag_in fen_tag game.now.tags) game.now.elements replayed.now }
-        ensures { IfOk result (λ met. AreMet (heading_of game.now) replayed.now self.now met.items) }
+        ensures { IfOk result (λ met.
+            AreMet (heading_of game.now) replayed.now self.now met.items) }
     {
         pgn_game::laws::one_legal_move();
         met_by(&self.alternatives, alloc, game, replayed)
     }
 
-    /// The same of a packed game: for each ply of its line, from 0 to its last, whether its position meets the criteria.
+    /// The same of a packed game: for each ply of its line, from 0 to its last, whether its
+    /// position meets the criteria.
     pub fn met_packed<'a>(
         &'a self,
         alloc: Global,
@@ -92,8 +97,10 @@ impl Criteria {
     ) -> Result<Vec<bool>, AllocError>
         requires shows { IsRawOfGame raw.now }
         requires legal { (start : State) × IsLegalLine start replayed.now }
-        ensures { IfOk result (λ met. (game : GameText) (replay : Replay) (packed : PackedGame) → IsPacked packed.name packed.number packed.offset game replay packed
-            → FitsRecord packed → raw_of packed ≡ raw.now → AreMet (heading_of game) replayed.now self.now met.items) }
+        ensures { IfOk result (λ met. (game : GameText) (replay : Replay) (packed : PackedGame)
+            → IsPacked packed.name packed.number packed.offset game replay packed
+            → FitsRecord packed → raw_of packed ≡ raw.now
+            → AreMet (heading_of game) replayed.now self.now met.items) }
     {
         met_by(&self.alternatives, alloc, raw, replayed)
     }

@@ -5,13 +5,15 @@ ghost use Rattle.chess.specs.Public.Placements.{Placement};
 ghost use Rattle.pgn_criteria.specs.Public.Mirrors.{mirrored_men, can_be_mirrored};
 ghost use Rattle.pgn_criteria.specs.Private.Turning.{other_letter, turned};
 ghost use Rattle.pgn_criteria.specs.Public.Patterns.{FitsPattern, IsPattern};
-ghost use Rattle.pgn_criteria.specs.Private.Stages.{AreFixed, IsMirrorOf, IsMirrored, AreMirrored, seen, claim_seen};
+ghost use Rattle.pgn_criteria.specs.Private.Stages.{AreFixed, IsMirrorOf, IsMirrored, AreMirrored};
+ghost use Rattle.pgn_criteria.specs.Private.Stages.{seen, position_seen};
 
-use crate::condition::{Claim, Condition};
+use crate::condition::{PositionClaim, PositionCondition};
 use crate::cut::next_part;
 use std::alloc::{AllocError, Global};
 
-/// The letter in the other case, so that the man is one of the other side; any other byte is itself.
+/// The letter in the other case, so that the man is one of the other side; any other byte is
+/// itself.
 fn other_letter(byte: u8) -> u8
     ensures { result ≡ other_letter byte }
 {
@@ -47,7 +49,8 @@ fn add_ranks(text: &mut Vec<u8>, ranks: &[u8]) -> Result<(), AllocError>
 
 /// The pattern that the men fit whose mirror fits this one.
 pub(crate) fn mirrored_pattern(alloc: Global, pattern: &[u8]) -> Result<Vec<u8>, AllocError>
-    ensures fits { IfOk result (λ own. (men : Placement) → FitsPattern men own.items ↔ FitsPattern (mirrored_men men) pattern.now) }
+    ensures fits { IfOk result (λ own. (men : Placement)
+        → FitsPattern men own.items ↔ FitsPattern (mirrored_men men) pattern.now) }
     ensures again { IsPattern pattern.now → IfOk result (λ own. IsPattern own.items) }
 {
     let mut text = Vec::new(alloc);
@@ -56,78 +59,67 @@ pub(crate) fn mirrored_pattern(alloc: Global, pattern: &[u8]) -> Result<Vec<u8>,
 }
 
 /// Whether the claim can be made of the mirror of a position.
-pub(crate) fn can_be_mirrored<T>(claim: &Claim<T>) -> bool
+pub(crate) fn can_be_mirrored<T>(claim: &PositionClaim<T>) -> bool
     ensures { result ≡ can_be_mirrored claim.now }
 {
     match claim {
-        Claim::Fen(_) => true,
-        Claim::Flip(_) => true,
-        Claim::Material { .. } => true,
-        Claim::Turn(_) => true,
-        _ => false,
+        PositionClaim::Check | PositionClaim::Mate | PositionClaim::Stalemate => false,
+        _ => true,
     }
 }
 
 /// The claim with texts of its own.
-fn own_claim(alloc: Global, claim: &Claim<Vec<u8>>) -> Result<Claim<Vec<u8>>, AllocError>
-    ensures { IfOk result (λ own. claim_seen (λ text. text.items) own ≡ claim_seen (λ text. text.items) claim.now) }
+fn own_claim(
+    alloc: Global,
+    claim: &PositionClaim<Vec<u8>>,
+) -> Result<PositionClaim<Vec<u8>>, AllocError>
+    ensures { IfOk result (λ own. position_seen (λ text. text.items) own
+        ≡ position_seen (λ text. text.items) claim.now) }
 {
     match claim {
-        Claim::Tag {
-            names,
-            relation,
-            contents,
-        } => Ok(Claim::Tag {
-            names: names.to_vec(alloc)?,
-            relation: *relation,
-            contents: contents.to_vec(alloc)?,
-        }),
-        Claim::Fen(pattern) => Ok(Claim::Fen(pattern.to_vec(alloc)?)),
-        Claim::Flip(pattern) => Ok(Claim::Flip(pattern.to_vec(alloc)?)),
-        Claim::Material { white, black } => Ok(Claim::Material {
+        PositionClaim::Fen(pattern) => Ok(PositionClaim::Fen(pattern.to_vec(alloc)?)),
+        PositionClaim::Flip(pattern) => Ok(PositionClaim::Flip(pattern.to_vec(alloc)?)),
+        PositionClaim::Material { white, black } => Ok(PositionClaim::Material {
             white: *white,
             black: *black,
         }),
-        Claim::Moves(words) => Ok(Claim::Moves(words.to_vec(alloc)?)),
-        Claim::Plies { comparison, count } => Ok(Claim::Plies {
-            comparison: *comparison,
-            count: *count,
-        }),
-        Claim::Result(result) => Ok(Claim::Result(result.to_vec(alloc)?)),
-        Claim::Next(word) => Ok(Claim::Next(word.to_vec(alloc)?)),
-        Claim::Played(word) => Ok(Claim::Played(word.to_vec(alloc)?)),
-        Claim::For(count) => Ok(Claim::For(*count)),
-        Claim::Count { comparison, count } => Ok(Claim::Count {
-            comparison: *comparison,
-            count: *count,
-        }),
-        Claim::Turn(side) => Ok(Claim::Turn(*side)),
-        Claim::Check => Ok(Claim::Check),
-        Claim::Mate => Ok(Claim::Mate),
-        Claim::Stalemate => Ok(Claim::Stalemate),
+        PositionClaim::Turn(side) => Ok(PositionClaim::Turn(*side)),
+        PositionClaim::Check => Ok(PositionClaim::Check),
+        PositionClaim::Mate => Ok(PositionClaim::Mate),
+        PositionClaim::Stalemate => Ok(PositionClaim::Stalemate),
     }
 }
 
 /// The claim that is so of a position where this one is so of its mirror.
-fn mirrored_claim(alloc: Global, claim: &Claim<Vec<u8>>) -> Result<Claim<Vec<u8>>, AllocError>
+fn mirrored_claim(
+    alloc: Global,
+    claim: &PositionClaim<Vec<u8>>,
+) -> Result<PositionClaim<Vec<u8>>, AllocError>
     requires { IsTrue (can_be_mirrored claim.now) }
-    ensures { IfOk result (λ own. IsMirrorOf (claim_seen (λ text. text.items) own) (claim_seen (λ text. text.items) claim.now)) }
+    ensures { IfOk result (λ own.
+        IsMirrorOf (position_seen (λ text. text.items) own)
+        (position_seen (λ text. text.items) claim.now)) }
 {
     match claim {
-        Claim::Fen(pattern) => Ok(Claim::Fen(mirrored_pattern(alloc, pattern)?)),
-        Claim::Flip(pattern) => Ok(Claim::Flip(mirrored_pattern(alloc, pattern)?)),
-        Claim::Material { white, black } => Ok(Claim::Material {
+        PositionClaim::Fen(pattern) => Ok(PositionClaim::Fen(mirrored_pattern(alloc, pattern)?)),
+        PositionClaim::Flip(pattern) => Ok(PositionClaim::Flip(mirrored_pattern(alloc, pattern)?)),
+        PositionClaim::Material { white, black } => Ok(PositionClaim::Material {
             white: *black,
             black: *white,
         }),
-        Claim::Turn(side) => Ok(Claim::Turn(side.opposite())),
+        PositionClaim::Turn(side) => Ok(PositionClaim::Turn(side.opposite())),
         _ => own_claim(alloc, claim),
     }
 }
 
-/// The condition that holds at a position where this one holds at its mirror, or without `either` at the position itself.
-fn mirrored(alloc: Global, condition: &Condition<Vec<u8>>) -> Result<Condition<Vec<u8>>, AllocError>
-    ensures { IfOk result (λ own. IsMirrored (seen (λ text. text.items) own) (seen (λ text. text.items) condition.now)) }
+/// The condition that holds at a position where this one holds at its mirror, or without `either`
+/// at the position itself.
+fn mirrored(
+    alloc: Global,
+    condition: &PositionCondition<Vec<u8>>,
+) -> Result<PositionCondition<Vec<u8>>, AllocError>
+    ensures { IfOk result (λ own.
+        IsMirrored (seen (λ text. text.items) own) (seen (λ text. text.items) condition.now)) }
 {
     let is_denied = condition.is_denied;
     let claim = if condition.is_either && can_be_mirrored(&condition.claim) {
@@ -135,19 +127,22 @@ fn mirrored(alloc: Global, condition: &Condition<Vec<u8>>) -> Result<Condition<V
     } else {
         own_claim(alloc, &condition.claim)?
     };
-    Ok(Condition {
+    Ok(PositionCondition {
         is_either: false,
         is_denied,
         claim,
     })
 }
 
-/// The conditions that hold at a position where these hold with all that have `either` tried at its mirror.
+/// The conditions that hold at a position where these hold with all that have `either` tried at its
+/// mirror.
 pub(crate) fn all_mirrored(
     alloc: Global,
-    conditions: &[Condition<Vec<u8>>],
-) -> Result<Vec<Condition<Vec<u8>>>, AllocError>
-    ensures { IfOk result (λ own. AreMirrored (map (seen (λ text. text.items)) own.items) (map (seen (λ text. text.items)) conditions.now)) }
+    conditions: &[PositionCondition<Vec<u8>>],
+) -> Result<Vec<PositionCondition<Vec<u8>>>, AllocError>
+    ensures { IfOk result (λ own.
+        AreMirrored (map (seen (λ text. text.items)) own.items)
+        (map (seen (λ text. text.items)) conditions.now)) }
 {
     let mut own = Vec::new(alloc);
     for condition in conditions {
@@ -157,7 +152,7 @@ pub(crate) fn all_mirrored(
 }
 
 /// Whether none of the conditions has `either`.
-pub(crate) fn are_fixed(conditions: &[Condition<Vec<u8>>]) -> bool
+pub(crate) fn are_fixed(conditions: &[PositionCondition<Vec<u8>>]) -> bool
     ensures { IsTrue result ↔ AreFixed (map (seen (λ text. text.items)) conditions.now) }
 {
     for condition in conditions {

@@ -22,7 +22,8 @@ fn kind_letter(kind: Kind) -> u8
     }
 }
 
-/// Whether the text of the move may begin with the byte: the letter of the man that moves, or the file of a pawn.
+/// Whether the text of the move may begin with the byte: the letter of the man that moves, or the
+/// file of a pawn.
 fn may_begin_with(position: &GamePosition, m: &Move, byte: u8) -> bool
     ensures { RulesOut result position.now m.now (BeginsWith byte) }
 {
@@ -38,7 +39,8 @@ fn may_begin_with(position: &GamePosition, m: &Move, byte: u8) -> bool
     }
 }
 
-/// Whether the text of the move may end with the byte: the rank that it goes to, or the letter of the man that a pawn becomes.
+/// Whether the text of the move may end with the byte: the rank that it goes to, or the letter of
+/// the man that a pawn becomes.
 fn may_end_with(m: &Move, byte: u8) -> bool
     ensures { (P : State) → RulesOut result P m.now (EndsWith byte) }
 {

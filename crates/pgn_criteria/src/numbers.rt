@@ -1,4 +1,5 @@
-//! How many of a man stand, while the codes of plies move him: games in which there are never as few as a line `material` allows are passed
+//! How many of a man stand, while the codes of plies move him: games in which there are never as
+//! few as a line `material` allows are passed
 //! over.
 ghost use Rattle.std.specs.Prelude.{◌≡◌, false, map, IfSome};
 ghost use Rattle.chess.specs.Public.Placements.{Placement};
@@ -6,10 +7,10 @@ ghost use Rattle.pgn_criteria.specs.Private.Counting.{FitsKind};
 ghost use Rattle.pgn_criteria.specs.Public.Sieves.{NowhereSeen, codes_in};
 ghost use Rattle.pgn_criteria.specs.Private.Marks.{FitsSeen, IsMost, SaysOfNumbers};
 ghost use Rattle.pgn_criteria.specs.Public.Materials.{FitsSide, FitsMaterial};
-ghost use Rattle.pgn_criteria.specs.Private.Stages.{claim_seen, seen};
+ghost use Rattle.pgn_criteria.specs.Private.Stages.{position_seen, seen};
 ghost use Rattle.pgn_criteria.specs.Private.Tracks.{AreFew, Nowhere};
 
-use crate::condition::{Claim, Condition};
+use crate::condition::{PositionClaim, PositionCondition};
 use crate::material::{Limit, Limits};
 use crate::seen::Seen;
 use crate::track::{StandTest, is_met_somewhere};
@@ -41,9 +42,12 @@ impl StandTest for Few {
     }
 }
 
-/// Whether before the plies or after one of them no more of the man stand than his side's limit allows.
+/// Whether before the plies or after one of them no more of the man stand than his side's limit
+/// allows.
 fn kind_may_fit<S: Seen>(limits: &Limits, man: Man, start: &S, plies: &[u8]) -> bool
-    ensures { result ≡ false → Nowhere (λ p. FitsKind p man.side limits.now man.kind) (S.men start.now) (codes_in plies.now) }
+    ensures { result ≡ false
+        → Nowhere (λ p. FitsKind p man.side limits.now man.kind) (S.men start.now)
+        (codes_in plies.now) }
 {
     match most_of(limits.of(man.kind)) {
         Some(most) => is_met_somewhere(&Few { most }, man, start.squares_with(man), plies),
@@ -51,9 +55,11 @@ fn kind_may_fit<S: Seen>(limits: &Limits, man: Man, start: &S, plies: &[u8]) -> 
     }
 }
 
-/// Whether of each kind before the plies or after one of them no more stand than the side's limit allows.
+/// Whether of each kind before the plies or after one of them no more stand than the side's limit
+/// allows.
 fn side_may_fit<S: Seen>(limits: &Limits, side: Side, start: &S, plies: &[u8]) -> bool
-    ensures { result ≡ false → Nowhere (λ p. FitsSide p side limits.now) (S.men start.now) (codes_in plies.now) }
+    ensures { result ≡ false
+        → Nowhere (λ p. FitsSide p side limits.now) (S.men start.now) (codes_in plies.now) }
 {
     for kind in [
         Kind::Queen,
@@ -69,9 +75,11 @@ fn side_may_fit<S: Seen>(limits: &Limits, side: Side, start: &S, plies: &[u8]) -
     true
 }
 
-/// Whether of each side's kinds before the plies or after one of them no more stand than its limits allow.
+/// Whether of each side's kinds before the plies or after one of them no more stand than its limits
+/// allow.
 fn sides_may_fit<S: Seen>(white: &Limits, black: &Limits, start: &S, plies: &[u8]) -> bool
-    ensures { result ≡ false → Nowhere (λ p. FitsMaterial p white.now black.now) (S.men start.now) (codes_in plies.now) }
+    ensures { result ≡ false
+        → Nowhere (λ p. FitsMaterial p white.now black.now) (S.men start.now) (codes_in plies.now) }
 {
     if !side_may_fit(white, Side::White, start, plies) {
         return false;
@@ -80,15 +88,21 @@ fn sides_may_fit<S: Seen>(white: &Limits, black: &Limits, start: &S, plies: &[u8
 }
 
 /// Whether a line `material` without `not` can be met before the plies or after one of them.
-fn material_may_fit<S: Seen>(condition: &Condition<Vec<u8>>, start: &S, plies: &[u8]) -> bool
+fn material_may_fit<S: Seen>(
+    condition: &PositionCondition<Vec<u8>>,
+    start: &S,
+    plies: &[u8],
+) -> bool
     ensures { result ≡ false → (condition.now.is_denied ≡ false)
-        × Nowhere (SaysOfNumbers condition.now.is_either (claim_seen (λ text. text.items) condition.now.claim)) (S.men start.now) (codes_in plies.now) }
+        × Nowhere (SaysOfNumbers condition.now.is_either
+        (position_seen (λ text. text.items) condition.now.claim)) (S.men start.now)
+        (codes_in plies.now) }
 {
     if condition.is_denied {
         return true;
     }
     match &condition.claim {
-        Claim::Material { white, black } => {
+        PositionClaim::Material { white, black } => {
             if sides_may_fit(white, black, start, plies) {
                 return true;
             }
@@ -103,11 +117,13 @@ fn material_may_fit<S: Seen>(condition: &Condition<Vec<u8>>, start: &S, plies: &
 
 /// Whether as few men as the conditions allow may stand before the plies or after one of them.
 pub(crate) fn numbers_are_shown<S: Seen>(
-    conditions: &[Condition<Vec<u8>>],
+    conditions: &[PositionCondition<Vec<u8>>],
     start: &S,
     plies: &[u8],
 ) -> bool
-    ensures { result ≡ false → NowhereSeen (FitsSeen (map (seen (λ text. text.items)) conditions.now)) (S.men start.now) (S.turn start.now) (S.checked start.now) (S.stuck start.now) (codes_in plies.now) }
+    ensures { result ≡ false
+        → NowhereSeen (FitsSeen (map (seen (λ text. text.items)) conditions.now)) (S.men start.now)
+        (S.turn start.now) (S.checked start.now) (S.stuck start.now) (codes_in plies.now) }
 {
     for condition in conditions {
         if !material_may_fit(condition, start, plies) {

@@ -1,8 +1,10 @@
-//! What the patterns of an alternative ask of squares, laid out once, in whichever way they are asked.
+//! What the patterns of an alternative ask of squares, laid out once, in whichever way they are
+//! asked.
 ghost use Rattle.std.specs.Prelude.{◌≡◌, ◌↔◌, [], IsTrue, IfOk, IfSome};
 ghost use Rattle.chess.specs.Public.Placements.{Placement};
 ghost use Rattle.pgn_criteria.specs.Private.Layouts.{IsRest, Laid};
-ghost use Rattle.pgn_criteria.specs.Private.Planning.{AreSound, AreSoundWays, IsSoundPlan, AllEither, NoneLaid, Planned, Plans};
+ghost use Rattle.pgn_criteria.specs.Private.Planning.{AreSound, AreSoundWays, IsSoundPlan};
+ghost use Rattle.pgn_criteria.specs.Private.Planning.{AllEither, NoneLaid, Planned, Plans};
 ghost use Rattle.pgn_criteria.specs.Public.Mirrors.{FitsEitherWay};
 ghost use Rattle.pgn_criteria.specs.Public.Patterns.{FitsPattern};
 ghost use Rattle.pgn_criteria.specs.Private.Tracks.{FitsSieve, Sifts};
@@ -20,7 +22,8 @@ pub(crate) struct Ways {
     turned: Look,
 }
 
-/// What patterns ask: those that are to fit, those that are to fit the one way or the other, and those that are not to fit.
+/// What patterns ask: those that are to fit, those that are to fit the one way or the other, and
+/// those that are not to fit.
 #[derive(Drop)]
 pub(crate) struct Plan {
     layout: Layout,
@@ -30,7 +33,8 @@ pub(crate) struct Plan {
 
 /// What the pattern asks, if it can be laid out.
 fn layout_of(alloc: Global, pattern: &[u8]) -> Result<Option<Layout>, AllocError>
-    ensures { IfOk result (λ found. IfSome found (λ layout. (p : Placement) → Laid p layout ↔ FitsPattern p pattern.now)) }
+    ensures { IfOk result (λ found.
+        IfSome found (λ layout. (p : Placement) → Laid p layout ↔ FitsPattern p pattern.now)) }
 {
     let mut layout = Layout::new(alloc);
     if !layout.add_pattern(pattern)? {
@@ -54,14 +58,17 @@ impl Plan {
 
     /// Adds a pattern that is to fit. Answers whether all that it asks is planned.
     pub(crate) fn add_pattern(&mut self, pattern: &[u8]) -> Result<bool, AllocError>
-        ensures { IfOk result (Plans (λ p. FitsPattern p pattern.now) (λ p. Unit {0}) self.old self.new) }
+        ensures { IfOk result
+            (Plans (λ p. FitsPattern p pattern.now) (λ p. Unit {0}) self.old self.new) }
     {
         self.layout.add_pattern(pattern)
     }
 
-    /// Adds a pattern that is to fit as it stands, or with the files turned. Answers whether all that it asks is planned.
+    /// Adds a pattern that is to fit as it stands, or with the files turned. Answers whether all
+    /// that it asks is planned.
     pub(crate) fn add_ways(&mut self, alloc: Global, pattern: &[u8]) -> Result<bool, AllocError>
-        ensures { IfOk result (Plans (λ p. FitsEitherWay p pattern.now) (λ p. Unit {0}) self.old self.new) }
+        ensures { IfOk result
+            (Plans (λ p. FitsEitherWay p pattern.now) (λ p. Unit {0}) self.old self.new) }
     {
         let Some(straight) = layout_of(alloc, pattern)? else {
             return Ok(false);
@@ -76,7 +83,8 @@ impl Plan {
 
     /// Adds a pattern that is not to fit. Answers whether all that this asks is planned.
     pub(crate) fn add_denied(&mut self, alloc: Global, pattern: &[u8]) -> Result<bool, AllocError>
-        ensures { IfOk result (Plans (λ p. FitsPattern p pattern.now → ⊥) (λ p. Unit {0}) self.old self.new) }
+        ensures { IfOk result
+            (Plans (λ p. FitsPattern p pattern.now → ⊥) (λ p. Unit {0}) self.old self.new) }
     {
         let Some(layout) = layout_of(alloc, pattern)? else {
             return Ok(false);
@@ -85,9 +93,11 @@ impl Plan {
         Ok(true)
     }
 
-    /// Adds a pattern that is to fit neither as it stands nor with the files turned. Answers whether all that this asks is planned.
+    /// Adds a pattern that is to fit neither as it stands nor with the files turned. Answers
+    /// whether all that this asks is planned.
     pub(crate) fn add_no_way(&mut self, alloc: Global, pattern: &[u8]) -> Result<bool, AllocError>
-        ensures { IfOk result (Plans (λ p. FitsEitherWay p pattern.now → ⊥) (λ p. Unit {0}) self.old self.new) }
+        ensures { IfOk result
+            (Plans (λ p. FitsEitherWay p pattern.now → ⊥) (λ p. Unit {0}) self.old self.new) }
     {
         let Some(straight) = layout_of(alloc, pattern)? else {
             return Ok(false);
@@ -115,7 +125,8 @@ impl Plan {
         self.layout.free()
     }
 
-    /// Whether the men stand as is planned, where the set is that of the squares that they may stand on.
+    /// Whether the men stand as is planned, where the set is that of the squares that they may
+    /// stand on.
     #[inline(always)]
     pub(crate) fn is_met<S: Seen>(&self, free: &SquareSet, position: &S) -> bool
         requires sound { IsSoundPlan self.now }
@@ -137,15 +148,19 @@ impl Plan {
     #[inline(never)]
     fn is_met_beyond<S: Seen>(&self, position: &S) -> bool
         requires { IsSoundPlan self.now }
-        ensures { IsTrue result ↔ (AllEither (S.men position.now) self.now.ways.items × NoneLaid (S.men position.now) self.now.denied.items) }
+        ensures { IsTrue result
+            ↔ (AllEither (S.men position.now) self.now.ways.items
+            × NoneLaid (S.men position.now) self.now.denied.items) }
     {
         all_either(&self.ways, position) && none_laid(&self.denied, position)
     }
 }
 
-/// A man who has to stand on known squares, or may not. The men stand the one way or the other, of each of these.
+/// A man who has to stand on known squares, or may not. The men stand the one way or the other, of
+/// each of these.
 fn sieve_of_ways(all: &[Ways]) -> Option<Sieve>
-    ensures { IfSome result (λ sieve. (men : Placement) → AllEither men all.now → FitsSieve sieve men) }
+    ensures { IfSome result (λ sieve. (men : Placement) → AllEither men all.now
+        → FitsSieve sieve men) }
 {
     for ways in all {
         if let Some(sieve) = sieve_of(ways.straight.layout(), Some(ways.turned.layout())) {

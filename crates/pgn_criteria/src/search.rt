@@ -1,5 +1,6 @@
 //! The plies of one game that meet criteria, looked for one after the other.
-ghost use Rattle.std.specs.Prelude.{◌≡◌, ◌↔◌, ◌==◌, ℕ, false, List, length, IsTrue, IfOk, IfSome, MatchResult};
+ghost use Rattle.std.specs.Prelude.{◌≡◌, ◌↔◌, ◌==◌, ℕ, false, List, length, IsTrue, IfOk, IfSome};
+ghost use Rattle.std.specs.Prelude.{MatchResult};
 ghost use Rattle.chess.specs.Public.Positions.{State};
 ghost use Rattle.pgn_text.specs.Public.GameTexts.{GameText, tag_in};
 ghost use Rattle.pgn_game.specs.Public.Faults.{IsFault};
@@ -23,7 +24,8 @@ use pgn_text::RawGame;
 use std::alloc::{AllocError, Global};
 use std::marker::Model;
 
-/// What criteria ask of the positions of one game: the alternatives whose conditions on tags and on the moves hold. Contracts see them
+/// What criteria ask of the positions of one game: the alternatives whose conditions on tags and on
+/// the moves hold. Contracts see them
 /// without those conditions.
 #[derive(Drop)]
 pub struct Search<'a> {
@@ -31,11 +33,11 @@ pub struct Search<'a> {
 }
 
 impl<'a> Model for Search<'a> {
-    ghost use Rattle.std.specs.Prelude.{ℕ, List, map};
-    ghost use Rattle.pgn_criteria.specs.declared.condition.Condition.{Condition};
+    ghost use Rattle.std.specs.Prelude.{List, map};
+    ghost use Rattle.pgn_criteria.specs.Public.Conditions.{Conditions};
     ghost use Rattle.pgn_criteria.specs.Private.Stages.{on_positions};
 
-    ghost Value = { List (List (Condition (List ℕ))) };
+    ghost Value = { List Conditions };
 
     ghost view = { λ s. map (λ a. on_positions a.now) s.left.items };
 }
@@ -48,11 +50,14 @@ impl<'a> Search<'a> {
         self.left.is_empty()
     }
 
-    /// Whether the position that is seen meets what is asked: some alternative that is left holds there.
+    /// Whether the position that is seen meets what is asked: some alternative that is left holds
+    /// there.
     #[inline(always)]
     pub fn is_met<S: Seen>(&self, seen: &S) -> bool
-        ensures { (P : State) → IsSeenOf P (S.men seen.now) (S.turn seen.now) (S.checked seen.now) (S.stuck seen.now)
-            → (heading : Heading) (replay : Replay) (ply : ℕ) → IsTrue result ↔ SomeHold heading replay ply P self.now }
+        ensures { (P : State)
+            → IsSeenOf P (S.men seen.now) (S.turn seen.now) (S.checked seen.now) (S.stuck seen.now)
+            → (heading : Heading) (replay : Replay) (ply : ℕ)
+            → IsTrue result ↔ SomeHold heading replay ply P self.now }
     {
         for alternative in &self.left {
             if alternative.is_met(seen) {
@@ -62,10 +67,13 @@ impl<'a> Search<'a> {
         false
     }
 
-    /// Whether a position of a packed game may meet what is asked, by the squares of one man of each alternative, and by check and whether
+    /// Whether a position of a packed game may meet what is asked, by the squares of one man of
+    /// each alternative, and by check and whether
     /// there is a move: the game starts as is seen, and these are the bytes of its plies.
     pub fn may_be_met<S: Seen>(&self, start: &S, plies: &[u8]) -> bool
-        ensures { result ≡ false → NowhereSeen (MeetsSeen self.now) (S.men start.now) (S.turn start.now) (S.checked start.now) (S.stuck start.now) (codes_in plies.now) }
+        ensures { result ≡ false
+            → NowhereSeen (MeetsSeen self.now) (S.men start.now) (S.turn start.now)
+            (S.checked start.now) (S.stuck start.now) (codes_in plies.now) }
     {
         for alternative in &self.left {
             if alternative.may_be_met(start, plies) {
@@ -76,7 +84,8 @@ impl<'a> Search<'a> {
     }
 }
 
-/// What the alternatives ask of the positions of a game that begins with the moves of this replay. Conditions on tags and on the moves are
+/// What the alternatives ask of the positions of a game that begins with the moves of this replay.
+/// Conditions on tags and on the moves are
 /// decided here.
 fn left_after<'a>(
     alloc: Global,
@@ -87,7 +96,8 @@ fn left_after<'a>(
     requires good { AllGood alternatives.now }
     requires legal { AreLegal opening.now }
     requires still { (most : ℕ) × EachAsksWithin most alternatives.now }
-    ensures kept { IfOk result (λ search. (ply : ℕ) (P : State) → SomeHold (heading_of game.now) opening.now ply P search
+    ensures kept { IfOk result (λ search. (ply : ℕ) (P : State)
+        → SomeHold (heading_of game.now) opening.now ply P search
         ↔ SomeHold (heading_of game.now) opening.now ply P alternatives.now) }
     ensures free { IfOk result (EachAsksWithin 0) }
 {
@@ -101,7 +111,8 @@ fn left_after<'a>(
 }
 
 impl Criteria {
-    /// What the criteria ask of the positions of the game, where that does not depend on its moves. It is `None` where an alternative
+    /// What the criteria ask of the positions of the game, where that does not depend on its moves.
+    /// It is `None` where an alternative
     /// whose conditions on tags hold has one on the moves.
     fn watch_heading<'a, H: Headed<'a>>(
         &'a self,
@@ -110,7 +121,8 @@ impl Criteria {
     ) -> Result<Option<Search<'a>>, AllocError>
         requires { H.valid game.now }
         ensures { IfOk result (λ watched. IfSome watched (λ search. (replay : Replay) (ply : ℕ)
-            → Meets (H.heading game.now) replay ply search ↔ Meets (H.heading game.now) replay ply self.now)) }
+            → Meets (H.heading game.now) replay ply search
+            ↔ Meets (H.heading game.now) replay ply self.now)) }
     {
         let mut left = Vec::new(alloc);
         for alternative in &self.alternatives {
@@ -124,23 +136,32 @@ impl Criteria {
         Ok(Some(Search { left }))
     }
 
-    /// What the criteria ask of the positions of a packed game. Conditions on its tags and its result are decided here, once. It is
-    /// `None` where an alternative of which these hold speaks of the moves too, or of several plies.
+    /// What the criteria ask of the positions of a packed game. Conditions on its tags and its
+    /// result are decided here, once. It is
+    /// `None` where an alternative of which these hold speaks of the moves too, or of several
+    /// plies.
     pub fn watch_packed<'a>(
         &'a self,
         alloc: Global,
         record: &RawRecord<'a>,
     ) -> Result<Option<Search<'a>>, AllocError>
         requires { IsRawOfGame record.now }
-        ensures { IfOk result (λ watched. IfSome watched (λ search. (game : GameText) (replay : Replay) (packed : PackedGame) → IsPacked packed.name packed.number packed.offset game replay packed
-            → FitsRecord packed → raw_of packed ≡ record.now → (any : Replay) (ply : ℕ) → Meets (heading_of game) any ply search ↔ Meets (heading_of game) any ply self.now)) }
+        ensures { IfOk result (λ watched.
+            IfSome watched (λ search. (game : GameText) (replay : Replay) (packed : PackedGame)
+            → IsPacked packed.name packed.number packed.offset game replay packed
+            → FitsRecord packed → raw_of packed ≡ record.now → (any : Replay) (ply : ℕ)
+            → Meets (heading_of game) any ply search
+            ↔ Meets (heading_of game) any ply self.now)) }
     {
         self.watch_heading(alloc, record)
     }
 
-    /// What the criteria ask of the positions of the game, by which its plies are found while it is played. Conditions on tags and on the
-    /// first moves are decided here, once. No more of the main line is played than conditions on its moves ask for; where it is faulty
-    /// there, the fault is answered. It is `None` where a condition speaks of the moves at each ply, or of several plies: `met_plies` finds
+    /// What the criteria ask of the positions of the game, by which its plies are found while it is
+    /// played. Conditions on tags and on the
+    /// first moves are decided here, once. No more of the main line is played than conditions on
+    /// its moves ask for; where it is faulty
+    /// there, the fault is answered. It is `None` where a condition speaks of the moves at each
+    /// ply, or of several plies: `met_plies` finds
     /// the plies then.
     pub fn watch<'a>(
         &'a self,
@@ -148,9 +169,14 @@ impl Criteria {
         game: &RawGame<'a>,
     ) -> Result<Option<Search<'a>>, GameFault<'a>>
         ensures { MatchResult result
-            (λ watched. IfSome watched (λ search. (replay : Replay) → IsSomeReplay (tag_in fen_tag game.now.tags) game.now.elements replay
-            → (ply : ℕ) → Meets (heading_of game.now) replay ply search ↔ Meets (heading_of game.now) replay ply self.now))
-            (λ fault. IfSome (fault_of fault) (IsFault Main (tag_in fen_tag game.now.tags) game.now.elements)) }
+            (λ watched.
+            IfSome watched (λ search. (replay : Replay)
+            → IsSomeReplay (tag_in fen_tag game.now.tags) game.now.elements replay
+            → (ply : ℕ) → Meets (heading_of game.now) replay ply search
+            ↔ Meets (heading_of game.now) replay ply self.now))
+            (λ fault.
+            IfSome (fault_of fault)
+            (IsFault Main (tag_in fen_tag game.now.tags) game.now.elements)) }
     {
         if let Some(search) = self.watch_heading(alloc, game)? {
             return Ok(Some(search));

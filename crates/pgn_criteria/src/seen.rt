@@ -1,4 +1,5 @@
-//! What is asked of one position: the men on their squares, the side to move, whether it is in check, and whether it has no move.
+//! What is asked of one position: the men on their squares, the side to move, whether it is in
+//! check, and whether it has no move.
 ghost use Rattle.std.specs.Prelude.{◌≡◌, ◌↔◌, IsTrue};
 ghost use Rattle.chess.specs.Public.Moves.{HasMove};
 ghost use Rattle.chess.specs.Public.Placements.{Placement, man_at, AreOnBoard};

@@ -1,11 +1,13 @@
-//! A man who has to stand on known squares, or may not. Games in which he never stands so are passed over.
+//! A man who has to stand on known squares, or may not. Games in which he never stands so are
+//! passed over.
 ghost use Rattle.std.specs.Prelude.{◌≡◌, IsTrue, IfSome, Some, false, option_map};
 ghost use Rattle.chess.specs.Public.Placements.{Placement, man_at};
 ghost use Rattle.chess.specs.Public.Squares.{IsOnBoard};
 ghost use Rattle.pgn_criteria.specs.Private.Items.{IsOf};
 ghost use Rattle.pgn_criteria.specs.Private.Layouts.{AllStand, Laid};
 ghost use Rattle.pgn_criteria.specs.Public.Sieves.{codes_in};
-ghost use Rattle.pgn_criteria.specs.Private.Tracks.{FitsSieve, LaidEither, Nowhere, StaysAs, StaysAt, StaysOn};
+ghost use Rattle.pgn_criteria.specs.Private.Tracks.{FitsSieve, LaidEither, Nowhere, StaysAs};
+ghost use Rattle.pgn_criteria.specs.Private.Tracks.{StaysAt, StaysOn};
 ghost use Rattle.pgn_criteria.specs.declared.rank.SquareTest.TheVariants.{This};
 
 use crate::layout::{Asked, Layout};
@@ -103,7 +105,8 @@ impl Asked {
 impl Stand {
     /// Adds what is asked of a square, as far as it is said of the man.
     fn add(&mut self, man: Man, asked: &Asked)
-        ensures { (men : Placement) → IsOf asked.now.class (man_at men asked.now.square) → StaysOn self.old man men → StaysOn self.new man men }
+        ensures { (men : Placement) → IsOf asked.now.class (man_at men asked.now.square)
+            → StaysOn self.old man men → StaysOn self.new man men }
     {
         if asked.names(man) {
             self.wanted.insert(asked.place());
@@ -114,7 +117,8 @@ impl Stand {
 
     /// Adds what is asked of squares.
     fn add_all(&mut self, man: Man, all: &[Asked])
-        ensures { (men : Placement) → AllStand men all.now → StaysOn self.old man men → StaysOn self.new man men }
+        ensures { (men : Placement) → AllStand men all.now → StaysOn self.old man men
+            → StaysOn self.new man men }
     {
         for asked in all {
             self.add(man, asked);
@@ -150,7 +154,9 @@ impl Site {
 impl Sieve {
     /// How the man stands where the men stand as one of these lays out.
     fn new(man: Man, straight: &Layout, turned: Option<&Layout>) -> Self
-        ensures { (men : Placement) → LaidEither men straight.now (option_map (λ layout. layout.now) turned.entry) → FitsSieve result men }
+        ensures { (men : Placement)
+            → LaidEither men straight.now (option_map (λ layout. layout.now) turned.entry)
+            → FitsSieve result men }
     {
         let other = match turned {
             Some(layout) => Some(Site::new(man, layout)),
@@ -176,7 +182,8 @@ impl Sieve {
     /// Whether the man may stand as he has to, before the plies or after one of them.
     #[inline(always)]
     pub(crate) fn lets_through<S: Seen>(&self, start: &S, plies: &[u8]) -> bool
-        ensures { result ≡ false → Nowhere (FitsSieve self.now) (S.men start.now) (codes_in plies.now) }
+        ensures { result ≡ false
+            → Nowhere (FitsSieve self.now) (S.men start.now) (codes_in plies.now) }
     {
         let squares = start.squares_with(self.man);
         match &self.turned {
@@ -191,10 +198,13 @@ impl Sieve {
     }
 }
 
-/// The man who has to stand on most squares, and of these the one who may stand on fewest. The men stand as one of these lays out. He is one
+/// The man who has to stand on most squares, and of these the one who may stand on fewest. The men
+/// stand as one of these lays out. He is one
 /// who does not stand so as games usually begin, if there is one.
 pub(crate) fn sieve_of(straight: &Layout, turned: Option<&Layout>) -> Option<Sieve>
-    ensures { IfSome result (λ sieve. (men : Placement) → LaidEither men straight.now (option_map (λ layout. layout.now) turned.entry) → FitsSieve sieve men) }
+    ensures { IfSome result (λ sieve. (men : Placement)
+        → LaidEither men straight.now (option_map (λ layout. layout.now) turned.entry)
+        → FitsSieve sieve men) }
 {
     let initial = Bits::initial();
     let mut best: Option<Sieve> = None;

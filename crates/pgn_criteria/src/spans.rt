@@ -1,75 +1,46 @@
 //! What `for` and `count` say of the plies at which the other conditions of an alternative fit.
-ghost use Rattle.std.specs.Prelude.{◌≡◌, ◌↔◌, ◌⊎◌, ◌+◌, ◌≤◌, ◌<◌, if◌then◌else◌, ℕ, map, length, get_or, false, IsTrue, IfSome};
-ghost use Rattle.pgn_criteria.specs.Private.Stages.{AreLegal, FitsAt, FitsAbout, IsRun, AreSoMany, IsNoSpan, AreNoSpans, IsNoCount, AreNoCounts, SpanStands, SpansStand, IsFirstBefore, seen, claim_seen};
+ghost use Rattle.std.specs.Prelude.{◌≡◌, ◌↔◌, ◌⊎◌, ◌+◌, ◌≤◌, ◌<◌, if◌then◌else◌, ℕ, map, length};
+ghost use Rattle.std.specs.Prelude.{get_or, false, IsTrue, IfSome};
+ghost use Rattle.pgn_criteria.specs.Private.Stages.{AreLegal, FitsAt, FitsAbout, IsRun, AreSoMany};
+ghost use Rattle.pgn_criteria.specs.Private.Stages.{AreNoCounts, SpanStands, SpansStand};
+ghost use Rattle.pgn_criteria.specs.Private.Stages.{IsFirstBefore};
 
 use crate::alternative::Alternative;
 use crate::compare::compares;
-use crate::condition::{Claim, Condition};
+use crate::condition::SpanClaim;
 use crate::meets::fits_at;
 use pgn_game::Replayed;
 
-/// Whether the claim is neither `for` nor `count`.
-fn is_no_span(claim: &Claim<Vec<u8>>) -> bool
-    ensures { IsTrue result ↔ IsNoSpan (claim_seen (λ text. text.items) claim.now) }
+/// Whether none of them is `count`.
+pub(crate) fn are_no_counts(claims: &[SpanClaim]) -> bool
+    ensures { IsTrue result ↔ AreNoCounts claims.now }
 {
-    match claim {
-        Claim::For(_) => false,
-        Claim::Count { .. } => false,
-        _ => true,
-    }
-}
-
-/// Whether none of the conditions has `for` or `count`.
-pub(crate) fn are_no_spans(conditions: &[Condition<Vec<u8>>]) -> bool
-    ensures { IsTrue result ↔ AreNoSpans (map (seen (λ text. text.items)) conditions.now) }
-{
-    for condition in conditions {
-        if !is_no_span(&condition.claim) {
+    for claim in claims {
+        if let SpanClaim::Count { .. } = claim {
             return false;
         }
     }
     true
 }
 
-/// Whether the claim is not `count`.
-fn is_no_count(claim: &Claim<Vec<u8>>) -> bool
-    ensures { IsTrue result ↔ IsNoCount (claim_seen (λ text. text.items) claim.now) }
+/// Whether the claim is met at a ply that begins a run of so many plies that fit, where so many fit
+/// in all.
+fn span_stands(claim: &SpanClaim, run: u128, many: u128) -> bool
+    ensures { IsTrue result ↔ SpanStands run many claim.now }
 {
     match claim {
-        Claim::Count { .. } => false,
-        _ => true,
+        SpanClaim::For(count) => *count as u128 <= run,
+        SpanClaim::Count { comparison, count } => compares(*comparison, many, *count as u128),
     }
 }
 
-/// Whether none of the conditions has `count`.
-pub(crate) fn are_no_counts(conditions: &[Condition<Vec<u8>>]) -> bool
-    ensures { IsTrue result ↔ AreNoCounts (map (seen (λ text. text.items)) conditions.now) }
+/// Whether `for` and `count` are met at a ply that begins a run of so many plies that fit, where so
+/// many fit in all.
+pub(crate) fn spans_stand(claims: &[SpanClaim], run: u128, many: u128) -> bool
+    ensures { IsTrue result ↔ SpansStand run many claims.now }
 {
-    for condition in conditions {
-        if !is_no_count(&condition.claim) {
-            return false;
-        }
-    }
-    true
-}
-
-/// Whether the claim is met at a ply that begins a run of so many plies that fit, where so many fit in all.
-fn span_stands(claim: &Claim<Vec<u8>>, run: u128, many: u128) -> bool
-    ensures { IsTrue result ↔ SpanStands run many (claim_seen (λ text. text.items) claim.now) }
-{
-    match claim {
-        Claim::For(count) => *count as u128 <= run,
-        Claim::Count { comparison, count } => compares(*comparison, many, *count as u128),
-        _ => true,
-    }
-}
-
-/// Whether `for` and `count` are met at a ply that begins a run of so many plies that fit, where so many fit in all.
-pub(crate) fn spans_stand(conditions: &[Condition<Vec<u8>>], run: u128, many: u128) -> bool
-    ensures { IsTrue result ↔ SpansStand run many (map (seen (λ text. text.items)) conditions.now) }
-{
-    for condition in conditions {
-        if !span_stands(&condition.claim, run, many) {
+    for claim in claims {
+        if !span_stands(claim, run, many) {
             return false;
         }
     }
@@ -122,7 +93,8 @@ fn count_fitting(alternative: &Alternative, replayed: &Replayed) -> u128
 /// How many plies of the game fit, where that is asked for.
 fn many_of(alternative: &Alternative, replayed: &Replayed) -> u128
     requires { AreLegal replayed.now }
-    ensures { AreNoCounts alternative.now ⊎ AreSoMany (FitsAt replayed.now alternative.now) result }
+    ensures { AreNoCounts alternative.now.spans
+        ⊎ AreSoMany (FitsAt replayed.now alternative.now) result }
 {
     if alternative.is_free_of_counts() {
         return 0;
@@ -142,9 +114,10 @@ fn run_on(alternative: &Alternative, replayed: &Replayed, plies: usize, known: O
     }
 }
 
-/// Whether all that the conditions say is so of a ply that begins a run of so many plies that fit, where so many fit in all.
+/// Whether all that the conditions say is so of a ply that begins a run of so many plies that fit,
+/// where so many fit in all.
 fn stands_about(alternative: &Alternative, run: u128, many: u128) -> bool
-    ensures { IsTrue result ↔ ((0 < run) × SpansStand run many alternative.now) }
+    ensures { IsTrue result ↔ ((0 < run) × SpansStand run many alternative.now.spans) }
 {
     run > 0 && alternative.spans_stand(run, many)
 }
@@ -163,7 +136,8 @@ pub(crate) fn fits_about(alternative: &Alternative, replayed: &Replayed, plies: 
     stands_about(alternative, run, many)
 }
 
-/// The least ply from one on and before another at which all that the conditions say of plies is so. Each ply is tried at most twice.
+/// The least ply from one on and before another at which all that the conditions say of plies is
+/// so. Each ply is tried at most twice.
 pub(crate) fn first_about(
     alternative: &Alternative,
     replayed: &Replayed,
@@ -187,7 +161,8 @@ pub(crate) fn first_about(
     None
 }
 
-/// Adds the plies at which all that the conditions say of plies is so. Each ply is tried at most twice, however long the runs
+/// Adds the plies at which all that the conditions say of plies is so. Each ply is tried at most
+/// twice, however long the runs
 /// are.
 pub(crate) fn add_plies(met: &mut [bool], alternative: &Alternative, replayed: &Replayed)
     requires { AreLegal replayed.now }

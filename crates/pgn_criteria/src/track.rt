@@ -1,4 +1,5 @@
-//! The squares of one man, moved by the codes of plies. Where he never stands as is asked, no position of a game need be looked at.
+//! The squares of one man, moved by the codes of plies. Where he never stands as is asked, no
+//! position of a game need be looked at.
 ghost use Rattle.std.specs.Prelude.{◌≡◌, ◌↔◌, ◌<◌, ◌+◌, ◌*◌, ◌/◌, ◌%◌, IsTrue, None, true, false};
 ghost use Rattle.chess.specs.Public.Moves.{with_rook};
 ghost use Rattle.chess.specs.Public.Placements.{Placement};
@@ -7,7 +8,8 @@ ghost use Rattle.chess.specs.Public.Squares.{square_at};
 ghost use Rattle.chess.specs.declared.board.man.Man.{Man};
 ghost use Rattle.pgn_criteria.specs.Public.Sieves.{codes_in};
 ghost use Rattle.pgn_criteria.specs.Private.Tracks.{AreTaken, IsPut, Nowhere, gone};
-ghost use Rattle.pgn_game.specs.Public.PlyCodes.{code_of, man_number, moved, numbered_castle, numbered_man};
+ghost use Rattle.pgn_game.specs.Public.PlyCodes.{code_of, man_number, moved, numbered_castle};
+ghost use Rattle.pgn_game.specs.Public.PlyCodes.{numbered_man};
 
 use crate::walk::{rook_arrives, rook_leaves};
 use chess::{Kind, Man, Side, Square, SquareSet};
@@ -18,9 +20,11 @@ pub(crate) trait StandTest {
     /// The man stands so among the men.
     ghost stands: { Self → Man → Placement → Type 0 };
 
-    /// Whether a man who stands on these squares may stand so, where the others are known to be taken.
+    /// Whether a man who stands on these squares may stand so, where the others are known to be
+    /// taken.
     fn is_met(&self, squares: &SquareSet, taken: &SquareSet) -> bool
-        ensures { (man : Man) (men : Placement) → IsSquaresOf men man squares.now → AreTaken men taken.now → stands self.now man men → IsTrue result };
+        ensures { (man : Man) (men : Placement) → IsSquaresOf men man squares.now
+            → AreTaken men taken.now → stands self.now man men → IsTrue result };
 }
 
 /// Puts the square into the set, or takes it out.
@@ -64,13 +68,17 @@ fn has_number(own: Man, number: u8) -> bool
     number_of(own) == number
 }
 
-/// The squares of the man with the number after a king castles by the bytes, where these are his before it.
+/// The squares of the man with the number after a king castles by the bytes, where these are his
+/// before it.
 #[cold]
 #[inline(never)]
 fn follow_castling(number: u8, squares: SquareSet, a: u8, b: u8, king: u8) -> SquareSet
     requires { king < 16 }
-    ensures { (man : Man) → man_number man None ≡ number → (men : Placement) → IsSquaresOf men man squares
-        → IsSquaresOf (gone men (square_at (a % 64)) (square_at (b % 64)) (numbered_man king) (numbered_castle king)) man result }
+    ensures { (man : Man) → man_number man None ≡ number → (men : Placement)
+        → IsSquaresOf men man squares
+        → IsSquaresOf
+        (gone men (square_at (a % 64)) (square_at (b % 64)) (numbered_man king)
+        (numbered_castle king)) man result }
 {
     let own = numbered_man(king);
     let mut now = squares;
@@ -92,12 +100,14 @@ fn follow_castling(number: u8, squares: SquareSet, a: u8, b: u8, king: u8) -> Sq
     now
 }
 
-/// Squares that are known to be taken after the rook of a king who castles. These are taken before it goes.
+/// Squares that are known to be taken after the rook of a king who castles. These are taken before
+/// it goes.
 #[cold]
 #[inline(never)]
 fn settle_rook(taken: SquareSet, king: u8) -> SquareSet
     requires { king < 16 }
-    ensures { (men : Placement) → AreTaken men taken → AreTaken (with_rook (numbered_man king).side (numbered_castle king) men) result }
+    ensures { (men : Placement) → AreTaken men taken
+        → AreTaken (with_rook (numbered_man king).side (numbered_castle king) men) result }
 {
     let side = numbered_man(king).side;
     let mut now = taken;
@@ -132,11 +142,13 @@ fn is_arriving(number: u8, b: u8, d: u8) -> bool
     b / 64 == number % 4 && d / 64 == number / 4
 }
 
-/// The squares of the man with the number after the ply of three bytes, where these are his before it.
+/// The squares of the man with the number after the ply of three bytes, where these are his before
+/// it.
 #[inline(always)]
 fn follow(number: u8, squares: SquareSet, a: u8, b: u8, d: u8) -> SquareSet
     requires { number < 12 }
-    ensures { (man : Man) → man_number man None ≡ number → (men : Placement) → IsSquaresOf men man squares
+    ensures { (man : Man) → man_number man None ≡ number → (men : Placement)
+        → IsSquaresOf men man squares
         → IsSquaresOf (moved men (code_of a b d)) man result }
 {
     let mut now = squares;
@@ -153,14 +165,16 @@ fn follow(number: u8, squares: SquareSet, a: u8, b: u8, d: u8) -> SquareSet
     now
 }
 
-/// Whether the man stands as is asked before the plies or after one of them. He stands on these squares before them.
+/// Whether the man stands as is asked before the plies or after one of them. He stands on these
+/// squares before them.
 pub(crate) fn is_met_somewhere<T: StandTest>(
     stand: &T,
     man: Man,
     start: SquareSet,
     plies: &[u8],
 ) -> bool
-    ensures { (men : Placement) → IsSquaresOf men man start → result ≡ false → Nowhere (T.stands stand.now man) men (codes_in plies.now) }
+    ensures { (men : Placement) → IsSquaresOf men man start → result ≡ false
+        → Nowhere (T.stands stand.now man) men (codes_in plies.now) }
 {
     let mut squares = start;
     let mut taken = SquareSet::new();

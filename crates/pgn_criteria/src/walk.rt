@@ -1,4 +1,5 @@
-//! A walk over plies of which each is told by three bytes: the men are moved by them, with no question to the Laws.
+//! A walk over plies of which each is told by three bytes: the men are moved by them, with no
+//! question to the Laws.
 ghost use Rattle.std.specs.Prelude.{◌≡◌, IsTrue};
 ghost use Rattle.chess.specs.Public.Positions.{rook_from, rook_to};
 ghost use Rattle.pgn_game.specs.Public.PlyCodes.{code_of};
@@ -9,7 +10,8 @@ use chess::{Board, Kind, Man, Side, Square, SquareSet, Wing};
 use pgn_game::pack::{numbered_castle, numbered_man};
 use std::marker::Model;
 
-/// What is seen of a position: its men, the side to move, whether it is in check, and whether it has no move.
+/// What is seen of a position: its men, the side to move, whether it is in check, and whether it
+/// has no move.
 #[derive(Drop)]
 pub struct Walk<B: Board> {
     board: B,

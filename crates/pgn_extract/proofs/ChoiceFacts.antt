@@ -4,17 +4,20 @@ use Rattle.pgn_extract.specs.Public.Choices.{IfChosen}
 use Rattle.pgn_extract.specs.declared.marks.Met.{Met}
 
 -- it is the one or the other
-pub by_choice : (taken : Bool) {P Q R : Type 0} → (taken ≡ true → P → R) → (taken ≡ false → Q → R) → IfChosen taken P Q → R
+pub by_choice : (taken : Bool) {P Q R : Type 0} → (taken ≡ true → P → R) → (taken ≡ false → Q → R)
+    → IfChosen taken P Q → R
 by_choice true chosen passed has = chosen refl has
 by_choice false chosen passed has = passed refl has
 
 -- two facts of one piece
-pub by_both : (taken : Bool) {P Q S T R : Type 0} → (P → S → R) → (Q → T → R) → IfChosen taken P Q → IfChosen taken S T → R
+pub by_both : (taken : Bool) {P Q S T R : Type 0} → (P → S → R) → (Q → T → R) → IfChosen taken P Q
+    → IfChosen taken S T → R
 by_both true chosen passed has also = chosen has also
 by_both false chosen passed has also = passed has also
 
 -- one fact makes another
-pub choice_of : (taken : Bool) {P Q S T : Type 0} → (P → S) → (Q → T) → IfChosen taken P Q → IfChosen taken S T
+pub choice_of : (taken : Bool) {P Q S T : Type 0} → (P → S) → (Q → T) → IfChosen taken P Q
+    → IfChosen taken S T
 choice_of true chosen passed has = chosen has
 choice_of false chosen passed has = passed has
 

@@ -1,5 +1,6 @@
 -- Entries that are chosen by their plies.
-use Rattle.std.proofs.Common.{◌≡◌, ◌<◌, ℕ, zero, suc, List, [], ◌∷◌, refl, sym, ap, ◌∙◌, subst, arith, inl, inr, ◌⊎◌}
+use Rattle.std.proofs.Common.{◌≡◌, ◌<◌, ℕ, zero, suc, List, [], ◌∷◌, refl, sym, ap, ◌∙◌, subst}
+use Rattle.std.proofs.Common.{arith, inl, inr, ◌⊎◌}
 use Rattle.std.specs.List.{Contains}
 use Rattle.std.proofs.lemmas.List.Elements.{Contains-append_right}
 use Rattle.pgn_extract.specs.Public.Listing.{Entry, Ascend}
@@ -16,7 +17,8 @@ pub none_in : {A : Type 0} (x : A) → Contains [] x → ⊥
 none_in x (k, less, is) = omega arith
 
 -- the first of some, or one of the others
-pub in_front : {A : Type 0} (first : A) (more : List A) (x : A) → Contains (first ∷ more) x → (first ≡ x) ⊎ Contains more x
+pub in_front : {A : Type 0} (first : A) (more : List A) (x : A) → Contains (first ∷ more) x
+    → (first ≡ x) ⊎ Contains more x
 in_front first more x (zero, less, is) = inl is
 in_front first more x (suc k, less, is) = inr (k, omega arith, is)
 
@@ -26,7 +28,8 @@ Rise [] = Unit {0}
 Rise (ply ∷ more) = ((later : ℕ) → Contains more later → ply < later) × Rise more
 
 -- what an entry that is chosen is
-pub record IsPicked (id : GameId) (P : ℕ → Type 0) (S : ℕ → List ℕ → Type 0) (all : List ℕ) (entry : Entry) : Type 0 where
+pub record IsPicked (id : GameId) (P : ℕ → Type 0) (S : ℕ → List ℕ
+    → Type 0) (all : List ℕ) (entry : Entry) : Type 0 where
   pub is : entry ≡ entry_at id entry.ply entry.shown
   pub among : Contains all entry.ply
   pub fact : P entry.ply
@@ -34,7 +37,8 @@ pub record IsPicked (id : GameId) (P : ℕ → Type 0) (S : ℕ → List ℕ →
 
 module _ (id : GameId) (P : ℕ → Type 0) (S : ℕ → List ℕ → Type 0) where
   -- among others too
-  picked_after : (first : ℕ) (all : List ℕ) (entry : Entry) → IsPicked id P S all entry → IsPicked id P S (first ∷ all) entry
+  picked_after : (first : ℕ) (all : List ℕ) (entry : Entry) → IsPicked id P S all entry
+      → IsPicked id P S (first ∷ all) entry
   picked_after first all entry of = record {
     is = of.is;
     among = Contains-append_right (first ∷ []) all entry.ply of.among;
@@ -43,19 +47,23 @@ module _ (id : GameId) (P : ℕ → Type 0) (S : ℕ → List ℕ → Type 0) wh
   }
 
   -- what is chosen is among all, and has the fact
-  pub chosen_from : (all : List ℕ) (chosen : List Entry) → AreChosen id P S all chosen → (entry : Entry) → Contains chosen entry
+  pub chosen_from : (all : List ℕ) (chosen : List Entry) → AreChosen id P S all chosen
+      → (entry : Entry) → Contains chosen entry
       → IsPicked id P S all entry
   chosen_from _ _ none entry has = absurd (none_in entry has)
   chosen_from _ _ (keep first shown all chosen holds shows more) entry has =
       elim (in_front (entry_at id first shown) chosen entry has) [
         | inl is ↦
-            subst (IsPicked id P S (first ∷ all)) is (record { is = refl; among = (0, omega arith, refl); fact = holds; shows = shows })
+            subst (IsPicked id P S (first ∷ all)) is
+            (record { is = refl; among = (0, omega arith, refl); fact = holds; shows = shows })
         | inr later ↦ picked_after first all entry (chosen_from all chosen more entry later)
       ]
-  chosen_from _ _ (leave first all chosen fails more) entry has = picked_after first all entry (chosen_from all chosen more entry has)
+  chosen_from _ _ (leave first all chosen fails more) entry has =
+      picked_after first all entry (chosen_from all chosen more entry has)
 
   -- their order stays
-  pub chosen_ascend : (all : List ℕ) (chosen : List Entry) → AreChosen id P S all chosen → Rise all → Ascend chosen
+  pub chosen_ascend : (all : List ℕ) (chosen : List Entry) → AreChosen id P S all chosen → Rise all
+      → Ascend chosen
   chosen_ascend _ _ none up = tt
   chosen_ascend _ _ (keep first shown all chosen holds shows more) up = (
     λ later has.
@@ -67,55 +75,72 @@ module _ (id : GameId) (P : ℕ → Type 0) (S : ℕ → List ℕ → Type 0) wh
 
   -- where each is decided, and something is shown of each, some are chosen
   pub some_chosen : (all : List ℕ) → ((ply : ℕ) → Contains all ply → P ply ⊎ (P ply → ⊥))
-      → ((ply : ℕ) → Contains all ply → (shown : List ℕ) × S ply shown) → (chosen : List Entry) × AreChosen id P S all chosen
+      → ((ply : ℕ) → Contains all ply → (shown : List ℕ) × S ply shown)
+      → (chosen : List Entry) × AreChosen id P S all chosen
   some_chosen [] decides shows = ([], none)
   some_chosen (first ∷ all) decides shows =
-      let later = some_chosen all (λ ply has. decides ply (Contains-append_right (first ∷ []) all ply has))
+      let later =
+      some_chosen all (λ ply has. decides ply (Contains-append_right (first ∷ []) all ply has))
       (λ ply has. shows ply (Contains-append_right (first ∷ []) all ply has)) in
       let own = shows first (0, omega arith, refl) in
       elim (decides first (0, omega arith, refl)) [
-        | inl holds ↦ (entry_at id first own.0 ∷ later.0, keep first own.0 all later.0 holds own.1 later.1)
+        | inl holds ↦ (
+          entry_at id first own.0 ∷ later.0,
+          keep first own.0 all later.0 holds own.1 later.1,
+        )
         | inr fails ↦ (later.0, leave first all later.0 fails later.1)
       ]
 
   -- where one text is shown of each ply
   module _ (one : (ply : ℕ) (x y : List ℕ) → S ply x → S ply y → x ≡ y) where
     -- the entry of each ply that is among all and has the fact is chosen
-    pub chosen_all : (all : List ℕ) (chosen : List Entry) → AreChosen id P S all chosen → (entry : Entry)
+    pub chosen_all : (all : List ℕ) (chosen : List Entry) → AreChosen id P S all chosen
+        → (entry : Entry)
         → IsPicked id P S all entry → Contains chosen entry
     chosen_all _ _ none entry of = absurd (none_in entry.ply of.among)
     chosen_all _ _ (keep first shown all chosen held shows more) entry of =
         elim (in_front first all entry.ply of.among) [
           | inl is ↦
-              let same : shown ≡ entry.shown = one entry.ply shown entry.shown (subst (λ n. S n shown) is shows) of.shows in
+              let same : shown ≡ entry.shown =
+              one entry.ply shown entry.shown (subst (λ n. S n shown) is shows) of.shows in
               let whole : entry_at id first shown ≡ entry =
               ap (λ n. entry_at id n shown) is ∙ ap (entry_at id entry.ply) same ∙ sym of.is in
               (0, omega arith, whole)
           | inr later ↦
               Contains-append_right (entry_at id first shown ∷ []) chosen entry
-              (chosen_all all chosen more entry (record { is = of.is; among = later; fact = of.fact; shows = of.shows }))
+              (chosen_all all chosen more entry
+              (record { is = of.is; among = later; fact = of.fact; shows = of.shows }))
         ]
     chosen_all _ _ (leave first all chosen fails more) entry of =
         elim (in_front first all entry.ply of.among) [
           | inl is ↦ absurd (fails (subst P (sym is) of.fact))
-          | inr later ↦ chosen_all all chosen more entry (record { is = of.is; among = later; fact = of.fact; shows = of.shows })
+          | inr later ↦ chosen_all all chosen more entry
+              (record { is = of.is; among = later; fact = of.fact; shows = of.shows })
         ]
 
     -- in one way
-    pub one_chosen : (all : List ℕ) (xs ys : List Entry) → AreChosen id P S all xs → AreChosen id P S all ys → xs ≡ ys
+    pub one_chosen : (all : List ℕ) (xs ys : List Entry) → AreChosen id P S all xs
+        → AreChosen id P S all ys → xs ≡ ys
     one_chosen _ _ _ none none = refl
-    one_chosen _ _ _ (keep first shown all xs held shows more) (keep _ other _ ys also showing others) =
+    one_chosen _ _ _ (keep first shown all xs held shows more)
+        (keep _ other _ ys also showing others) =
         ap (λ (t : List ℕ). entry_at id first t ∷ xs) (one first shown other shows showing)
         ∙ ap (λ (t : List Entry). entry_at id first other ∷ t) (one_chosen all xs ys more others)
-    one_chosen _ _ _ (keep first shown all xs held shows more) (leave _ _ ys fails others) = absurd (fails held)
-    one_chosen _ _ _ (leave first all xs fails more) (keep _ other _ ys held showing others) = absurd (fails held)
-    one_chosen _ _ _ (leave first all xs fails more) (leave _ _ ys also others) = one_chosen all xs ys more others
+    one_chosen _ _ _ (keep first shown all xs held shows more) (leave _ _ ys fails others) =
+        absurd (fails held)
+    one_chosen _ _ _ (leave first all xs fails more) (keep _ other _ ys held showing others) =
+        absurd (fails held)
+    one_chosen _ _ _ (leave first all xs fails more) (leave _ _ ys also others) =
+        one_chosen all xs ys more others
 
 -- the same are chosen by a fact that says the same
-pub chosen_by : (id : GameId) (P Q : ℕ → Type 0) (S : ℕ → List ℕ → Type 0) → ((ply : ℕ) → P ply → Q ply) → ((ply : ℕ) → Q ply → P ply)
-    → (all : List ℕ) (chosen : List Entry) → AreChosen id P S all chosen → AreChosen id Q S all chosen
+pub chosen_by : (id : GameId) (P Q : ℕ → Type 0) (S : ℕ → List ℕ → Type 0)
+    → ((ply : ℕ) → P ply → Q ply) → ((ply : ℕ) → Q ply → P ply)
+    → (all : List ℕ) (chosen : List Entry) → AreChosen id P S all chosen
+    → AreChosen id Q S all chosen
 chosen_by id P Q S to from _ _ none = none
 chosen_by id P Q S to from _ _ (keep first shown all chosen holds shows more) =
     keep first shown all chosen (to first holds) shows (chosen_by id P Q S to from all chosen more)
 chosen_by id P Q S to from _ _ (leave first all chosen fails more) =
-    leave first all chosen (λ holds. fails (from first holds)) (chosen_by id P Q S to from all chosen more)
+    leave first all chosen (λ holds.
+    fails (from first holds)) (chosen_by id P Q S to from all chosen more)

@@ -1,6 +1,8 @@
 -- What the definitions refuse: of a search of a pack, of an index, of files, of marks and of
 -- exports.
-use Rattle.std.proofs.Common.{◌≡◌, ◌+◌, ◌<◌, ◌==◌, ◌∙◌, ℕ, true, false, List, [], ◌∷◌, ◌++◌, length, decimal, drop, map, take, zero, suc, Option, Some, None, codes, encode_utf8_all, get_or, ap, sym, subst, refl, arith}
+use Rattle.std.proofs.Common.{◌≡◌, ◌+◌, ◌<◌, ◌==◌, ◌∙◌, ℕ, true, false, List, [], ◌∷◌, ◌++◌, length}
+use Rattle.std.proofs.Common.{decimal, drop, map, take, zero, suc, Option, Some, None, codes}
+use Rattle.std.proofs.Common.{encode_utf8_all, get_or, ap, sym, subst, refl, arith}
 use Rattle.std.proofs.lemmas.Fmt.{decimal_digit}
 use Rattle.std.proofs.lemmas.List.{length-append}
 use Rattle.std.proofs.lemmas.Str.{chars-IsAscii, encodes-IsAscii}
@@ -10,7 +12,8 @@ use Rattle.std.specs.Str.{IsAscii}
 use Rattle.pgn_text.specs.Public.GameTexts.{GameText, IsGameText, tag_in}
 use Rattle.pgn_text.specs.Public.Limits.{largest_offset}
 use Rattle.pgn_text.specs.Public.Marks.{MarkedPiece}
-use Rattle.pgn_game.specs.Public.PackedGames.{PackedGame, FitsRecord, IsPacked, pack_bytes, record_bytes}
+use Rattle.pgn_game.specs.Public.PackedGames.{PackedGame, FitsRecord, IsPacked, pack_bytes}
+use Rattle.pgn_game.specs.Public.PackedGames.{record_bytes}
 use Rattle.pgn_game.specs.Public.Replays.{Replay, IsReplay}
 use Rattle.pgn_game.specs.Public.Starts.{fen_tag}
 use Rattle.pgn_game.specs.declared.replays.replayer.Lines.TheVariants.{Main}
@@ -20,11 +23,15 @@ use Rattle.pgn_extract.specs.Public.Aims.{Aim, GameId}
 use Rattle.pgn_extract.specs.Public.Index.{mark, mark_line, shown_char, shown_name, titled}
 use Rattle.pgn_extract.specs.Public.Laws.{IsInOneOf, in_first, in_second, in_third, HasAMark}
 use Rattle.pgn_extract.specs.Public.Runs.{Passage}
-use Rattle.pgn_extract.specs.Public.Searching.{IsOfNoGame, HasNoGame, IsIndexOfSoundGames, none, keep, leave, IsSoundPiece, StopsAtLimit}
-use Rattle.pgn_extract.specs.Public.Several.{AtPath, BeginsPath, NamesUnopened, NoFile, Order, StopsAmong, StopsAtPath, WritesPaths, name_at, order_at, own_summary, summary_text}
+use Rattle.pgn_extract.specs.Public.Searching.{IsOfNoGame, HasNoGame, IsIndexOfSoundGames, none}
+use Rattle.pgn_extract.specs.Public.Searching.{keep, leave, IsSoundPiece, StopsAtLimit}
+use Rattle.pgn_extract.specs.Public.Several.{AtPath, BeginsPath, NamesUnopened, NoFile, Order}
+use Rattle.pgn_extract.specs.Public.Several.{StopsAmong, StopsAtPath, WritesPaths, name_at}
+use Rattle.pgn_extract.specs.Public.Several.{order_at, own_summary, summary_text}
 use Rattle.pgn_extract.specs.declared.app.files.Task.{Task}
 use Rattle.pgn_extract.specs.declared.output.outcome.RunError.{RunError}
-use Rattle.pgn_extract.specs.declared.output.outcome.RunError.TheVariants.{InputTooLong, OutOfMemory, Read, Write}
+use Rattle.pgn_extract.specs.declared.output.outcome.RunError.TheVariants.{InputTooLong}
+use Rattle.pgn_extract.specs.declared.output.outcome.RunError.TheVariants.{OutOfMemory, Read, Write}
 use Rattle.pgn_extract.specs.declared.output.outcome.Summary.{Summary}
 use Rattle.pgn_extract.specs.Public.Choices.{id_of}
 
@@ -72,7 +79,8 @@ no_game_left_out : (name : Option (List ℕ)) (number : ℕ) (piece : MarkedPiec
 no_game_left_out name number piece sound index = of_text [] refl index
   where
     of_text : (text : List ℕ) → text ≡ [] → IsIndexOfSoundGames name number (piece ∷ []) text → ⊥
-    of_text text empty (keep number piece more rest is after) = no_empty_line name (id_of number piece) rest empty
+    of_text text empty (keep number piece more rest is after) =
+        no_empty_line name (id_of number piece) rest empty
     of_text text empty (leave number piece more rest unsound after) = unsound sound
 
 no_other_piece : (name : Option (List ℕ)) (number : ℕ) (piece : MarkedPiece)

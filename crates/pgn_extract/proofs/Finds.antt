@@ -1,5 +1,7 @@
 -- The entries of a line that are found so far, and one more position of it.
-use Rattle.std.proofs.Common.{◌≡◌, ◌⊎◌, ◌↔◌, ℕ, ◌+◌, ◌<◌, ◌≤◌, Bool, true, false, List, [], ◌∷◌, ◌++◌, length, Option, Some, IsTrue, refl, sym, ap, ◌∙◌, subst, append_assoc, append-nil, length-append, inl, inr, not, arith}
+use Rattle.std.proofs.Common.{◌≡◌, ◌⊎◌, ◌↔◌, ℕ, ◌+◌, ◌<◌, ◌≤◌, Bool, true, false, List, [], ◌∷◌}
+use Rattle.std.proofs.Common.{◌++◌, length, Option, Some, IsTrue, refl, sym, ap, ◌∙◌, subst}
+use Rattle.std.proofs.Common.{append_assoc, append-nil, length-append, inl, inr, not, arith}
 use Rattle.std.proofs.lemmas.Bool.{cases_lt, both_ways, not-false, false≢true}
 use Rattle.std.proofs.lemmas.Option.{slice_get_within}
 use Rattle.std.specs.List.{slice_get}
@@ -17,7 +19,8 @@ use Rattle.pgn_extract.specs.Public.GameReports.{plies_of, AreChosen, AreListed}
 use Rattle.pgn_extract.specs.Public.GameReports.AreChosen.{none, keep, leave}
 use Rattle.pgn_extract.specs.Public.Listing.{Entry, AreFields, entry_line, listing}
 use Rattle.pgn_extract.specs.Private.Finding.{IsOfGame, named_mark, AddsEntries, StopsAtFault}
-use Rattle.pgn_extract.specs.Private.Lines.{EachReplay, MeetsHere, GoesTo, NoneAfter, IsNeverMet, Finds, HandsOn, marked_lines, or_some}
+use Rattle.pgn_extract.specs.Private.Lines.{EachReplay, MeetsHere, GoesTo, NoneAfter, IsNeverMet}
+use Rattle.pgn_extract.specs.Private.Lines.{Finds, HandsOn, marked_lines, or_some}
 use Rattle.pgn_extract.proofs.Chosen.{entry_at}
 use Rattle.pgn_extract.proofs.Picks.{leaves_all}
 
@@ -44,7 +47,7 @@ finds_none aim id game Got P on got off starts = record {
   got = got;
   completes = λ replay own rest is later chosen.
       subst (λ ps. AreChosen id (IsEntry aim (heading_of game) replay)
-          (AreFields aim.fields replay) (plies_of 0 ps) later) (sym is) chosen;
+      (AreFields aim.fields replay) (plies_of 0 ps) later) (sym is) chosen;
   quiet = λ is first replay own rest at n less. absurd (omega arith);
   shut = λ is replay own rest at n low within entry.
       let (later, from) = starts replay own in
@@ -79,7 +82,7 @@ module _ {aim : Aim} {id : GameId} {game : GameText} {Got : List Entry → Type 
         (leave (length before) (plies_of (length before + 1) rest) later
         (fails replay own rest (joined replay rest is))
         (subst (λ n. AreChosen id (IsEntry aim (heading_of game) replay)
-            (AreFields aim.fields replay) (plies_of n rest) later) grown chosen));
+        (AreFields aim.fields replay) (plies_of n rest) later) grown chosen));
     quiet = λ is first replay own rest at n less.
         quiet is first replay own rest (joined replay rest at) n (subst (λ k. n < k) grown less);
     shut = λ is replay own rest at n low within.
@@ -137,13 +140,14 @@ module _ {aim : Aim} {id : GameId} {game : GameText} {Got : List Entry → Type 
         (listed replay own rest (joined replay rest is))
         (shows replay own rest (joined replay rest is))
         (subst (λ n. AreChosen id (IsEntry aim (heading_of game) replay)
-            (AreFields aim.fields replay) (plies_of n rest) later) grown chosen)));
+        (AreFields aim.fields replay) (plies_of n rest) later) grown chosen)));
     quiet = λ is first replay own rest at n less.
         let no : not aim.first ≡ false = ap not first in
         absurd (both_ways (not aim.first) no is);
     shut = λ is replay own rest at n low within is_entry.
         is_entry.1 (not-false aim.first is) (length before)
-        (let size = grown in omega (arith, size, low)) (wanted replay own rest (joined replay rest at));
+        (let size = grown in omega (arith, size, low))
+        (wanted replay own rest (joined replay rest at));
   }
     where
       entry : Entry
@@ -183,7 +187,8 @@ module _ {aim : Aim} {id : GameId} {game : GameText} {Got : List Entry → Type 
       subst (λ ps. Finds aim id game Got ps on) (sym (append-nil (start ++ more))) finds
   passes more (P ∷ passed) size finds =
       subst (λ ps. Finds aim id game Got ps on) (append_assoc (start ++ more) (P ∷ []) passed)
-      (subst (λ ps. Finds aim id game Got (ps ++ passed) on) (sym (append_assoc start more (P ∷ [])))
+      (subst (λ ps. Finds aim id game Got (ps ++ passed) on)
+      (sym (append_assoc start more (P ∷ [])))
       (passes (more ++ P ∷ []) passed
       (subst (λ ps. length ps + length passed ≤ most) (append_assoc start more (P ∷ []))
       (let grown = length-append (start ++ more) (P ∷ []) in omega (arith, size, grown)))
@@ -207,7 +212,8 @@ module _ {aim : Aim} {id : GameId} {game : GameText} {Got : List Entry → Type 
 
 -- a line that went on to a position past others
 pub goes_on : {aim : Aim} {id : GameId} {game : GameText} {Got : List Entry → Type 0} {on : Bool}
-    (At : Aim → GameText → List State → State → Type 0) (still : Bool) (before : List State) (P : State)
+    (At : Aim → GameText → List State → State
+    → Type 0) (still : Bool) (before : List State) (P : State)
     (to : GoesTo At still true aim game before P) → Finds aim id game Got (before ++ P ∷ []) on
     → Finds aim id game Got (before ++ P ∷ to.0) on
 goes_on {aim} {id} {game} {Got} {on} At still before P (passed, next, at, unwanted) finds =
@@ -238,8 +244,11 @@ ends_at {aim} {id} {game} {Got} {on} At before P stands (sound, unwanted) finds 
     let whole : length replay.positions ≡ length (before ++ P ∷ []) + length rest =
     ap length all ∙ length-append (before ++ P ∷ []) rest in
     let left : (n : ℕ) → length (before ++ P ∷ []) ≤ n → n < length (before ++ P ∷ []) + length rest
-        → IsEntry aim (heading_of game) replay n → ⊥ = λ n low less. elim (either on refl) [
-      | inl is_on ↦ λ entry. unwanted is_on replay (Main, is) rest parts n (omega (arith, size, low)) (omega (arith, whole, less)) entry.0
+    → IsEntry aim (heading_of game) replay n → ⊥ = λ n low less. elim (either on refl) [
+      | inl is_on ↦ λ entry. unwanted is_on replay (
+        Main,
+        is,
+      ) rest parts n (omega (arith, size, low)) (omega (arith, whole, less)) entry.0
       | inr off ↦ finds.shut off replay (Main, is) rest all n low (omega (arith, whole, less))
     ] in (
       replay,
@@ -266,7 +275,8 @@ pub record StandsFound (At : Aim → GameText → List State → State → Type 
 
 -- the line of an entry, as it is written part by part
 pub one_line : (start mark digits shown : List ℕ)
-    → ((start ++ (mark ++ 32 ∷ digits)) ++ shown) ++ 10 ∷ [] ≡ start ++ (mark ++ 32 ∷ digits ++ (shown ++ 10 ∷ []))
+    → ((start ++ (mark ++ 32 ∷ digits)) ++ shown) ++ 10 ∷ []
+    ≡ start ++ (mark ++ 32 ∷ digits ++ (shown ++ 10 ∷ []))
 one_line start mark digits shown = simp append_assoc refl
 
 -- the lines of entries of one game are those of the listing, where they begin with its mark
@@ -275,27 +285,38 @@ pub listed_lines : (name : Option (List ℕ)) (id : GameId) (P : ℕ → Type 0)
     → marked_lines (named_mark name id) entries ≡ listing name entries
 listed_lines name id P S plies entries none = refl
 listed_lines name id P S plies entries (keep ply shown all chosen is shows more) =
-    ap (λ t. entry_line name (entry_at id ply shown) ++ t) (listed_lines name id P S all chosen more)
-listed_lines name id P S plies entries (leave ply all chosen fails more) = listed_lines name id P S all chosen more
+    ap (λ t. entry_line name (entry_at id ply shown)
+    ++ t) (listed_lines name id P S all chosen more)
+listed_lines name id P S plies entries (leave ply all chosen fails more) =
+    listed_lines name id P S all chosen more
 
 -- what is handed on as lines are the entries that are added
-pub adds_lines : (aim : Aim) (id : GameId) (game : GameText) (mark old new : List ℕ) → mark ≡ named_mark aim.name id
-    → HandsOn aim id game (λ got. new ≡ old ++ marked_lines mark got) → AddsEntries aim id game old new
+pub adds_lines : (aim : Aim) (id : GameId) (game : GameText) (mark old new : List ℕ)
+    → mark ≡ named_mark aim.name id
+    → HandsOn aim id game (λ got. new ≡ old ++ marked_lines mark got)
+    → AddsEntries aim id game old new
 adds_lines aim id game mark old new marked (replay, is, entries, listed, added) = (
   replay,
   is,
   entries,
   listed,
   added ∙ ap (λ m. old ++ marked_lines m entries) marked
-      ∙ ap (λ t. old ++ t) (listed_lines aim.name id (IsEntry aim (heading_of game) replay) (AreFields aim.fields replay)
+      ∙ ap (λ t. old
+      ++ t) (listed_lines aim.name id (IsEntry aim (heading_of game) replay)
+      (AreFields aim.fields replay)
       (plies_of 0 replay.positions) entries listed),
 )
 
 -- and what is handed on tells whether there is one
-pub some_chosen : (id : GameId) (P : ℕ → Type 0) (S : ℕ → List ℕ → Type 0) (ply : ℕ) (positions : List State) (entries : List Entry)
+pub some_chosen : (id : GameId) (P : ℕ → Type 0) (S : ℕ → List ℕ
+    → Type 0) (ply : ℕ) (positions : List State) (entries : List Entry)
     → AreChosen id P S (plies_of ply positions) entries
     → IsTrue (or_some false entries) ↔ ((n : ℕ) × (ply ≤ n) × (n < ply + length positions) × P n)
-some_chosen id P S ply [] entries none = (λ t. absurd (false≢true t), λ some. let (n, low, high, is) = some in absurd (omega (arith, low, high)))
+some_chosen id P S ply [] entries none = (
+  λ t. absurd (false≢true t),
+  λ some. let (n, low, high, is) = some in
+      absurd (omega (arith, low, high)),
+)
 some_chosen id P S ply (Q ∷ positions) entries (keep own shown all chosen is shows more) =
     (λ t. (ply, omega arith, omega arith, is), λ some. refl)
 some_chosen id P S ply (Q ∷ positions) entries (leave own all chosen fails more) =
@@ -312,11 +333,13 @@ some_chosen id P S ply (Q ∷ positions) entries (leave own all chosen fails mor
     ]
 
 -- a result of which both is known
-pub on_result : {T E : Type 0} (r : Result T E) (P : Type 0) (Q : E → Type 0) → OnOk r P → IfErr r Q → MatchResult r (λ _. P) Q
+pub on_result : {T E : Type 0} (r : Result T E) (P : Type 0) (Q : E → Type 0) → OnOk r P → IfErr r Q
+    → MatchResult r (λ _. P) Q
 on_result (Ok x) P Q done fails = done
 on_result (Err e) P Q done fails = fails
 
 -- the fault of a game whose text grew
 pub stops_of : (game : GameText) (old new : List ℕ) (own : Fault)
-    → IsFault Main (tag_in fen_tag game.tags) game.elements own × ((some : List ℕ) × (new ≡ old ++ some)) → StopsAtFault game old new own
+    → IsFault Main (tag_in fen_tag game.tags) game.elements own
+    × ((some : List ℕ) × (new ≡ old ++ some)) → StopsAtFault game old new own
 stops_of game old new own (fails, grew) = (fails, grew.0, grew.1)

@@ -1,10 +1,15 @@
--- What is exported is the same whether the first of each game is asked for or all: a game has an entry exactly where it has a first.
-use Rattle.std.proofs.Common.{ℕ, zero, suc, ◌+◌, ◌<◌, true, false, Bool, List, [], ◌∷◌, length, arith, inl, inr}
-use Rattle.pgn_text.specs.Public.Marks.{PieceKind, ReadableGame, UnreadableRest, TooLongBlock, MarkedPiece}
+-- What is exported is the same whether the first of each game is asked for or all: a game has an
+-- entry exactly where it has a first.
+use Rattle.std.proofs.Common.{ℕ, zero, suc, ◌+◌, ◌<◌, true, false, Bool, List, [], ◌∷◌, length}
+use Rattle.std.proofs.Common.{arith, inl, inr}
+use Rattle.pgn_text.specs.Public.Marks.{PieceKind, ReadableGame, UnreadableRest, TooLongBlock}
+use Rattle.pgn_text.specs.Public.Marks.{MarkedPiece}
 use Rattle.pgn_text.specs.Public.Parts.{Part}
 use Rattle.pgn_game.specs.Public.Replays.{Replay}
 use Rattle.pgn_extract.specs.Public.Aims.{Aim, GameId, IsWanted}
-use Rattle.pgn_extract.specs.Public.Exports.{AreExports, HasEntry, IsGameExport, IsPieceExport, IsTextOf, IsWritten, faulty, sound, selected, unselected, written_lines}
+use Rattle.pgn_extract.specs.Public.Exports.{AreExports, HasEntry, IsGameExport, IsPieceExport}
+use Rattle.pgn_extract.specs.Public.Exports.{IsTextOf, IsWritten, faulty, sound, selected}
+use Rattle.pgn_extract.specs.Public.Exports.{unselected, written_lines}
 use Rattle.pgn_extract.specs.Public.GameReports.{IsReplayOf}
 use Rattle.pgn_extract.specs.Public.Choices.{id_of, is_chosen}
 use Rattle.pgn_extract.specs.Public.Laws.{FirstChangesNoExport, with_first}
@@ -17,64 +22,108 @@ use Rattle.pgn_extract.proofs.Exported.{selected_by}
 use Rattle.pgn_extract.proofs.SomeReport.{none_before}
 
 -- the text of a game is the same whether the first of its entries is asked for or all
-text_of_any : (aim : Aim) (id : GameId) (parts : List Part) (text : List ℕ) (form : Form) (first other : Bool)
-    → IsTextOf form (with_first first aim) id parts text → IsTextOf form (with_first other aim) id parts text
+text_of_any : (aim : Aim) (id : GameId) (parts : List Part) (text : List ℕ) (form : Form)
+    (first other : Bool)
+    → IsTextOf form (with_first first aim) id parts text
+    → IsTextOf form (with_first other aim) id parts text
 text_of_any aim id parts text Standard first other own = own
 text_of_any aim id parts text AsItStands first other own = own
 text_of_any aim id parts text (Line notation) first other own = own
 text_of_any aim id parts text Record first other own = own
 
-module _ (aim : Aim) (id : GameId) (parts : List Part) (replay : Replay) (is : IsReplayOf (written_lines aim) parts replay) where
+module _ (aim : Aim) (id : GameId) (parts : List Part) (replay : Replay)
+    (is : IsReplayOf (written_lines aim) parts replay) where
   -- of the plies up to one that is wanted there is a first
-  first_wanted : (fuel ply : ℕ) → ply < fuel → ply < length replay.positions → IsWanted aim (heading_in parts) replay ply
+  first_wanted : (fuel ply : ℕ) → ply < fuel → ply < length replay.positions
+      → IsWanted aim (heading_in parts) replay ply
       → HasEntry (with_first true aim) (heading_in parts) replay
   first_wanted zero ply within less wanted = absurd (omega arith)
   first_wanted (suc fuel) ply within less wanted =
-      elim (none_before aim (heading_in parts) replay ply (λ n below. all_decided aim (written_lines aim) parts replay is n (omega arith))) [
+      elim (none_before aim (heading_in parts) replay ply (λ n below.
+      all_decided aim (written_lines aim) parts replay is n (omega arith))) [
         | inl none ↦ (ply, less, (wanted, λ only before earlier holds. none before earlier holds))
         | inr (n, below, earlier) ↦ first_wanted fuel n (omega arith) (omega arith) earlier
       ]
 
-  some_first : HasEntry (with_first false aim) (heading_in parts) replay → HasEntry (with_first true aim) (heading_in parts) replay
+  some_first : HasEntry (with_first false aim) (heading_in parts) replay
+      → HasEntry (with_first true aim) (heading_in parts) replay
   some_first (ply, less, entry) = first_wanted (ply + 1) ply (omega arith) less entry.0
 
-  first_of_all : HasEntry (with_first true aim) (heading_in parts) replay → HasEntry (with_first false aim) (heading_in parts) replay
+  first_of_all : HasEntry (with_first true aim) (heading_in parts) replay
+      → HasEntry (with_first false aim) (heading_in parts) replay
   first_of_all (ply, less, entry) = (ply, less, (entry.0, λ only. absurd (cc)))
 
-  written_all : (text : List ℕ) → IsWritten (with_first true aim) id parts replay text → IsWritten (with_first false aim) id parts replay text
-  written_all text (selected has own) = selected (selected_by aim.select _ _ first_of_all some_first has) (text_of_any aim id parts text aim.form true false own)
-  written_all text (unselected none empty) = unselected (λ has. none (selected_by aim.select _ _ some_first first_of_all has)) empty
+  written_all : (text : List ℕ) → IsWritten (with_first true aim) id parts replay text
+      → IsWritten (with_first false aim) id parts replay text
+  written_all text (selected has own) =
+      selected (selected_by aim.select _ _ first_of_all some_first has)
+      (text_of_any aim id parts text aim.form true false own)
+  written_all text (unselected none empty) =
+      unselected (λ has. none (selected_by aim.select _ _ some_first first_of_all has)) empty
 
-  written_first : (text : List ℕ) → IsWritten (with_first false aim) id parts replay text → IsWritten (with_first true aim) id parts replay text
-  written_first text (selected has own) = selected (selected_by aim.select _ _ some_first first_of_all has) (text_of_any aim id parts text aim.form false true own)
-  written_first text (unselected none empty) = unselected (λ has. none (selected_by aim.select _ _ first_of_all some_first has)) empty
+  written_first : (text : List ℕ) → IsWritten (with_first false aim) id parts replay text
+      → IsWritten (with_first true aim) id parts replay text
+  written_first text (selected has own) =
+      selected (selected_by aim.select _ _ some_first first_of_all has)
+      (text_of_any aim id parts text aim.form false true own)
+  written_first text (unselected none empty) =
+      unselected (λ has. none (selected_by aim.select _ _ first_of_all some_first has)) empty
 
 module _ (aim : Aim) where
-  game_all : (id : GameId) (parts : List Part) (text : List ℕ) → IsGameExport (with_first true aim) id parts text → IsGameExport (with_first false aim) id parts text
-  game_all id parts text (sound replay is written) = sound replay is (written_all aim id parts replay is text written)
+  game_all : (id : GameId) (parts : List Part) (text : List ℕ)
+      → IsGameExport (with_first true aim) id parts text
+      → IsGameExport (with_first false aim) id parts text
+  game_all id parts text (sound replay is written) =
+      sound replay is (written_all aim id parts replay is text written)
   game_all id parts text (faulty fault is empty) = faulty fault is empty
 
-  game_first : (id : GameId) (parts : List Part) (text : List ℕ) → IsGameExport (with_first false aim) id parts text → IsGameExport (with_first true aim) id parts text
-  game_first id parts text (sound replay is written) = sound replay is (written_first aim id parts replay is text written)
+  game_first : (id : GameId) (parts : List Part) (text : List ℕ)
+      → IsGameExport (with_first false aim) id parts text
+      → IsGameExport (with_first true aim) id parts text
+  game_first id parts text (sound replay is written) =
+      sound replay is (written_first aim id parts replay is text written)
   game_first id parts text (faulty fault is empty) = faulty fault is empty
 
-  piece_all : (id : GameId) (kind : PieceKind) (text : List ℕ) → IsPieceExport (with_first true aim) id kind text → IsPieceExport (with_first false aim) id kind text
+  piece_all : (id : GameId) (kind : PieceKind) (text : List ℕ)
+      → IsPieceExport (with_first true aim) id kind text
+      → IsPieceExport (with_first false aim) id kind text
   piece_all id (ReadableGame parts) text of = game_all id parts text of
   piece_all id (UnreadableRest bytes) text of = of
   piece_all id TooLongBlock text of = of
 
-  piece_first : (id : GameId) (kind : PieceKind) (text : List ℕ) → IsPieceExport (with_first false aim) id kind text → IsPieceExport (with_first true aim) id kind text
+  piece_first : (id : GameId) (kind : PieceKind) (text : List ℕ)
+      → IsPieceExport (with_first false aim) id kind text
+      → IsPieceExport (with_first true aim) id kind text
   piece_first id (ReadableGame parts) text of = game_first id parts text of
   piece_first id (UnreadableRest bytes) text of = of
   piece_first id TooLongBlock text of = of
 
-  exports_all : (number : ℕ) (pieces : List MarkedPiece) (text : List ℕ) → AreExports (with_first true aim) number pieces text → AreExports (with_first false aim) number pieces text
+  exports_all : (number : ℕ) (pieces : List MarkedPiece) (text : List ℕ)
+      → AreExports (with_first true aim) number pieces text
+      → AreExports (with_first false aim) number pieces text
   exports_all number [] text none = none
-  exports_all number (piece ∷ more) text (own, rest, parted, is, others) = (own, rest, parted, choice_of (is_chosen aim.chosen (id_of number piece)) (piece_all (id_of number piece) piece.kind own) (λ none. none) is, exports_all (number + 1) more rest others)
+  exports_all number (piece ∷ more) text (own, rest, parted, is, others) = (
+    own,
+    rest,
+    parted,
+    choice_of (is_chosen aim.chosen (id_of number piece))
+        (piece_all (id_of number piece) piece.kind own) (λ none. none) is,
+    exports_all (number + 1) more rest others,
+  )
 
-  exports_first : (number : ℕ) (pieces : List MarkedPiece) (text : List ℕ) → AreExports (with_first false aim) number pieces text → AreExports (with_first true aim) number pieces text
+  exports_first : (number : ℕ) (pieces : List MarkedPiece) (text : List ℕ)
+      → AreExports (with_first false aim) number pieces text
+      → AreExports (with_first true aim) number pieces text
   exports_first number [] text none = none
-  exports_first number (piece ∷ more) text (own, rest, parted, is, others) = (own, rest, parted, choice_of (is_chosen aim.chosen (id_of number piece)) (piece_first (id_of number piece) piece.kind own) (λ none. none) is, exports_first (number + 1) more rest others)
+  exports_first number (piece ∷ more) text (own, rest, parted, is, others) = (
+    own,
+    rest,
+    parted,
+    choice_of (is_chosen aim.chosen (id_of number piece))
+        (piece_first (id_of number piece) piece.kind own) (λ none. none) is,
+    exports_first (number + 1) more rest others,
+  )
 
 pub first_changes_none : FirstChangesNoExport
-first_changes_none aim number pieces text = (exports_all aim number pieces text, exports_first aim number pieces text)
+first_changes_none aim number pieces text =
+    (exports_all aim number pieces text, exports_first aim number pieces text)

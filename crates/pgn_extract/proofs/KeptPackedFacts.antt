@@ -16,7 +16,8 @@ use Rattle.pgn_game.proofs.OneReplay.{one_start, line_head}
 use Rattle.pgn_extract.specs.Private.KeptPacked.{IsStartOf, IsKeptOf}
 use Rattle.pgn_extract.specs.Private.Packed.{IsOfRecord, HasNoText}
 
-module _ {raw : RawRecord} {game : GameText} {replay : Replay} {packed : PackedGame} (own : IsOfRecord raw game replay packed) (start : State)
+module _ {raw : RawRecord} {game : GameText} {replay : Replay} {packed : PackedGame}
+    (own : IsOfRecord raw game replay packed) (start : State)
     (is : IsStart (tag_in fen_tag game.tags) start) where
   starts : own.is_replay.start ≡ start
   starts = one_start (tag_in fen_tag game.tags) own.is_replay.start start own.is_replay.is_start is
@@ -24,11 +25,16 @@ module _ {raw : RawRecord} {game : GameText} {replay : Replay} {packed : PackedG
   kept_start : own.kept.start ≡ start
   kept_start =
       same_Some own.kept.start own.is_replay.start
-      (sym own.kept.first ∙ line_head own.is_replay.start (main_words game.elements 0) replay.positions replay.played own.is_replay.line)
+      (sym own.kept.first
+      ∙ line_head own.is_replay.start (main_words game.elements 0) replay.positions
+      replay.played own.is_replay.line)
       ∙ starts
 
   line_there : IsMainLine start (main_words game.elements 0) replay.positions replay.played
-  line_there = subst (λ (P : State). IsMainLine P (main_words game.elements 0) replay.positions replay.played) starts own.is_replay.line
+  line_there =
+      subst (λ (P : State).
+      IsMainLine P (main_words game.elements 0) replay.positions replay.played) starts
+      own.is_replay.line
 
   -- the bytes of the record spell the main line of the game
   coded_line : IsCodedLine start raw.plies replay.played
@@ -49,7 +55,8 @@ module _ {raw : RawRecord} {game : GameText} {replay : Replay} {packed : PackedG
       let turns : replay.turns ≡ kept.turns = own.is_replay.turns ∙ sym coded.turns in
       λ i. record { positions = positions i; played = played i; turns = turns i }
 
-pub kept_of : (raw : RawRecord) (start : State) (kept : Replay) → IsStartOf raw start → IsCodedReplay start raw.plies kept → IsKeptOf raw kept
+pub kept_of : (raw : RawRecord) (start : State) (kept : Replay) → IsStartOf raw start
+    → IsCodedReplay start raw.plies kept → IsKeptOf raw kept
 kept_of raw start kept is coded = record {
   start = start;
   line = coded.line;
@@ -57,5 +64,7 @@ kept_of raw start kept is coded = record {
 }
 
 -- where the bytes spell no line, no game has the record
-pub none_of : (raw : RawRecord) (start : State) → IsStartOf raw start → ((moves : List Move) → IsCodedLine start raw.plies moves → ⊥) → HasNoText raw
-none_of raw start is none game replay packed own = none replay.played (coded_line own start (is game replay packed own))
+pub none_of : (raw : RawRecord) (start : State) → IsStartOf raw start
+    → ((moves : List Move) → IsCodedLine start raw.plies moves → ⊥) → HasNoText raw
+none_of raw start is none game replay packed own =
+    none replay.played (coded_line own start (is game replay packed own))

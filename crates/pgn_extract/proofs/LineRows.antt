@@ -86,7 +86,8 @@ none_left_out are =
       some = λ none. cc;
       is = refl;
     } in
-    let asked = (are (game_id 2 22)).1 ((omega arith, omega arith), (codes "2@22 13\n", line, refl)) in cc
+    let asked = (are (game_id 2 22)).1 ((omega arith, omega arith), (codes "2@22 13\n", line, refl))
+    in cc
 
 -- and none is added, as one beside the stretch
 none_added : AreMarksOf (codes "a.pgn") (codes "2@22 13\n") 0 22 (game_id 2 22 ∷ []) → ⊥

@@ -1,5 +1,7 @@
 -- The pieces of a block that the iterator has given so far.
-use Rattle.std.proofs.Common.{◌≡◌, ◌==◌, ℕ, ◌+◌, ◌≤◌, true, false, List, [], ◌∷◌, ◌++◌, map, length, take, drop, Option, refl, sym, ap, ◌∙◌, subst, arith, append_assoc, length-append, ◌⊎◌, inl, inr}
+use Rattle.std.proofs.Common.{◌≡◌, ◌==◌, ℕ, ◌+◌, ◌≤◌, true, false, List, [], ◌∷◌, ◌++◌, map, length}
+use Rattle.std.proofs.Common.{take, drop, Option, refl, sym, ap, ◌∙◌, subst, arith, append_assoc}
+use Rattle.std.proofs.Common.{length-append, ◌⊎◌, inl, inr}
 use Rattle.std.proofs.lemmas.Bool.{both_ways}
 use Rattle.std.proofs.lemmas.List.{append-nil, map_push, map-append, length-map}
 use Rattle.pgn_text.specs.Public.Limits.{block_limit, depth_limit}
@@ -8,7 +10,8 @@ use Rattle.pgn_text.specs.Public.Marks.{marked, within as in_limit}
 use Rattle.pgn_text.specs.Public.Pieces as spec
 use Rattle.pgn_text.specs.declared.game.pieces.Piece.{Piece}
 use Rattle.pgn_text.proofs.Existence.{pieces_exist}
-use Rattle.pgn_extract.specs.Private.Blockwise.{Gathers, GathersBlock, Passes, BeginsBlock, IsPieceOf, AddsPiece}
+use Rattle.pgn_extract.specs.Private.Blockwise.{Gathers, GathersBlock, Passes, BeginsBlock}
+use Rattle.pgn_extract.specs.Private.Blockwise.{IsPieceOf, AddsPiece}
 use Rattle.pgn_extract.specs.Public.Outcomes.{AppendsFront}
 use Rattle.pgn_extract.specs.declared.engine.report.Report.{Report}
 use Rattle.pgn_extract.specs.Public.Aims.{Aim, GameId}
@@ -16,33 +19,51 @@ use Rattle.pgn_extract.proofs.Gathered.{gathers_none, gathers_more, gathers_pass
 use Rattle.pgn_extract.specs.Public.GivenMarks.{game_id}
 
 -- the piece that completes those given is one of the block's
-pub piece_in : (start next : Left) (block : List ℕ) (offset : ℕ) (done : List spec.Piece) (shown : spec.Piece)
+pub piece_in : (start next : Left) (block : List ℕ) (offset : ℕ) (done : List spec.Piece)
+    (shown : spec.Piece)
     → start ≡ record { block = block; file_start = offset == 0; at = 0; failed = false }
-    → ((more : List spec.Piece) → ArePiecesLeft depth_limit next more → ArePiecesLeft depth_limit start (done ++ shown ∷ more))
+    → ((more : List spec.Piece) → ArePiecesLeft depth_limit next more
+    → ArePiecesLeft depth_limit start (done ++ shown ∷ more))
     → IsPieceOf offset block shown
 piece_in start next block offset done shown begins completes =
-    let more = pieces_exist depth_limit next.file_start (take next.at next.block) (drop next.at next.block) in
-    (done, more.0, subst (λ (s : Left). ArePiecesLeft depth_limit s (done ++ shown ∷ more.0)) begins (completes more.0 more.1))
+    let more =
+    pieces_exist depth_limit next.file_start (take next.at next.block) (drop next.at next.block)
+    in (
+      done,
+      more.0,
+      subst (λ (s : Left). ArePiecesLeft depth_limit s (done ++ shown ∷ more.0)) begins
+          (completes more.0 more.1),
+    )
 
 -- a beginning of what is reported of the first pieces of a block, whatever pieces complete them
-pub begun_of : (start now : Left) (block : List ℕ) (done : List spec.Piece) {aim : Aim} {report : Report} {id : GameId} {out out' out'' err err' err'' : Option (List ℕ)}
-    → start ≡ record { block = block; file_start = id.offset == 0; at = 0; failed = false } → length block ≤ block_limit
-    → ((more : List spec.Piece) → ArePiecesLeft depth_limit now more → ArePiecesLeft depth_limit start (done ++ more))
+pub begun_of : (start now : Left) (block : List ℕ) (done : List spec.Piece) {aim : Aim}
+    {report : Report} {id : GameId} {out out' out'' err err' err'' : Option (List ℕ)}
+    → start ≡ record { block = block; file_start = id.offset == 0; at = 0; failed = false }
+    → length block ≤ block_limit
+    → ((more : List spec.Piece) → ArePiecesLeft depth_limit now more
+    → ArePiecesLeft depth_limit start (done ++ more))
     → Gathers aim report out out' err err' id.number (map (marked id.offset) done)
     → AppendsFront out' out'' report.output.items → AppendsFront err' err'' report.faults.items
     → BeginsBlock aim block_limit depth_limit id block out out'' err err''
 begun_of start now block done {id = id} is fits completes gathers output faults =
-    let more = pieces_exist depth_limit now.file_start (take now.at now.block) (drop now.at now.block) in
+    let more =
+    pieces_exist depth_limit now.file_start (take now.at now.block) (drop now.at now.block) in
     record {
       own = map (marked id.offset) (done ++ more.0);
-      each = in_limit fits (done ++ more.0) (subst (λ (s : Left). ArePiecesLeft depth_limit s (done ++ more.0)) is (completes more.0 more.1)) refl;
-      written = gathers_begun gathers _ (map (marked id.offset) more.0) (map-append (marked id.offset) done more.0) output faults;
+      each = in_limit fits (done ++ more.0)
+          (subst (λ (s : Left). ArePiecesLeft depth_limit s (done ++ more.0)) is
+          (completes more.0 more.1)) refl;
+      written =
+          gathers_begun gathers _ (map (marked id.offset) more.0)
+          (map-append (marked id.offset) done more.0) output faults;
     }
 
 -- some pieces are given and reported, and those that are left complete them
-pub record Listed (aim : Aim) (start now : Left) (report : Report) (id : GameId) (out out' err err' : Option (List ℕ)) : Type 0 where
+pub record Listed (aim : Aim) (start now : Left) (report : Report) (id : GameId)
+    (out out' err err' : Option (List ℕ)) : Type 0 where
   pub done : List spec.Piece
-  pub completes : (more : List spec.Piece) → ArePiecesLeft depth_limit now more → ArePiecesLeft depth_limit start (done ++ more)
+  pub completes : (more : List spec.Piece) → ArePiecesLeft depth_limit now more
+      → ArePiecesLeft depth_limit start (done ++ more)
   pub written : Gathers aim report out out' err err' id.number (map (marked id.offset) done)
   pub few : length done ≤ now.at
   pub within : now.at ≤ length now.block
@@ -50,8 +71,10 @@ pub record Listed (aim : Aim) (start now : Left) (report : Report) (id : GameId)
   pub sound : now.failed ≡ false
 
 -- at the start none is given
-pub listed_none : (aim : Aim) (start : Left) (block : List ℕ) (report : Report) (id : GameId) (out err : Option (List ℕ))
-    → start ≡ record { block = block; file_start = id.offset == 0; at = 0; failed = false } → report.output.items ≡ [] → report.faults.items ≡ []
+pub listed_none : (aim : Aim) (start : Left) (block : List ℕ) (report : Report) (id : GameId)
+    (out err : Option (List ℕ))
+    → start ≡ record { block = block; file_start = id.offset == 0; at = 0; failed = false }
+    → report.output.items ≡ [] → report.faults.items ≡ []
     → report.games ≡ 0 → report.faulty ≡ 0 → Listed aim start start report id out out err err
 listed_none aim start block report id out err is output faults games faulty = record {
   done = [];
@@ -63,28 +86,40 @@ listed_none aim start block report id out err is output faults games faulty = re
   sound = ap (λ (s : Left). s.failed) is;
 }
 
-module _ {aim : Aim} {start now : Left} {report : Report} {id : GameId} {out out' err err' : Option (List ℕ)}
+module _ {aim : Aim} {start now : Left} {report : Report} {id : GameId}
+    {out out' err err' : Option (List ℕ)}
     (l : Listed aim start now report id out out' err err') where
   -- one more piece
   pub listed_more : {next : Left} {report' : Report} {here : ℕ} (block : List ℕ) (piece : Piece)
-      → start ≡ record { block = block; file_start = id.offset == 0; at = 0; failed = false } → TakesPiece depth_limit now next piece
-      → here ≡ id.number + report.games → AddsPiece aim report report' (game_id here id.offset) block piece → Listed aim start next report' id out out' err err'
+      → start ≡ record { block = block; file_start = id.offset == 0; at = 0; failed = false }
+      → TakesPiece depth_limit now next piece
+      → here ≡ id.number + report.games
+      → AddsPiece aim report report' (game_id here id.offset) block piece
+      → Listed aim start next report' id out out' err err'
   listed_more {next} {report'} {here} block piece begins takes is adds = record {
     done = l.done ++ takes.shown ∷ [];
     completes = λ more left.
-        subst (ArePiecesLeft depth_limit start) (sym (append_assoc l.done (takes.shown ∷ []) more)) (l.completes (takes.shown ∷ more) (takes.completes more left));
+        subst (ArePiecesLeft depth_limit start) (sym (append_assoc l.done (takes.shown ∷ []) more))
+        (l.completes (takes.shown ∷ more) (takes.completes more left));
     written =
-        let among = piece_in start next block id.offset l.done takes.shown begins (λ more left. l.completes (takes.shown ∷ more) (takes.completes more left)) in
-        let more = gathers_more l.written report' here (marked id.offset takes.shown) (is ∙ ap (λ n. id.number + n) l.written.games) (adds takes.shown takes.is among) in
-        subst (Gathers aim report' out out' err err' id.number) (sym (map_push (marked id.offset) l.done takes.shown)) more;
-    few = let f = l.few in let g = takes.grows in omega (arith, length-append l.done (takes.shown ∷ []));
+        let among =
+        piece_in start next block id.offset l.done takes.shown begins (λ more left.
+        l.completes (takes.shown ∷ more) (takes.completes more left)) in
+        let more =
+        gathers_more l.written report' here (marked id.offset takes.shown) (is
+        ∙ ap (λ n. id.number + n) l.written.games) (adds takes.shown takes.is among) in
+        subst (Gathers aim report' out out' err err' id.number)
+        (sym (map_push (marked id.offset) l.done takes.shown)) more;
+    few = let f = l.few in let g = takes.grows in
+        omega (arith, length-append l.done (takes.shown ∷ []));
     within = takes.within;
     same = takes.same.0 ∙ l.same;
     sound = takes.same.2;
   }
 
   -- what is gathered is passed on
-  pub listed_passed : {report' : Report} {out'' err'' : Option (List ℕ)} → Passes report report' out' out'' err' err''
+  pub listed_passed : {report' : Report} {out'' err'' : Option (List ℕ)}
+      → Passes report report' out' out'' err' err''
       → Listed aim start now report' id out out'' err err''
   listed_passed passes = record {
     done = l.done;
@@ -97,23 +132,37 @@ module _ {aim : Aim} {start now : Left} {report : Report} {id : GameId} {out out
   }
 
   -- a beginning of what is gathered is written
-  pub listed_begun : {out'' err'' : Option (List ℕ)} (block : List ℕ) → start ≡ record { block = block; file_start = id.offset == 0; at = 0; failed = false } → length block ≤ block_limit
+  pub listed_begun : {out'' err'' : Option (List ℕ)} (block : List ℕ)
+      → start ≡ record { block = block; file_start = id.offset == 0; at = 0; failed = false }
+      → length block ≤ block_limit
       → AppendsFront out' out'' report.output.items → AppendsFront err' err'' report.faults.items
       → BeginsBlock aim block_limit depth_limit id block out out'' err err''
-  listed_begun block is fits output faults = begun_of start now block l.done is fits l.completes l.written output faults
+  listed_begun block is fits output faults =
+      begun_of start now block l.done is fits l.completes l.written output faults
 
   -- all of them, where none is left
-  pub listed_all : (block : List ℕ) → start ≡ record { block = block; file_start = id.offset == 0; at = 0; failed = false } → length block ≤ block_limit
-      → (now.failed ≡ true) ⊎ ArePiecesLeft depth_limit now [] → GathersBlock aim report block_limit depth_limit id block out out' err err'
+  pub listed_all : (block : List ℕ) → start
+      ≡ record { block = block; file_start = id.offset == 0; at = 0; failed = false }
+      → length block ≤ block_limit
+      → (now.failed ≡ true) ⊎ ArePiecesLeft depth_limit now []
+      → GathersBlock aim report block_limit depth_limit id block out out' err err'
   listed_all block is fits end = record {
     own = map (marked id.offset) l.done;
-    each = in_limit fits l.done (subst (λ (s : Left). ArePiecesLeft depth_limit s l.done) is whole) refl;
+    each = in_limit fits l.done (subst (λ (s : Left). ArePiecesLeft depth_limit s l.done) is whole)
+        refl;
     written = l.written;
-    few = let f = l.few in let w = l.within in omega (arith, length-map l.done (marked id.offset), ap length l.same, ap (λ (s : Left). length s.block) is);
+    few = let f = l.few in let w = l.within in
+        omega (
+          arith,
+          length-map l.done (marked id.offset),
+          ap length l.same,
+          ap (λ (s : Left). length s.block) is,
+        );
   }
     where
       whole : ArePiecesLeft depth_limit start l.done
       whole = elim end [
         | inl bad ↦ absurd (both_ways now.failed l.sound bad)
-        | inr left ↦ subst (ArePiecesLeft depth_limit start) (append-nil l.done) (l.completes [] left)
+        | inr left ↦ subst (ArePiecesLeft depth_limit start) (append-nil l.done)
+            (l.completes [] left)
       ]

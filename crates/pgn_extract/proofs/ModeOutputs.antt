@@ -1,66 +1,94 @@
--- What is reported to the output of pieces in a row is their index, the listing of their entries, or the exports of their games.
-use Rattle.std.proofs.Common.{◌≡◌, ℕ, ◌+◌, Bool, true, false, if◌then◌else◌, List, [], ◌∷◌, ◌++◌, refl, sym, ap, ◌∙◌, subst, append_assoc, Option}
-use Rattle.pgn_text.specs.Public.Marks.{PieceKind, ReadableGame, UnreadableRest, TooLongBlock, MarkedPiece}
+-- What is reported to the output of pieces in a row is their index, the listing of their entries,
+-- or the exports of their games.
+use Rattle.std.proofs.Common.{◌≡◌, ℕ, ◌+◌, Bool, true, false, if◌then◌else◌, List, [], ◌∷◌, ◌++◌}
+use Rattle.std.proofs.Common.{refl, sym, ap, ◌∙◌, subst, append_assoc, Option}
+use Rattle.pgn_text.specs.Public.Marks.{PieceKind, ReadableGame, UnreadableRest, TooLongBlock}
+use Rattle.pgn_text.specs.Public.Marks.{MarkedPiece}
 use Rattle.pgn_text.specs.Public.Parts.{Part}
 use Rattle.pgn_extract.specs.Public.Choices.{id_of, IfChosen, is_chosen}
 use Rattle.pgn_extract.specs.Public.Index.{index, index_line}
 use Rattle.pgn_extract.specs.Public.Listing.{Entry, entry_line, listing}
-use Rattle.pgn_extract.specs.Private.EntryRows.{AreGameEntries, sound, faulty, ArePieceEntries, AreEntryRows}
-use Rattle.pgn_extract.specs.Public.Exports.{IsGameExport, sound as exported, faulty as unexported, IsPieceExport, AreExports, faulty_text}
+use Rattle.pgn_extract.specs.Private.EntryRows.{AreGameEntries, sound, faulty, ArePieceEntries}
+use Rattle.pgn_extract.specs.Private.EntryRows.{AreEntryRows}
+use Rattle.pgn_extract.specs.Public.Exports.{IsGameExport, sound as exported, faulty as unexported}
+use Rattle.pgn_extract.specs.Public.Exports.{IsPieceExport, AreExports, faulty_text}
 use Rattle.pgn_extract.specs.Public.Laws.{RunIndexes, RunExports}
 use Rattle.pgn_extract.specs.Public.Runs.{Adds}
-use Rattle.pgn_extract.specs.Public.Verdicts.{Verdict, SoundGame, FaultyGame, output_of, output_text, IsListed, IsExported, IsVerdictIn, IsPieceVerdict, AreVerdicts}
+use Rattle.pgn_extract.specs.Public.Verdicts.{Verdict, SoundGame, FaultyGame, output_of}
+use Rattle.pgn_extract.specs.Public.Verdicts.{output_text, IsListed, IsExported, IsVerdictIn}
+use Rattle.pgn_extract.specs.Public.Verdicts.{IsPieceVerdict, AreVerdicts}
 use Rattle.pgn_extract.specs.Public.Aims.{Aim, GameId}
 use Rattle.pgn_extract.specs.declared.settings.Mode.TheVariants as modes
 use Rattle.pgn_extract.proofs.ChoiceFacts.{choice_of}
 
 -- the lines of entries, and then of others
-pub listing-append : (name : Option (List ℕ)) (xs ys : List Entry) → listing name (xs ++ ys) ≡ listing name xs ++ listing name ys
+pub listing-append : (name : Option (List ℕ)) (xs ys : List Entry)
+    → listing name (xs ++ ys) ≡ listing name xs ++ listing name ys
 listing-append name [] ys = refl
 listing-append name (x ∷ xs) ys =
-    ap (λ t. entry_line name x ++ t) (listing-append name xs ys) ∙ sym (append_assoc (entry_line name x) (listing name xs) (listing name ys))
+    ap (λ t. entry_line name x ++ t) (listing-append name xs ys)
+    ∙ sym (append_assoc (entry_line name x) (listing name xs) (listing name ys))
 
 -- a game's entries
-of_game : (aim : Aim) (verdict : Verdict) (id : GameId) (parts : List Part) → IsListed aim verdict id parts
-    → (own : List Entry) × AreGameEntries aim id parts own × (output_of verdict ≡ listing aim.name own)
-of_game aim (SoundGame text) id parts (replay, entries, is, these, here) = (entries, sound replay is these, here)
-of_game aim (FaultyGame text line note) id parts (fault, is, here, noted, empty) = ([], faulty fault is refl, empty)
+of_game : (aim : Aim) (verdict : Verdict) (id : GameId) (parts : List Part)
+    → IsListed aim verdict id parts
+    → (own : List Entry) × AreGameEntries aim id parts own
+    × (output_of verdict ≡ listing aim.name own)
+of_game aim (SoundGame text) id parts (replay, entries, is, these, here) =
+    (entries, sound replay is these, here)
+of_game aim (FaultyGame text line note) id parts (fault, is, here, noted, empty) =
+    ([], faulty fault is refl, empty)
 
 -- a piece's entries
-of_piece : (kind : PieceKind) (aim : Aim) → aim.mode ≡ modes.List → (id : GameId) (verdict : Verdict) → IsPieceVerdict kind aim id verdict
-    → (own : List Entry) × ArePieceEntries aim kind id own × (output_of verdict ≡ listing aim.name own)
-of_piece (ReadableGame parts) aim lists id verdict is = of_game aim verdict id parts (subst (λ m. IsVerdictIn m aim id parts verdict) lists is)
+of_piece : (kind : PieceKind) (aim : Aim) → aim.mode ≡ modes.List
+    → (id : GameId) (verdict : Verdict) → IsPieceVerdict kind aim id verdict
+    → (own : List Entry) × ArePieceEntries aim kind id own
+    × (output_of verdict ≡ listing aim.name own)
+of_piece (ReadableGame parts) aim lists id verdict is =
+    of_game aim verdict id parts (subst (λ m. IsVerdictIn m aim id parts verdict) lists is)
 of_piece (UnreadableRest bytes) aim lists id verdict (note, noted, names, is) =
     ([], refl, ap output_of is ∙ ap (λ m. faulty_text m aim.select bytes) lists)
 of_piece TooLongBlock aim lists id verdict (note, noted, is) = ([], refl, ap output_of is)
 
 -- those of one that is chosen or passed over
-of_taken : (taken : Bool) (kind : PieceKind) (aim : Aim) → aim.mode ≡ modes.List → (id : GameId) (verdict : Verdict)
+of_taken : (taken : Bool) (kind : PieceKind) (aim : Aim) → aim.mode ≡ modes.List
+    → (id : GameId) (verdict : Verdict)
     → IfChosen taken (IsPieceVerdict kind aim id verdict) (verdict ≡ SoundGame [])
-    → (own : List Entry) × IfChosen taken (ArePieceEntries aim kind id own) (own ≡ []) × (output_of verdict ≡ listing aim.name own)
+    → (own : List Entry) × IfChosen taken (ArePieceEntries aim kind id own) (own ≡ [])
+    × (output_of verdict ≡ listing aim.name own)
 of_taken true kind aim lists id verdict is = of_piece kind aim lists id verdict is
 of_taken false kind aim lists id verdict none = ([], refl, ap output_of none)
 
 -- the entries of pieces in a row
-pub of_pieces : (aim : Aim) → aim.mode ≡ modes.List → (number : ℕ) (pieces : List MarkedPiece) (verdicts : List Verdict) → AreVerdicts aim number pieces verdicts
-    → (entries : List Entry) × AreEntryRows aim number pieces entries × (output_text verdicts ≡ listing aim.name entries)
+pub of_pieces : (aim : Aim) → aim.mode ≡ modes.List
+    → (number : ℕ) (pieces : List MarkedPiece) (verdicts : List Verdict)
+    → AreVerdicts aim number pieces verdicts
+    → (entries : List Entry) × AreEntryRows aim number pieces entries
+    × (output_text verdicts ≡ listing aim.name entries)
 of_pieces aim lists number [] verdicts none = ([], refl, ap output_text none)
 of_pieces aim lists number (piece ∷ more) verdicts (verdict, rest, parted, is, others) =
-    let own = of_taken (is_chosen aim.chosen (id_of number piece)) piece.kind aim lists (id_of number piece) verdict is in
+    let own =
+    of_taken (is_chosen aim.chosen (id_of number piece)) piece.kind aim lists
+    (id_of number piece) verdict is in
     let later = of_pieces aim lists (number + 1) more rest others in (
       own.0 ++ later.0,
       (own.0, later.0, refl, own.1, later.1),
-      ap output_text parted ∙ ap (λ t. t ++ output_text rest) own.2 ∙ ap (λ t. listing aim.name own.0 ++ t) later.2 ∙ sym (listing-append aim.name own.0 later.0),
+      ap output_text parted ∙ ap (λ t. t ++ output_text rest) own.2
+          ∙ ap (λ t. listing aim.name own.0 ++ t) later.2
+          ∙ sym (listing-append aim.name own.0 later.0),
     )
 
 -- a game's export
-export_of_game : (aim : Aim) (verdict : Verdict) (id : GameId) (parts : List Part) → IsExported aim verdict id parts
+export_of_game : (aim : Aim) (verdict : Verdict) (id : GameId) (parts : List Part)
+    → IsExported aim verdict id parts
     → IsGameExport aim id parts (output_of verdict)
 export_of_game aim (SoundGame text) id parts (replay, is, written) = exported replay is written
-export_of_game aim (FaultyGame text line note) id parts (fault, is, here, noted, written) = unexported fault is written
+export_of_game aim (FaultyGame text line note) id parts (fault, is, here, noted, written) =
+    unexported fault is written
 
 -- a piece's export
-export_of_piece : (kind : PieceKind) (aim : Aim) → aim.mode ≡ modes.Export → (id : GameId) (verdict : Verdict) → IsPieceVerdict kind aim id verdict
+export_of_piece : (kind : PieceKind) (aim : Aim) → aim.mode ≡ modes.Export
+    → (id : GameId) (verdict : Verdict) → IsPieceVerdict kind aim id verdict
     → IsPieceExport aim id kind (output_of verdict)
 export_of_piece (ReadableGame parts) aim exports id verdict is =
     export_of_game aim verdict id parts (subst (λ m. IsVerdictIn m aim id parts verdict) exports is)
@@ -69,40 +97,52 @@ export_of_piece (UnreadableRest bytes) aim exports id verdict (note, noted, name
 export_of_piece TooLongBlock aim exports id verdict (note, noted, is) = ap output_of is
 
 -- the exports of pieces in a row
-pub exports_of_pieces : (aim : Aim) → aim.mode ≡ modes.Export → (number : ℕ) (pieces : List MarkedPiece) (verdicts : List Verdict) → AreVerdicts aim number pieces verdicts
+pub exports_of_pieces : (aim : Aim) → aim.mode ≡ modes.Export
+    → (number : ℕ) (pieces : List MarkedPiece) (verdicts : List Verdict)
+    → AreVerdicts aim number pieces verdicts
     → AreExports aim number pieces (output_text verdicts)
 exports_of_pieces aim exports number [] verdicts none = ap output_text none
 exports_of_pieces aim exports number (piece ∷ more) verdicts (verdict, rest, parted, is, others) = (
   output_of verdict,
   output_text rest,
   ap output_text parted,
-  choice_of (is_chosen aim.chosen (id_of number piece)) (export_of_piece piece.kind aim exports (id_of number piece) verdict) (ap output_of) is,
+  choice_of (is_chosen aim.chosen (id_of number piece))
+      (export_of_piece piece.kind aim exports (id_of number piece) verdict) (ap output_of) is,
   exports_of_pieces aim exports (number + 1) more rest others,
 )
 
 -- a piece's line in the index
-indexed_piece : (kind : PieceKind) (aim : Aim) → aim.mode ≡ modes.Index → (id : GameId) (verdict : Verdict) → IsPieceVerdict kind aim id verdict
+indexed_piece : (kind : PieceKind) (aim : Aim) → aim.mode ≡ modes.Index
+    → (id : GameId) (verdict : Verdict) → IsPieceVerdict kind aim id verdict
     → output_of verdict ≡ index_line aim.name id.number (record { offset = id.offset; kind = kind })
-indexed_piece (ReadableGame parts) aim indexes id verdict is = ap output_of (subst (λ m. IsVerdictIn m aim id parts verdict) indexes is)
+indexed_piece (ReadableGame parts) aim indexes id verdict is =
+    ap output_of (subst (λ m. IsVerdictIn m aim id parts verdict) indexes is)
 indexed_piece (UnreadableRest bytes) aim indexes id verdict (note, noted, names, is) =
     ap output_of is ∙ ap (λ m. faulty_text m aim.select bytes) indexes
 indexed_piece TooLongBlock aim indexes id verdict (note, noted, is) = ap output_of is
 
 -- and where it is passed over
-indexed_taken : (taken : Bool) (aim : Aim) → aim.mode ≡ modes.Index → (number : ℕ) (piece : MarkedPiece) (verdict : Verdict)
-    → IfChosen taken (IsPieceVerdict piece.kind aim (id_of number piece) verdict) (verdict ≡ SoundGame [])
+indexed_taken : (taken : Bool) (aim : Aim) → aim.mode ≡ modes.Index
+    → (number : ℕ) (piece : MarkedPiece) (verdict : Verdict)
+    → IfChosen taken (IsPieceVerdict piece.kind aim (id_of number piece) verdict) (verdict
+    ≡ SoundGame [])
     → output_of verdict ≡ (if taken then index_line aim.name number piece else [])
-indexed_taken true aim indexes number piece verdict is = indexed_piece piece.kind aim indexes (id_of number piece) verdict is
+indexed_taken true aim indexes number piece verdict is =
+    indexed_piece piece.kind aim indexes (id_of number piece) verdict is
 indexed_taken false aim indexes number piece verdict none = ap output_of none
 
 -- the index of pieces in a row
-indexed_pieces : (aim : Aim) → aim.mode ≡ modes.Index → (number : ℕ) (pieces : List MarkedPiece) (verdicts : List Verdict) → AreVerdicts aim number pieces verdicts
+indexed_pieces : (aim : Aim) → aim.mode ≡ modes.Index
+    → (number : ℕ) (pieces : List MarkedPiece) (verdicts : List Verdict)
+    → AreVerdicts aim number pieces verdicts
     → output_text verdicts ≡ index aim.chosen aim.name number pieces
 indexed_pieces aim indexes number [] verdicts none = ap output_text none
 indexed_pieces aim indexes number (piece ∷ more) verdicts (verdict, rest, parted, is, others) =
     let taken = is_chosen aim.chosen (id_of number piece) in
-    ap output_text parted ∙ ap (λ t. t ++ output_text rest) (indexed_taken taken aim indexes number piece verdict is)
-    ∙ ap (λ t. (if taken then index_line aim.name number piece else []) ++ t) (indexed_pieces aim indexes (number + 1) more rest others)
+    ap output_text parted
+    ∙ ap (λ t. t ++ output_text rest) (indexed_taken taken aim indexes number piece verdict is)
+    ∙ ap (λ t. (if taken then index_line aim.name number piece else [])
+    ++ t) (indexed_pieces aim indexes (number + 1) more rest others)
 
 -- a complete run for the index wrote it
 pub run_indexes : RunIndexes

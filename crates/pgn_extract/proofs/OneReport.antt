@@ -11,10 +11,14 @@ use Rattle.pgn_extract.proofs.OneVerdict.{all_one_verdict, bare_verdicts}
 pub same_report : (aim : Aim) (number : ℕ) (pieces : List MarkedPiece) (xs ys : List Verdict)
     → AreVerdicts aim number pieces xs → AreVerdicts aim number pieces ys → IsSameReport aim xs ys
 same_report aim number pieces xs ys x y =
-    let same = all_one_verdict one_replay one_fault no_fault one_export_of_parts aim number pieces xs ys x y in record {
+    let same =
+    all_one_verdict one_replay one_fault no_fault one_export_of_parts aim number pieces xs ys x
+    y in record {
       but_notes = same;
-      without_notes = λ plain. sym (bare_verdicts aim plain number pieces xs x) ∙ same ∙ bare_verdicts aim plain number pieces ys y;
+      without_notes = λ plain. sym (bare_verdicts aim plain number pieces xs x) ∙ same
+          ∙ bare_verdicts aim plain number pieces ys y;
     }
 
 pub one_report : TextHasOneReport
-one_report aim number pieces reported others verdict also = same_report aim number pieces others reported also verdict
+one_report aim number pieces reported others verdict also =
+    same_report aim number pieces others reported also verdict

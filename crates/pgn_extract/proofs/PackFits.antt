@@ -1,27 +1,35 @@
--- Where each sound game of a text is packed, each of its records has a spelling, and so what is exported is the pack of the text.
-use Rattle.std.proofs.Common.{◌≡◌, ℕ, ◌+◌, ◌^◌, ◌<◌, ◌≤◌, ◌==◌, Bool, List, [], ◌∷◌, ◌++◌, map, length, drop, Option, Some, refl, sym, ap, ◌∙◌, subst, append_assoc, length-append, length-drop, arith}
+-- Where each sound game of a text is packed, each of its records has a spelling, and so what is
+-- exported is the pack of the text.
+use Rattle.std.proofs.Common.{◌≡◌, ℕ, ◌+◌, ◌^◌, ◌<◌, ◌≤◌, ◌==◌, Bool, List, [], ◌∷◌, ◌++◌, map}
+use Rattle.std.proofs.Common.{length, drop, Option, Some, refl, sym, ap, ◌∙◌, subst, append_assoc}
+use Rattle.std.proofs.Common.{length-append, length-drop, arith}
 use Rattle.std.specs.List.{AllByRecursion}
 use Rattle.std.proofs.lemmas.Bool.Decides.{nat_tests}
 use Rattle.std.specs.Prelude.{◌&&◌, true, nat_le, IfSome, IsTrue}
 use Rattle.pgn_text.specs.Public.Limits.{block_limit, depth_limit, largest_offset}
-use Rattle.pgn_text.specs.Public.Marks.{PieceKind, ReadableGame, UnreadableRest, TooLongBlock, MarkedPiece, marked, AreOfBlock, over, within, AreOfBlocks, AreMarkedPieces}
+use Rattle.pgn_text.specs.Public.Marks.{PieceKind, ReadableGame, UnreadableRest, TooLongBlock}
+use Rattle.pgn_text.specs.Public.Marks.{MarkedPiece, marked, AreOfBlock, over, within, AreOfBlocks}
+use Rattle.pgn_text.specs.Public.Marks.{AreMarkedPieces}
 use Rattle.pgn_text.specs.Public.Parts.{Part, spelled}
 use Rattle.pgn_text.specs.Public.Pieces.{Piece, Game, Unreadable, ArePieces}
 use Rattle.pgn_text.proofs.MarkBounds.{mark_bounds}
 use Rattle.pgn_game.proofs.PackRoom.{game_fits}
-use Rattle.pgn_game.specs.Public.PackedGames.{PackedGame, FitsRecord, longest_name, is_origin, is_shown_name}
+use Rattle.pgn_game.specs.Public.PackedGames.{PackedGame, FitsRecord, longest_name, is_origin}
+use Rattle.pgn_game.specs.Public.PackedGames.{is_shown_name}
 use Rattle.pgn_game.specs.declared.replays.replayer.Lines.TheVariants.{Main}
 use Rattle.pgn_extract.specs.Public.Laws.{PackIsListedAsItsText}
 use Rattle.pgn_extract.specs.Public.Runs.{job_of, Completes}
 use Rattle.pgn_extract.proofs.ModeOutputs.{run_exports}
-use Rattle.pgn_extract.specs.Public.Searching.{AreGameRecords, sound, faulty, ArePieceRecords, AreRecords, IsPackOf, PackedTextIsAPack}
+use Rattle.pgn_extract.specs.Public.Searching.{AreGameRecords, sound, faulty, ArePieceRecords}
+use Rattle.pgn_extract.specs.Public.Searching.{AreRecords, IsPackOf, PackedTextIsAPack}
 use Rattle.pgn_extract.proofs.GameExport.{own_replay}
 use Rattle.pgn_extract.proofs.PackTaken.{pieces_records}
 use Rattle.pgn_extract.specs.declared.marks.GameId.{GameId}
 use Rattle.pgn_extract.specs.Public.GivenMarks.{game_id}
 use Rattle.pgn_extract.specs.Public.Choices.{id_of}
 
-both_parts : {X : Type 0} (P : X → Type 0) (xs ys : List X) → AllByRecursion P xs → AllByRecursion P ys → AllByRecursion P (xs ++ ys)
+both_parts : {X : Type 0} (P : X → Type 0) (xs ys : List X) → AllByRecursion P xs
+    → AllByRecursion P ys → AllByRecursion P (xs ++ ys)
 both_parts P [] ys here there = there
 both_parts P (x ∷ xs) ys here there = (here.0, both_parts P xs ys here.1 there)
 
@@ -34,25 +42,55 @@ IsSmallKind TooLongBlock = Unit {0}
 abbrev IsSmall : MarkedPiece → Type 0
 IsSmall piece = IsSmallKind piece.kind
 
-small_pieces : (max_depth offset : ℕ) (file_start : Bool) (before : List ℕ) (pieces : List Piece) (text : List ℕ) → length text ≤ block_limit
-    → ArePieces max_depth file_start before pieces text → AllByRecursion IsSmall (map (marked offset) pieces)
+small_pieces : (max_depth offset : ℕ) (file_start : Bool) (before : List ℕ) (pieces : List Piece)
+    (text : List ℕ) → length text ≤ block_limit
+    → ArePieces max_depth file_start before pieces text
+    → AllByRecursion IsSmall (map (marked offset) pieces)
 small_pieces max_depth offset file_start before [] text bounded are = tt
-small_pieces max_depth offset file_start before (Game at parts ∷ more) text bounded (gap, after, parted, longest, here, is_game, others) =
+small_pieces max_depth offset file_start before (Game at parts ∷ more) text bounded (
+  gap,
+  after,
+  parted,
+  longest,
+  here,
+  is_game,
+  others,
+) =
     let size = ap length parted ∙ length-append (spelled gap) (spelled parts ++ after) in
-    let rest = length-append (spelled parts) after in
-    (omega arith, small_pieces max_depth offset file_start ((before ++ spelled gap) ++ spelled parts) more after (omega arith) others)
-small_pieces max_depth offset file_start before (Unreadable at bytes ∷ more) text bounded (gap, parted, longest, here, some, no_game, none) =
-    (tt, subst (λ (pieces : List Piece). AllByRecursion IsSmall (map (marked offset) pieces)) (sym none) tt)
+    let rest = length-append (spelled parts) after in (
+      omega arith,
+      small_pieces max_depth offset file_start ((before ++ spelled gap)
+          ++ spelled parts) more after (omega arith) others,
+    )
+small_pieces max_depth offset file_start before (Unreadable at bytes ∷ more) text bounded (
+  gap,
+  parted,
+  longest,
+  here,
+  some,
+  no_game,
+  none,
+) = (
+  tt,
+  subst (λ (pieces : List Piece).
+      AllByRecursion IsSmall (map (marked offset) pieces)) (sym none) tt,
+)
 
-small_of_block : (max_depth offset : ℕ) (block : List ℕ) (marks : List MarkedPiece) → AreOfBlock block_limit max_depth offset block marks → AllByRecursion IsSmall marks
-small_of_block max_depth offset block marks (over long is) = subst (AllByRecursion IsSmall) (sym is) (tt, tt)
+small_of_block : (max_depth offset : ℕ) (block : List ℕ) (marks : List MarkedPiece)
+    → AreOfBlock block_limit max_depth offset block marks → AllByRecursion IsSmall marks
+small_of_block max_depth offset block marks (over long is) =
+    subst (AllByRecursion IsSmall) (sym is) (tt, tt)
 small_of_block max_depth offset block marks (within short pieces are is) =
-    subst (AllByRecursion IsSmall) (sym is) (small_pieces max_depth offset (offset == 0) [] pieces block short are)
+    subst (AllByRecursion IsSmall) (sym is)
+    (small_pieces max_depth offset (offset == 0) [] pieces block short are)
 
-small_of_blocks : (max_depth offset : ℕ) (blocks : List (List ℕ)) (marks : List MarkedPiece) → AreOfBlocks block_limit max_depth offset blocks marks → AllByRecursion IsSmall marks
+small_of_blocks : (max_depth offset : ℕ) (blocks : List (List ℕ)) (marks : List MarkedPiece)
+    → AreOfBlocks block_limit max_depth offset blocks marks → AllByRecursion IsSmall marks
 small_of_blocks max_depth offset [] marks none = subst (AllByRecursion IsSmall) (sym none) tt
 small_of_blocks max_depth offset (block ∷ more) marks (own, rest, parted, here, others) =
-    subst (AllByRecursion IsSmall) (sym parted) (both_parts IsSmall own rest (small_of_block max_depth offset block own here) (small_of_blocks max_depth (offset + length block) more rest others))
+    subst (AllByRecursion IsSmall) (sym parted)
+    (both_parts IsSmall own rest (small_of_block max_depth offset block own here)
+    (small_of_blocks max_depth (offset + length block) more rest others))
 
 is_met_there : (id : GameId) (name : Option (List ℕ)) → 1 ≤ id.number → id.offset ≤ largest_offset
     → IsTrue (is_shown_name name) → IsTrue (is_origin id.number id.offset name)
@@ -61,55 +99,87 @@ is_met_there id name counted placed shown =
     let second : nat_le id.offset largest_offset ≡ true = grind (arith, nat_tests) in
     rw (first, second, shown) refl
 
-record_fits : (name : Option (List ℕ)) (id : GameId) (parts : List Part) (records : List PackedGame) → IfSome name (λ own. length own ≤ longest_name)
-    → id.number < 2 ^ 64 → id.offset < 2 ^ 64 → IsTrue (is_origin id.number id.offset name) → length (spelled parts) ≤ block_limit → AreGameRecords name id parts records → AllByRecursion FitsRecord records
-record_fits name id parts records short number_fits offset_fits origin small (sound game replay packed good shows is packs one) =
+record_fits : (name : Option (List ℕ)) (id : GameId) (parts : List Part) (records : List PackedGame)
+    → IfSome name (λ own. length own ≤ longest_name)
+    → id.number < 2 ^ 64 → id.offset < 2 ^ 64 → IsTrue (is_origin id.number id.offset name)
+    → length (spelled parts) ≤ block_limit → AreGameRecords name id parts records
+    → AllByRecursion FitsRecord records
+record_fits name id parts records short number_fits offset_fits origin small
+    (sound game replay packed good shows is packs one) =
     let own = own_replay Main game parts replay shows is in
     let text : length game.text ≤ block_limit = omega (arith, ap length shows.text) in
-    subst (AllByRecursion FitsRecord) (sym one) (game_fits name id.number id.offset game parts replay packed good shows text own packs short number_fits offset_fits origin, tt)
-record_fits name id parts records short number_fits offset_fits origin small (faulty fault is none) = subst (AllByRecursion FitsRecord) (sym none) tt
+    subst (AllByRecursion FitsRecord) (sym one) (
+      game_fits name id.number id.offset game parts replay packed good shows text own packs short
+          number_fits offset_fits origin,
+      tt,
+    )
+record_fits name id parts records short number_fits offset_fits origin small
+    (faulty fault is none) = subst (AllByRecursion FitsRecord) (sym none) tt
 
-piece_fits : (name : Option (List ℕ)) (id : GameId) (kind : PieceKind) (records : List PackedGame) → IfSome name (λ own. length own ≤ longest_name)
-    → id.number < 2 ^ 64 → id.offset < 2 ^ 64 → IsTrue (is_origin id.number id.offset name) → IsSmallKind kind → ArePieceRecords name kind id records → AllByRecursion FitsRecord records
-piece_fits name id (ReadableGame parts) records short number_fits offset_fits origin small are = record_fits name id parts records short number_fits offset_fits origin small are
-piece_fits name id (UnreadableRest bytes) records short number_fits offset_fits origin small none = subst (AllByRecursion FitsRecord) (sym none) tt
-piece_fits name id TooLongBlock records short number_fits offset_fits origin small none = subst (AllByRecursion FitsRecord) (sym none) tt
+piece_fits : (name : Option (List ℕ)) (id : GameId) (kind : PieceKind) (records : List PackedGame)
+    → IfSome name (λ own. length own ≤ longest_name)
+    → id.number < 2 ^ 64 → id.offset < 2 ^ 64 → IsTrue (is_origin id.number id.offset name)
+    → IsSmallKind kind → ArePieceRecords name kind id records
+    → AllByRecursion FitsRecord records
+piece_fits name id (ReadableGame parts) records short number_fits offset_fits origin small are =
+    record_fits name id parts records short number_fits offset_fits origin small are
+piece_fits name id (UnreadableRest bytes) records short number_fits offset_fits origin small none =
+    subst (AllByRecursion FitsRecord) (sym none) tt
+piece_fits name id TooLongBlock records short number_fits offset_fits origin small none =
+    subst (AllByRecursion FitsRecord) (sym none) tt
 
 -- a piece has no more pieces before it than bytes
-pieces_fit : (name : Option (List ℕ)) (number max_depth offset : ℕ) (text : List ℕ) (before more : List MarkedPiece) (records : List PackedGame)
+pieces_fit : (name : Option (List ℕ)) (number max_depth offset : ℕ) (text : List ℕ)
+    (before more : List MarkedPiece) (records : List PackedGame)
     → IfSome name (λ own. length own ≤ longest_name) → IsTrue (is_shown_name name) → 1 ≤ number
     → number ≤ 2 ^ 62 + length before → offset + length text ≤ largest_offset
-    → AreMarkedPieces block_limit max_depth offset text (before ++ more) → AllByRecursion IsSmall more → AreRecords name number more records → AllByRecursion FitsRecord records
-pieces_fit name number max_depth offset text before [] records short shown counted few bounded each small none = subst (AllByRecursion FitsRecord) (sym none) tt
-pieces_fit name number max_depth offset text before (piece ∷ more) records short shown counted few bounded each small (own, rest, parted, here, others) =
+    → AreMarkedPieces block_limit max_depth offset text (before ++ more)
+    → AllByRecursion IsSmall more → AreRecords name number more records
+    → AllByRecursion FitsRecord records
+pieces_fit name number max_depth offset text before [] records short shown counted few bounded each
+    small none = subst (AllByRecursion FitsRecord) (sym none) tt
+pieces_fit name number max_depth offset text before (piece
+    ∷ more) records short shown counted few bounded each small (own, rest, parted, here, others) =
     let bounds = mark_bounds block_limit max_depth offset text before piece more each in
     let origin = is_met_there (id_of number piece) name counted (omega (arith, bounds.1)) shown in
-    let first = piece_fits name (id_of number piece) piece.kind own short (omega (arith, bounds.0, bounds.1)) (omega (arith, bounds.1)) origin small.0 here in
+    let first =
+    piece_fits name (id_of number piece) piece.kind own short
+    (omega (arith, bounds.0, bounds.1)) (omega (arith, bounds.1)) origin small.0 here in
     let next : AreMarkedPieces block_limit max_depth offset text ((before ++ piece ∷ []) ++ more) =
-    subst (AreMarkedPieces block_limit max_depth offset text) (sym (append_assoc before (piece ∷ []) more)) each in
-    let count : number + 1 ≤ 2 ^ 62 + length (before ++ piece ∷ []) = omega (arith, length-append before (piece ∷ [])) in
-    subst (AllByRecursion FitsRecord) (sym parted) (both_parts FitsRecord own rest first (pieces_fit name (number + 1) max_depth offset text (before ++ piece ∷ []) more rest short shown (omega arith) count bounded next small.1 others))
+    subst (AreMarkedPieces block_limit max_depth offset text)
+    (sym (append_assoc before (piece ∷ []) more)) each in
+    let count : number + 1 ≤ 2 ^ 62 + length (before ++ piece ∷ []) =
+    omega (arith, length-append before (piece ∷ [])) in
+    subst (AllByRecursion FitsRecord) (sym parted)
+    (both_parts FitsRecord own rest first
+    (pieces_fit name (number + 1) max_depth offset text (before ++ piece
+    ∷ []) more rest short shown (omega arith) count bounded next small.1 others))
 
 pub packed_text : PackedTextIsAPack
 packed_text packing id text pieces bytes packs =
     let taken = pieces_records packing id.number pieces bytes packs.all packs.exported in
-    let small = small_of_blocks depth_limit id.offset packs.each.blocks pieces packs.each.each in record {
+    let small = small_of_blocks depth_limit id.offset packs.each.blocks pieces packs.each.each in
+    record {
       records = taken.0;
       are = taken.1;
-      fit = pieces_fit packing.name id.number depth_limit id.offset text [] pieces taken.0 packs.short packs.shown packs.counted (omega (arith, packs.few)) packs.within packs.each small taken.1;
+      fit = pieces_fit packing.name id.number depth_limit id.offset text [] pieces taken.0
+          packs.short packs.shown packs.counted (omega (arith, packs.few)) packs.within packs.each
+          small taken.1;
       packed = taken.2;
     }
 
 -- ---- the search of what a run packed
 
-some_input : (P : List ℕ → Type 0) (input : Option (List ℕ)) (whole : List ℕ) → input ≡ Some whole → IfSome input P → P whole
+some_input : (P : List ℕ → Type 0) (input : Option (List ℕ)) (whole : List ℕ) → input ≡ Some whole
+    → IfSome input P → P whole
 some_input P input whole is holds = subst (λ (bytes : Option (List ℕ)). IfSome bytes P) is holds
 
 pub listed_pack : PackIsListedAsItsText
 listed_pack packing io summary whole exports all short shown counted few offset known run =
     let job = job_of packing in
     let done : Completes job io whole summary =
-    some_input (λ bytes. Completes job io bytes summary) io.input.old.bytes whole known run.done.0 in
+    some_input (λ bytes. Completes job io bytes summary) io.input.old.bytes whole known run.done.0
+    in
     let (text, are, exported) = run_exports job io whole summary done exports in
     let pack : IsPackOf packing.name packing.number done.pieces text =
     packed_text job.aim (game_id packing.number packing.offset) (drop packing.offset whole)

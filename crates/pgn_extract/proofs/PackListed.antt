@@ -1,8 +1,11 @@
--- The listing of a pack is that of the text that was packed, and its index is that of the sound games.
-use Rattle.std.proofs.Common.{◌≡◌, ◌⊎◌, ℕ, ◌+◌, inl, inr, List, [], ◌∷◌, ◌++◌, Option, refl, sym, ap, ap₂, ◌∙◌, subst, append_assoc, append-nil}
+-- The listing of a pack is that of the text that was packed, and its index is that of the sound
+-- games.
+use Rattle.std.proofs.Common.{◌≡◌, ◌⊎◌, ℕ, ◌+◌, inl, inr, List, [], ◌∷◌, ◌++◌, Option, refl, sym}
+use Rattle.std.proofs.Common.{ap, ap₂, ◌∙◌, subst, append_assoc, append-nil}
 use Rattle.pgn_text.specs.Public.GameTexts.{GameText, ShowsGame}
 use Rattle.pgn_text.specs.Public.Games.{items_of, first_tag}
-use Rattle.pgn_text.specs.Public.Marks.{PieceKind, ReadableGame, UnreadableRest, TooLongBlock, MarkedPiece}
+use Rattle.pgn_text.specs.Public.Marks.{PieceKind, ReadableGame, UnreadableRest, TooLongBlock}
+use Rattle.pgn_text.specs.Public.Marks.{MarkedPiece}
 use Rattle.pgn_text.specs.Public.Parts.{Part}
 use Rattle.pgn_game.proofs.OneReplay.{no_fault}
 use Rattle.pgn_game.proofs.PackOnce.{one_pack}
@@ -11,11 +14,17 @@ use Rattle.pgn_game.specs.Public.Starts.{fen_tag}
 use Rattle.pgn_game.specs.declared.replays.replayer.Lines.TheVariants.{Main}
 use Rattle.pgn_criteria.specs.Public.Meeting.{Heading, heading_of}
 use Rattle.pgn_extract.specs.Public.Aims.{Aim, GameId}
-use Rattle.pgn_extract.specs.Private.EntryRows.{AreGameEntries, sound as sound_rows, faulty as faulty_rows, ArePieceEntries, AreEntryRows}
+use Rattle.pgn_extract.specs.Private.EntryRows.{AreGameEntries, sound as sound_rows}
+use Rattle.pgn_extract.specs.Private.EntryRows.{faulty as faulty_rows, ArePieceEntries}
+use Rattle.pgn_extract.specs.Private.EntryRows.{AreEntryRows}
 use Rattle.pgn_extract.specs.Public.GameReports.{AreListed}
 use Rattle.pgn_extract.specs.Public.Index.{mark_line}
 use Rattle.pgn_extract.specs.Public.Listing.{Entry, AreEntries, listing, heading_in}
-use Rattle.pgn_extract.specs.Public.Searching.{AreGameRecords, sound, faulty, ArePieceRecords, AreRecords, IsPackOf, IsRecordListing, AreRecordLines, ArePackLines, BeginsWithRecords, IsSoundPiece, IsIndexOfSoundGames, none as no_pieces, keep, leave, of_all}
+use Rattle.pgn_extract.specs.Public.Searching.{AreGameRecords, sound, faulty, ArePieceRecords}
+use Rattle.pgn_extract.specs.Public.Searching.{AreRecords, IsPackOf, IsRecordListing}
+use Rattle.pgn_extract.specs.Public.Searching.{AreRecordLines, ArePackLines, BeginsWithRecords}
+use Rattle.pgn_extract.specs.Public.Searching.{IsSoundPiece, IsIndexOfSoundGames, none as no_pieces}
+use Rattle.pgn_extract.specs.Public.Searching.{keep, leave, of_all}
 use Rattle.pgn_extract.specs.declared.settings.Mode.{Mode}
 use Rattle.pgn_extract.specs.declared.settings.Mode.TheVariants as modes
 use Rattle.pgn_extract.proofs.ExactEntries.{are_entries}
@@ -26,17 +35,27 @@ use Rattle.pgn_extract.specs.Public.GivenMarks.{game_id}
 use Rattle.pgn_extract.specs.Public.Choices.{id_of}
 
 -- the lines of records, and then of others
-lines_cut : (aim : Aim) (own rest : List PackedGame) (text : List ℕ) → ArePackLines aim (own ++ rest) text
-    → (front : List ℕ) × (back : List ℕ) × (text ≡ front ++ back) × ArePackLines aim own front × ArePackLines aim rest back
+lines_cut : (aim : Aim) (own rest : List PackedGame) (text : List ℕ)
+    → ArePackLines aim (own ++ rest) text
+    → (front : List ℕ) × (back : List ℕ) × (text ≡ front ++ back) × ArePackLines aim own front
+    × ArePackLines aim rest back
 lines_cut aim [] rest text listed = ([], text, refl, refl, listed)
 lines_cut aim (packed ∷ more) rest text (lines, others, parted, of, listed) =
-    let cut = lines_cut aim more rest others listed in
-    (lines ++ cut.0, cut.1, parted ∙ ap (λ t. lines ++ t) cut.2 ∙ sym (append_assoc lines cut.0 cut.1), (lines, cut.0, refl, of, cut.3), cut.4)
+    let cut = lines_cut aim more rest others listed in (
+      lines ++ cut.0,
+      cut.1,
+      parted ∙ ap (λ t. lines ++ t) cut.2
+          ∙ sym (append_assoc lines cut.0 cut.1),
+      (lines, cut.0, refl, of, cut.3),
+      cut.4,
+    )
 
 -- the lines of records, and of one more
-pub one_more_record : (aim : Aim) (before : List PackedGame) (packed : PackedGame) (text own : List ℕ) → ArePackLines aim before text → AreRecordLines aim.mode aim packed own
+pub one_more_record : (aim : Aim) (before : List PackedGame) (packed : PackedGame)
+    (text own : List ℕ) → ArePackLines aim before text → AreRecordLines aim.mode aim packed own
     → ArePackLines aim (before ++ packed ∷ []) (text ++ own)
-one_more_record aim [] packed text own none of = (own, [], ap (λ t. t ++ own) none ∙ sym (append-nil own), of, refl)
+one_more_record aim [] packed text own none of =
+    (own, [], ap (λ t. t ++ own) none ∙ sym (append-nil own), of, refl)
 one_more_record aim (first ∷ before) packed text own (lines, others, parted, here, listed) of = (
   lines,
   others ++ own,
@@ -46,14 +65,19 @@ one_more_record aim (first ∷ before) packed text own (lines, others, parted, h
 )
 
 -- the heading of a game is that of its parts
-same_heading : (game : GameText) (at : ℕ) (parts : List Part) → ShowsGame game at parts → heading_of game ≡ heading_in parts
-same_heading game at parts shows = λ i. record { named = λ name. shows.tags name i; result = shows.result i }
+same_heading : (game : GameText) (at : ℕ) (parts : List Part) → ShowsGame game at parts
+    → heading_of game ≡ heading_in parts
+same_heading game at parts shows =
+    λ i. record { named = λ name. shows.tags name i; result = shows.result i }
 
 -- what is listed of a record is listed of the game
-game_rows : (aim : Aim) → aim.mode ≡ modes.List → (name : Option (List ℕ)) (id : GameId) (parts : List Part) (own : List PackedGame) (text : List ℕ)
+game_rows : (aim : Aim) → aim.mode ≡ modes.List
+    → (name : Option (List ℕ)) (id : GameId) (parts : List Part) (own : List PackedGame)
+    (text : List ℕ)
     → AreGameRecords name id parts own → ArePackLines aim own text
     → (rows : List Entry) × AreGameEntries (of_all aim) id parts rows × (text ≡ listing name rows)
-game_rows aim list name id parts own text (sound game replay packed good shows is packs one) listed =
+game_rows aim list name id parts own text (sound game replay packed good shows is packs one)
+    listed =
     let (lines, others, parted, of, none) = subst (λ r. ArePackLines aim r text) one listed in
     let played = own_replay Main game parts replay shows is in
     let own_mark : IsPacked packed.name packed.number packed.offset game replay packed = record {
@@ -67,51 +91,80 @@ game_rows aim list name id parts own text (sound game replay packed good shows i
       marks = packs.marks;
       plies = packs.plies;
     } in
-    let here : IsRecordListing aim packed lines = subst (λ (m : Mode). AreRecordLines m aim packed lines) list of in
+    let here : IsRecordListing aim packed lines =
+    subst (λ (m : Mode). AreRecordLines m aim packed lines) list of in
     let found = here game replay good played own_mark in
-    let headed : AreListed aim (game_id packed.number packed.offset) (heading_in parts) replay found.0 =
-    subst (λ (heading : Heading). AreListed aim (game_id packed.number packed.offset) heading replay found.0) (same_heading game game.at parts shows) found.1 in
+    let headed : AreListed aim (game_id packed.number packed.offset) (heading_in parts) replay
+    found.0 =
+    subst (λ (heading : Heading).
+    AreListed aim (game_id packed.number packed.offset) heading replay found.0)
+    (same_heading game game.at parts shows) found.1 in
     let marked : AreListed aim id (heading_in parts) replay found.0 =
-    subst (λ (i : GameId). AreListed aim i (heading_in parts) replay found.0) (ap₂ game_id packs.number packs.offset) headed in (
+    subst (λ (i : GameId). AreListed aim i (heading_in parts) replay found.0)
+    (ap₂ game_id packs.number packs.offset) headed in (
       found.0,
       sound_rows replay is marked,
-      parted ∙ ap (λ t. lines ++ t) none ∙ append-nil lines ∙ found.2 ∙ ap (λ (title : Option (List ℕ)). listing title found.0) packs.name,
+      parted ∙ ap (λ t. lines ++ t) none ∙ append-nil lines ∙ found.2
+          ∙ ap (λ (title : Option (List ℕ)). listing title found.0) packs.name,
     )
-game_rows aim list name id parts own text (faulty fault is none) listed = ([], faulty_rows fault is refl, subst (λ r. ArePackLines aim r text) none listed)
+game_rows aim list name id parts own text (faulty fault is none) listed =
+    ([], faulty_rows fault is refl, subst (λ r. ArePackLines aim r text) none listed)
 
-piece_rows : (aim : Aim) → aim.mode ≡ modes.List → (name : Option (List ℕ)) (kind : PieceKind) (id : GameId) (own : List PackedGame) (text : List ℕ)
+piece_rows : (aim : Aim) → aim.mode ≡ modes.List
+    → (name : Option (List ℕ)) (kind : PieceKind) (id : GameId) (own : List PackedGame)
+    (text : List ℕ)
     → ArePieceRecords name kind id own → ArePackLines aim own text
     → (rows : List Entry) × ArePieceEntries (of_all aim) kind id rows × (text ≡ listing name rows)
-piece_rows aim list name (ReadableGame parts) id own text are listed = game_rows aim list name id parts own text are listed
-piece_rows aim list name (UnreadableRest bytes) id own text none listed = ([], refl, subst (λ r. ArePackLines aim r text) none listed)
-piece_rows aim list name TooLongBlock id own text none listed = ([], refl, subst (λ r. ArePackLines aim r text) none listed)
+piece_rows aim list name (ReadableGame parts) id own text are listed =
+    game_rows aim list name id parts own text are listed
+piece_rows aim list name (UnreadableRest bytes) id own text none listed =
+    ([], refl, subst (λ r. ArePackLines aim r text) none listed)
+piece_rows aim list name TooLongBlock id own text none listed =
+    ([], refl, subst (λ r. ArePackLines aim r text) none listed)
 
-all_rows : (aim : Aim) → aim.mode ≡ modes.List → (name : Option (List ℕ)) (number : ℕ) (pieces : List MarkedPiece) (records : List PackedGame) (text : List ℕ)
+all_rows : (aim : Aim) → aim.mode ≡ modes.List
+    → (name : Option (List ℕ)) (number : ℕ) (pieces : List MarkedPiece) (records : List PackedGame)
+    (text : List ℕ)
     → AreRecords name number pieces records → ArePackLines aim records text
-    → (rows : List Entry) × AreEntryRows (of_all aim) number pieces rows × (text ≡ listing name rows)
-all_rows aim list name number [] records text none listed = ([], refl, subst (λ r. ArePackLines aim r text) none listed)
+    → (rows : List Entry) × AreEntryRows (of_all aim) number pieces rows
+    × (text ≡ listing name rows)
+all_rows aim list name number [] records text none listed =
+    ([], refl, subst (λ r. ArePackLines aim r text) none listed)
 all_rows aim list name number (piece ∷ more) records text (own, rest, parted, here, others) listed =
     let cut = lines_cut aim own rest text (subst (λ r. ArePackLines aim r text) parted listed) in
     let first = piece_rows aim list name piece.kind (id_of number piece) own cut.0 here cut.3 in
     let later = all_rows aim list name (number + 1) more rest cut.1 others cut.4 in (
       first.0 ++ later.0,
       (first.0, later.0, refl, first.1, later.1),
-      cut.2 ∙ ap (λ t. t ++ cut.1) first.2 ∙ ap (λ t. listing name first.0 ++ t) later.2 ∙ sym (listing-append name first.0 later.0),
+      cut.2 ∙ ap (λ t. t ++ cut.1) first.2 ∙ ap (λ t. listing name first.0 ++ t) later.2
+          ∙ sym (listing-append name first.0 later.0),
     )
 
 -- the records of a pack are those of the text
-same_records : (aim : Aim) (whole : List ℕ) (records : List PackedGame) (text : List ℕ) → BeginsWithRecords aim whole records [] text
-    → (name : Option (List ℕ)) (number : ℕ) (pieces : List MarkedPiece) (pack : IsPackOf name number pieces whole) → pack.records ≡ records
-same_records aim whole records text read name number pieces pack = one_pack pack.records records pack.fit read.fit (sym pack.packed ∙ read.parted ∙ append-nil (pack_bytes records))
+same_records : (aim : Aim) (whole : List ℕ) (records : List PackedGame) (text : List ℕ)
+    → BeginsWithRecords aim whole records [] text
+    → (name : Option (List ℕ)) (number : ℕ) (pieces : List MarkedPiece)
+    (pack : IsPackOf name number pieces whole) → pack.records ≡ records
+same_records aim whole records text read name number pieces pack =
+    one_pack pack.records records pack.fit read.fit (sym pack.packed ∙ read.parted
+    ∙ append-nil (pack_bytes records))
 
 -- whatever text the bytes are the pack of, what is listed of their records is its listing
-pub packed_listing : (aim : Aim) → aim.mode ≡ modes.List → (whole : List ℕ) (records : List PackedGame) (text : List ℕ) → BeginsWithRecords aim whole records [] text
-    → (name : Option (List ℕ)) (number : ℕ) (pieces : List MarkedPiece) → IsPackOf name number pieces whole
-    → (entries : List Entry) → AreEntries (of_all aim) number pieces entries → text ≡ listing name entries
+pub packed_listing : (aim : Aim) → aim.mode ≡ modes.List
+    → (whole : List ℕ) (records : List PackedGame) (text : List ℕ)
+    → BeginsWithRecords aim whole records [] text
+    → (name : Option (List ℕ)) (number : ℕ) (pieces : List MarkedPiece)
+    → IsPackOf name number pieces whole
+    → (entries : List Entry) → AreEntries (of_all aim) number pieces entries
+    → text ≡ listing name entries
 packed_listing aim list whole records text read name number pieces pack entries are =
     let same = same_records aim whole records text read name number pieces pack in
-    let rows = all_rows aim list name number pieces records text (subst (AreRecords name number pieces) same pack.are) read.lines in
-    rows.2 ∙ ap (listing name) (one_listing (of_all aim) number pieces rows.0 entries (are_entries (of_all aim) number pieces rows.0 rows.1) are)
+    let rows =
+    all_rows aim list name number pieces records text
+    (subst (AreRecords name number pieces) same pack.are) read.lines in
+    rows.2 ∙ ap (listing name)
+    (one_listing (of_all aim) number pieces rows.0 entries
+    (are_entries (of_all aim) number pieces rows.0 rows.1) are)
 
 -- ---- the index
 
@@ -120,44 +173,81 @@ abbrev IsPieceLine : Option (List ℕ) → GameId → PieceKind → List ℕ →
 IsPieceLine name id kind line =
     (IsSoundPiece kind × (line ≡ mark_line name id)) ⊎ ((IsSoundPiece kind → ⊥) × (line ≡ []))
 
-game_line : (aim : Aim) → aim.mode ≡ modes.Index → (name : Option (List ℕ)) (id : GameId) (parts : List Part) (own : List PackedGame) (text : List ℕ)
-    → AreGameRecords name id parts own → ArePackLines aim own text → IsPieceLine name id (ReadableGame parts) text
-game_line aim index name id parts own text (sound game replay packed good shows is packs one) lines =
+game_line : (aim : Aim) → aim.mode ≡ modes.Index
+    → (name : Option (List ℕ)) (id : GameId) (parts : List Part) (own : List PackedGame)
+    (text : List ℕ)
+    → AreGameRecords name id parts own → ArePackLines aim own text
+    → IsPieceLine name id (ReadableGame parts) text
+game_line aim index name id parts own text (sound game replay packed good shows is packs one)
+    lines =
     let (line, others, parted, of, empty) = subst (λ r. ArePackLines aim r text) one lines in
-    let marked : line ≡ mark_line packed.name (game_id packed.number packed.offset) = subst (λ (m : Mode). AreRecordLines m aim packed line) index of in
+    let marked : line ≡ mark_line packed.name (game_id packed.number packed.offset) =
+    subst (λ (m : Mode). AreRecordLines m aim packed line) index of in
     inl (
       (replay, is),
-      parted ∙ ap (λ t. line ++ t) empty ∙ append-nil line ∙ marked ∙ ap (λ (title : Option (List ℕ)). mark_line title (game_id packed.number packed.offset)) packs.name
+      parted ∙ ap (λ t. line ++ t) empty ∙ append-nil line ∙ marked
+          ∙ ap (λ (title : Option (List ℕ)).
+          mark_line title (game_id packed.number packed.offset)) packs.name
           ∙ ap (mark_line name) (ap₂ game_id packs.number packs.offset),
     )
 game_line aim index name id parts own text (faulty fault is empty) lines =
-    inr (λ good. no_fault Main (first_tag fen_tag parts) (items_of parts) fault good is, subst (λ r. ArePackLines aim r text) empty lines)
+    inr (
+      λ good. no_fault Main (first_tag fen_tag parts) (items_of parts) fault good is,
+      subst (λ r. ArePackLines aim r text) empty lines,
+    )
 
-piece_line : (aim : Aim) → aim.mode ≡ modes.Index → (name : Option (List ℕ)) (kind : PieceKind) (id : GameId) (own : List PackedGame) (text : List ℕ)
+piece_line : (aim : Aim) → aim.mode ≡ modes.Index
+    → (name : Option (List ℕ)) (kind : PieceKind) (id : GameId) (own : List PackedGame)
+    (text : List ℕ)
     → ArePieceRecords name kind id own → ArePackLines aim own text → IsPieceLine name id kind text
-piece_line aim index name (ReadableGame parts) id own text are lines = game_line aim index name id parts own text are lines
-piece_line aim index name (UnreadableRest bytes) id own text empty lines = inr (λ no. no, subst (λ r. ArePackLines aim r text) empty lines)
-piece_line aim index name TooLongBlock id own text empty lines = inr (λ no. no, subst (λ r. ArePackLines aim r text) empty lines)
+piece_line aim index name (ReadableGame parts) id own text are lines =
+    game_line aim index name id parts own text are lines
+piece_line aim index name (UnreadableRest bytes) id own text empty lines =
+    inr (λ no. no, subst (λ r. ArePackLines aim r text) empty lines)
+piece_line aim index name TooLongBlock id own text empty lines =
+    inr (λ no. no, subst (λ r. ArePackLines aim r text) empty lines)
 
 -- the index of pieces, and of one more before them
-one_before : (name : Option (List ℕ)) (number : ℕ) (piece : MarkedPiece) (more : List MarkedPiece) (line text : List ℕ) → IsPieceLine name (id_of number piece) piece.kind line
-    → IsIndexOfSoundGames name (number + 1) more text → IsIndexOfSoundGames name number (piece ∷ more) (line ++ text)
+one_before : (name : Option (List ℕ)) (number : ℕ) (piece : MarkedPiece) (more : List MarkedPiece)
+    (line text : List ℕ) → IsPieceLine name (id_of number piece) piece.kind line
+    → IsIndexOfSoundGames name (number + 1) more text
+    → IsIndexOfSoundGames name number (piece ∷ more) (line ++ text)
 one_before name number piece more line text (inl (good, is)) rest =
-    subst (λ t. IsIndexOfSoundGames name number (piece ∷ more) (t ++ text)) (sym is) (keep number piece more text good rest)
+    subst (λ t. IsIndexOfSoundGames name number (piece ∷ more) (t ++ text)) (sym is)
+    (keep number piece more text good rest)
 one_before name number piece more line text (inr (bad, is)) rest =
-    subst (λ t. IsIndexOfSoundGames name number (piece ∷ more) (t ++ text)) (sym is) (leave number piece more text bad rest)
+    subst (λ t. IsIndexOfSoundGames name number (piece ∷ more) (t ++ text)) (sym is)
+    (leave number piece more text bad rest)
 
-sound_index : (aim : Aim) → aim.mode ≡ modes.Index → (name : Option (List ℕ)) (number : ℕ) (pieces : List MarkedPiece) (records : List PackedGame) (text : List ℕ)
-    → AreRecords name number pieces records → ArePackLines aim records text → IsIndexOfSoundGames name number pieces text
-sound_index aim index name number [] records text empty lines = subst (IsIndexOfSoundGames name number []) (sym (subst (λ r. ArePackLines aim r text) empty lines)) (no_pieces number)
-sound_index aim index name number (piece ∷ more) records text (own, rest, parted, here, others) lines =
+sound_index : (aim : Aim) → aim.mode ≡ modes.Index
+    → (name : Option (List ℕ)) (number : ℕ) (pieces : List MarkedPiece) (records : List PackedGame)
+    (text : List ℕ)
+    → AreRecords name number pieces records → ArePackLines aim records text
+    → IsIndexOfSoundGames name number pieces text
+sound_index aim index name number [] records text empty lines =
+    subst (IsIndexOfSoundGames name number [])
+    (sym (subst (λ r. ArePackLines aim r text) empty lines)) (no_pieces number)
+sound_index aim index name number (piece ∷ more) records text (
+  own,
+  rest,
+  parted,
+  here,
+  others,
+) lines =
     let cut = lines_cut aim own rest text (subst (λ r. ArePackLines aim r text) parted lines) in
     subst (IsIndexOfSoundGames name number (piece ∷ more)) (sym cut.2)
-    (one_before name number piece more cut.0 cut.1 (piece_line aim index name piece.kind (id_of number piece) own cut.0 here cut.3)
+    (one_before name number piece more cut.0 cut.1
+    (piece_line aim index name piece.kind (id_of number piece) own cut.0 here cut.3)
     (sound_index aim index name (number + 1) more rest cut.1 others cut.4))
 
--- whatever text the bytes are the pack of, the marks of their records are the index of its sound games
-pub packed_index : (aim : Aim) → aim.mode ≡ modes.Index → (whole : List ℕ) (records : List PackedGame) (text : List ℕ) → BeginsWithRecords aim whole records [] text
-    → (name : Option (List ℕ)) (number : ℕ) (pieces : List MarkedPiece) → IsPackOf name number pieces whole → IsIndexOfSoundGames name number pieces text
+-- whatever text the bytes are the pack of, the marks of their records are the index of its sound
+-- games
+pub packed_index : (aim : Aim) → aim.mode ≡ modes.Index
+    → (whole : List ℕ) (records : List PackedGame) (text : List ℕ)
+    → BeginsWithRecords aim whole records [] text
+    → (name : Option (List ℕ)) (number : ℕ) (pieces : List MarkedPiece)
+    → IsPackOf name number pieces whole → IsIndexOfSoundGames name number pieces text
 packed_index aim index whole records text read name number pieces pack =
-    sound_index aim index name number pieces records text (subst (AreRecords name number pieces) (same_records aim whole records text read name number pieces pack) pack.are) read.lines
+    sound_index aim index name number pieces records text
+    (subst (AreRecords name number pieces)
+    (same_records aim whole records text read name number pieces pack) pack.are) read.lines

@@ -1,11 +1,12 @@
 -- Plies of a game that are left, and criteria that are asked in place of others.
-use Rattle.std.proofs.Common.{◌≡◌, ◌↔◌, ℕ, zero, suc, ◌+◌, ◌<◌, ◌≤◌, List, [], ◌∷◌, length, drop, Option, Some, None, sym, subst, inl, arith}
+use Rattle.std.proofs.Common.{◌≡◌, ◌↔◌, ℕ, zero, suc, ◌+◌, ◌<◌, ◌≤◌, List, [], ◌∷◌, length, drop}
+use Rattle.std.proofs.Common.{Option, Some, None, sym, subst, inl, arith}
 use Rattle.std.specs.Prelude.{IfSome}
 use Rattle.chess.specs.Public.Positions.{State}
 use Rattle.pgn_game.specs.Public.Replays.{Replay}
 use Rattle.pgn_text.specs.Public.GameTexts.{GameText}
 use Rattle.pgn_criteria.specs.Public.Meeting.{Heading, heading_of, Meets}
-use Rattle.pgn_criteria.specs.declared.condition.Condition.{Condition}
+use Rattle.pgn_criteria.specs.Public.Conditions.{Conditions, no_conditions}
 use Rattle.pgn_extract.specs.Public.Aims.{Aim, GameId, IsMet}
 use Rattle.pgn_extract.specs.Private.Finding.{IsOfGame, AsksFor}
 use Rattle.pgn_extract.specs.Public.Listing.{Entry}
@@ -15,8 +16,10 @@ use Rattle.pgn_extract.proofs.FieldTexts.{some_position}
 
 module _ (id : GameId) (P : ℕ → Type 0) (S : ℕ → List ℕ → Type 0) where
   -- of positions in a row the first are left
-  pub leaves : (ply count : ℕ) (positions : List State) (chosen : List Entry) → ((n : ℕ) → ply ≤ n → n < ply + count → P n → ⊥)
-      → AreChosen id P S (plies_of (ply + count) (drop count positions)) chosen → AreChosen id P S (plies_of ply positions) chosen
+  pub leaves : (ply count : ℕ) (positions : List State) (chosen : List Entry)
+      → ((n : ℕ) → ply ≤ n → n < ply + count → P n → ⊥)
+      → AreChosen id P S (plies_of (ply + count) (drop count positions)) chosen
+      → AreChosen id P S (plies_of ply positions) chosen
   leaves ply zero positions chosen fail later =
       let same : ply + 0 ≡ ply = omega arith in
       subst (λ n. AreChosen id P S (plies_of n positions) chosen) same later
@@ -28,14 +31,17 @@ module _ (id : GameId) (P : ℕ → Type 0) (S : ℕ → List ℕ → Type 0) wh
       (subst (λ n. AreChosen id P S (plies_of n (drop count more)) chosen) next later))
 
   -- and all are
-  pub leaves_all : (ply : ℕ) (positions : List State) → ((n : ℕ) → ply ≤ n → n < ply + length positions → P n → ⊥)
+  pub leaves_all : (ply : ℕ) (positions : List State)
+      → ((n : ℕ) → ply ≤ n → n < ply + length positions → P n → ⊥)
       → AreChosen id P S (plies_of ply positions) []
   leaves_all ply [] fail = none
   leaves_all ply (position ∷ more) fail =
-      leave ply (plies_of (ply + 1) more) [] (fail ply (omega arith) (omega arith)) (leaves_all (ply + 1) more (λ n low high. fail n (omega arith) (omega arith)))
+      leave ply (plies_of (ply + 1) more) [] (fail ply (omega arith) (omega arith))
+      (leaves_all (ply + 1) more (λ n low high. fail n (omega arith) (omega arith)))
 
 -- how many are left after the first ones
-pub dropped : (count : ℕ) (positions : List State) → (length positions ≤ count + length (drop count positions))
+pub dropped : (count : ℕ) (positions : List State)
+    → (length positions ≤ count + length (drop count positions))
     × (0 < length (drop count positions) → count + length (drop count positions) ≤ length positions)
 dropped zero positions = (omega arith, λ some. omega arith)
 dropped (suc count) [] = (omega arith, λ some. absurd (omega arith))
@@ -44,28 +50,40 @@ dropped (suc count) (position ∷ more) =
     (let size = of.0 in omega arith, λ some. let fits = of.1 some in omega arith)
 
 -- what is looked for in place of criteria that are given
-pub same_met : (tags : Heading) (replay : Replay) (criteria : Option (List (List (Condition (List ℕ))))) (alternatives others : List (List (Condition (List ℕ)))) (ply : ℕ)
-    → criteria ≡ Some alternatives → (Meets tags replay ply others ↔ Meets tags replay ply alternatives) → IsMet (Some others) tags replay ply ↔ IsMet criteria tags replay ply
+pub same_met : (tags : Heading) (replay : Replay) (criteria : Option (List Conditions))
+    (alternatives others : List Conditions) (ply : ℕ)
+    → criteria ≡ Some alternatives
+    → (Meets tags replay ply others ↔ Meets tags replay ply alternatives)
+    → IsMet (Some others) tags replay ply ↔ IsMet criteria tags replay ply
 same_met tags replay criteria alternatives others ply is same =
-    subst (λ (c : Option (List (List (Condition (List ℕ))))). Meets tags replay ply others ↔ IsMet c tags replay ply) (sym is) same
+    subst (λ (c : Option (List Conditions)). Meets tags replay ply others
+    ↔ IsMet c tags replay ply) (sym is) same
 
 -- of each replay of the game the same plies are met
-abbrev pub AsksAlike : GameText → List (List (Condition (List ℕ))) → List (List (Condition (List ℕ))) → Type 0
+abbrev pub AsksAlike : GameText → List Conditions → List Conditions → Type 0
 AsksAlike game alternatives others =
-    (replay : Replay) → IsOfGame game replay → (ply : ℕ) → Meets (heading_of game) replay ply others ↔ Meets (heading_of game) replay ply alternatives
+    (replay : Replay) → IsOfGame game replay → (ply : ℕ)
+    → Meets (heading_of game) replay ply others
+    ↔ Meets (heading_of game) replay ply alternatives
 
 -- so what is watched for in place of criteria that are given asks for them
-pub asks_given : (aim : Aim) (game : GameText) (alternatives : List (List (Condition (List ℕ)))) (watched : Option (List (List (Condition (List ℕ)))))
-    (others : List (List (Condition (List ℕ)))) → aim.criteria ≡ Some alternatives → watched ≡ Some others → IfSome watched (AsksAlike game alternatives)
+pub asks_given : (aim : Aim) (game : GameText) (alternatives : List Conditions)
+    (watched : Option (List Conditions))
+    (others : List Conditions) → aim.criteria ≡ Some alternatives → watched ≡ Some others
+    → IfSome watched (AsksAlike game alternatives)
     → AsksFor aim game others
 asks_given aim game alternatives watched others given is alike replay own ply within =
-    let here : AsksAlike game alternatives others = subst (λ o. IfSome o (AsksAlike game alternatives)) is alike in
-    same_met (heading_of game) replay aim.criteria alternatives others ply given (here replay own ply)
+    let here : AsksAlike game alternatives others =
+    subst (λ o. IfSome o (AsksAlike game alternatives)) is alike in
+    same_met (heading_of game) replay aim.criteria alternatives others ply given
+    (here replay own ply)
 
 -- and without criteria every position is met
-pub none_given : (aim : Aim) (game : GameText) → aim.criteria ≡ None → AsksFor aim game ([] ∷ [])
+pub none_given : (aim : Aim) (game : GameText) → aim.criteria ≡ None
+    → AsksFor aim game (no_conditions ∷ [])
 none_given aim game without replay own ply within =
     let at = some_position replay.positions ply within in (
-      λ met. subst (λ (o : Option (List (List (Condition (List ℕ))))). IsMet o (heading_of game) replay ply) (sym without) tt,
-      λ met. record { position = at.0; here = at.1; hold = inl (inl tt, tt) },
+      λ met. subst (λ (o : Option (List Conditions)).
+          IsMet o (heading_of game) replay ply) (sym without) tt,
+      λ met. record { position = at.0; here = at.1; hold = inl ((tt, tt, inl tt), tt) },
     )

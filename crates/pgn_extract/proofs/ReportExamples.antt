@@ -1,5 +1,6 @@
 -- What the definitions of a report refuse, and what they make of small texts.
-use Rattle.std.proofs.Common.{◌≡◌, ◌++◌, ℕ, true, false, List, [], ◌∷◌, Option, Some, None, arith, codes, count_by, decimal, length, ap, subst, refl, ◌∙◌}
+use Rattle.std.proofs.Common.{◌≡◌, ◌++◌, ℕ, true, false, List, [], ◌∷◌, Option, Some, None, arith}
+use Rattle.std.proofs.Common.{codes, count_by, decimal, length, ap, subst, refl, ◌∙◌}
 use Rattle.std.proofs.lemmas.Fmt.{decimal_digit}
 use Rattle.std.specs.declared.io.ErrorKind.TheVariants.{NotFound}
 use Rattle.chess.specs.Public.Positions.{State}
@@ -10,14 +11,19 @@ use Rattle.pgn_game.specs.Public.Replays.{Replay}
 use Rattle.pgn_game.specs.declared.exports.style.Style.{Style}
 use Rattle.pgn_game.specs.declared.replays.replayer.Lines.TheVariants.{All, Main}
 use Rattle.pgn_extract.specs.Public.Aims.{Aim, GameId}
-use Rattle.pgn_extract.specs.Public.Exports.{HasEntry, IsPieceExport, IsSelected, IsWritten, faulty_text, lines_in, selected, unselected}
+use Rattle.pgn_extract.specs.Public.Exports.{HasEntry, IsPieceExport, IsSelected, IsWritten}
+use Rattle.pgn_extract.specs.Public.Exports.{faulty_text, lines_in, selected, unselected}
 use Rattle.pgn_extract.specs.Public.Choices.{is_chosen}
 use Rattle.pgn_extract.specs.Public.GameReports.{cause_text}
 use Rattle.pgn_extract.specs.Public.Index.{fault_text, index, mark, mark_line}
-use Rattle.pgn_extract.specs.Public.Listing.{AreFields, IsFenField, heading_in, IsNextField, IsNextMove}
+use Rattle.pgn_extract.specs.Public.Listing.{AreFields, IsFenField, heading_in, IsNextField}
+use Rattle.pgn_extract.specs.Public.Listing.{IsNextMove}
 use Rattle.pgn_extract.specs.Public.Outcomes.{Writes}
-use Rattle.pgn_extract.specs.Public.Several.{AreOfPaths, AtPath, FileOf, IsOfPath, IsOpened, IsRead, IsRefused, NoFile, Order, name_at, own_summary, summary_text}
-use Rattle.pgn_extract.specs.Public.Verdicts.{FaultyGame, IsExported, IsListed, IsVerdict, SoundGame, Verdict, is_faulty, output_text}
+use Rattle.pgn_extract.specs.Public.Several.{AreOfPaths, AtPath, FileOf, IsOfPath, IsOpened, IsRead}
+use Rattle.pgn_extract.specs.Public.Several.{IsRefused, NoFile, Order, name_at, own_summary}
+use Rattle.pgn_extract.specs.Public.Several.{summary_text}
+use Rattle.pgn_extract.specs.Public.Verdicts.{FaultyGame, IsExported, IsListed, IsVerdict}
+use Rattle.pgn_extract.specs.Public.Verdicts.{SoundGame, Verdict, is_faulty, output_text}
 use Rattle.pgn_extract.proofs.ChoiceFacts.{when_taken}
 use Rattle.pgn_extract.proofs.TwoFiles.{plain}
 use Rattle.pgn_extract.specs.declared.settings.Form.TheVariants.{AsItStands, Record, Standard}
@@ -172,4 +178,5 @@ summary_counts order name text output report asked named read =
     ∙ ap (λ games. read.faults ++ summary_text (Some name)
     (record { games = games; faulty = read.summary.faulty; met = read.summary.met })) read.games
     ∙ ap (λ faulty. read.faults ++ summary_text (Some name)
-    (record { games = length read.reported.pieces; faulty = faulty; met = read.summary.met })) read.faulty
+    (record { games = length read.reported.pieces; faulty = faulty; met = read.summary.met }))
+    read.faulty

@@ -1,10 +1,11 @@
 -- Worked rows of marks, requests, lines and reports; and what these definitions refuse.
-use Rattle.std.proofs.Common.{◌≡◌, ℕ, Bool, true, false, List, [], ◌∷◌, ◌++◌, codes, decimal, Option, None, Some, inl, inr, refl, arith}
+use Rattle.std.proofs.Common.{◌≡◌, ℕ, Bool, true, false, List, [], ◌∷◌, ◌++◌, codes, decimal}
+use Rattle.std.proofs.Common.{Option, None, Some, inl, inr, refl, arith}
 use Rattle.chess.specs.Public.Positions.{State}
 use Rattle.pgn_game.specs.Public.Replays.{Replay}
 use Rattle.pgn_game.specs.declared.exports.notation.Notation.TheVariants.{San, Uci}
 use Rattle.pgn_criteria.specs.Public.Meeting.{Heading, Meets}
-use Rattle.pgn_criteria.specs.declared.condition.Condition.{Condition}
+use Rattle.pgn_criteria.specs.Public.Conditions.{Conditions}
 use Rattle.pgn_text.specs.Public.Games.{first_tag}
 use Rattle.pgn_text.specs.Public.Marks.{ReadableGame, UnreadableRest, TooLongBlock}
 use Rattle.pgn_text.specs.Public.Parts.{Part, Star, Tag}
@@ -12,12 +13,17 @@ use Rattle.pgn_extract.specs.Public.Aims.{Aim, GameId, IsMet}
 use Rattle.pgn_extract.specs.Public.GameReports.{AreChosen, plies_of}
 use Rattle.pgn_extract.specs.Public.GivenMarks.{game_id, is_number, mark_of, mark_around}
 use Rattle.pgn_extract.specs.Public.Index.{index_line, mark, mark_line}
-use Rattle.pgn_extract.specs.Public.Listing.{Ascend, Entry, IsEarlier, IsPlyOfGame, entries_at_least, entry_line, heading_in}
+use Rattle.pgn_extract.specs.Public.Listing.{Ascend, Entry, IsEarlier, IsPlyOfGame}
+use Rattle.pgn_extract.specs.Public.Listing.{entries_at_least, entry_line, heading_in}
 use Rattle.pgn_extract.specs.Public.Notes.{AreLines, indented}
-use Rattle.pgn_extract.specs.Public.Requests.{Refusal, asked_form, asked_mode, asked_select, asked_style, bad_mark, file_refusals, has_fields, has_mode, has_moves, has_style, text_refusals}
+use Rattle.pgn_extract.specs.Public.Requests.{Refusal, asked_form, asked_mode, asked_select}
+use Rattle.pgn_extract.specs.Public.Requests.{asked_style, bad_mark, file_refusals, has_fields}
+use Rattle.pgn_extract.specs.Public.Requests.{has_mode, has_moves, has_style, text_refusals}
 use Rattle.pgn_extract.specs.Public.Resuming.{verdicts_at_least}
 use Rattle.pgn_extract.specs.Public.Several.{games_word}
-use Rattle.pgn_extract.specs.Public.Verdicts.{FaultyGame, IsPieceVerdict, IsReportedBy, IsUnreadableVerdict, IsVerdictIn, SoundGame, Verdict, fault_line_of, output_of, without_note}
+use Rattle.pgn_extract.specs.Public.Verdicts.{FaultyGame, IsPieceVerdict, IsReportedBy}
+use Rattle.pgn_extract.specs.Public.Verdicts.{IsUnreadableVerdict, IsVerdictIn, SoundGame, Verdict}
+use Rattle.pgn_extract.specs.Public.Verdicts.{fault_line_of, output_of, without_note}
 use Rattle.pgn_extract.specs.declared.app.command.Request.{Request}
 use Rattle.pgn_extract.specs.declared.settings.Form.TheVariants.{AsItStands, Line, Record, Standard}
 use Rattle.pgn_extract.specs.declared.settings.Mode.TheVariants as modes
@@ -165,7 +171,8 @@ mark_is_refused noted request = (_, refl)
 -- Lines.
 
 line_of_a_game : (name : Option (List ℕ)) (parts : List Part)
-    → index_line name 2 (record { offset = 5; kind = ReadableGame parts }) ≡ mark_line name (game_id 2 5)
+    → index_line name 2 (record { offset = 5; kind = ReadableGame parts })
+    ≡ mark_line name (game_id 2 5)
 line_of_a_game name parts = refl
 
 no_line_of_other_pieces : (name : Option (List ℕ)) (bytes : List ℕ)
@@ -205,7 +212,7 @@ no_entry_of_no_piece : (aim : Aim) (number : ℕ) (entry : Entry)
 no_entry_of_no_piece aim number entry is = let none = is.game in cc
 
 no_wanted_ply_is_left : (aim : Aim) (tags : Heading) (replay : Replay) (ply : ℕ)
-    (criteria : List (List (Condition (List ℕ)))) → (Meets tags replay ply criteria → ⊥)
+    (criteria : List Conditions) → (Meets tags replay ply criteria → ⊥)
     → IsMet (Some criteria) tags replay ply → ⊥
 no_wanted_ply_is_left aim tags replay ply criteria none met = none met
 

@@ -1,10 +1,14 @@
 -- What the definitions of what is asked for say of some options, and what they refuse.
-use Rattle.std.proofs.Common.{◌≡◌, ◌^◌, ◌-◌, Bool, true, false, ℕ, nat_lt, length, List, [], ◌∷◌, ◌++◌, Option, None, Some, option_map, codes, ap, refl}
+use Rattle.std.proofs.Common.{◌≡◌, ◌^◌, ◌-◌, Bool, true, false, ℕ, nat_lt, length, List, [], ◌∷◌}
+use Rattle.std.proofs.Common.{◌++◌, Option, None, Some, option_map, codes, ap, refl}
 use Rattle.std.specs.Borrow.{Bor}
 use Rattle.pgn_game.specs.declared.exports.notation.Notation.TheVariants.{San, Uci}
-use Rattle.pgn_criteria.specs.declared.condition.Condition.{Condition}
+use Rattle.pgn_criteria.specs.Public.Conditions.{Conditions}
 use Rattle.pgn_extract.specs.Public.GivenMarks.{game_id, mark_in}
-use Rattle.pgn_extract.specs.Public.Requests.{asked, asks_names, bad_mark, begin_of, end_of, first_line, gives_mark, has_several_files, is_one_line, is_stretch, option_refusals, refused, text_refusals}
+use Rattle.pgn_extract.specs.Public.Requests.{asked, asks_names, bad_mark, begin_of, end_of}
+use Rattle.pgn_extract.specs.Public.Requests.{first_line, gives_mark, has_several_files}
+use Rattle.pgn_extract.specs.Public.Requests.{is_one_line, is_stretch, option_refusals, refused}
+use Rattle.pgn_extract.specs.Public.Requests.{text_refusals}
 use Rattle.pgn_extract.specs.declared.app.command.Request.{Request}
 use Rattle.pgn_extract.specs.declared.settings.Form.TheVariants.{Standard, AsItStands, Line, Record}
 use Rattle.pgn_extract.specs.declared.settings.Mode.TheVariants as modes
@@ -63,7 +67,8 @@ plain request = record request {
 
 -- and with its marks
 abbrev marked : Request → Request
-marked request = record (plain request) { from = request.from; until = request.until; at = request.at }
+marked request =
+    record (plain request) { from = request.from; until = request.until; at = request.at }
 
 -- the lines of refusals
 abbrev both_modes : List ℕ
@@ -111,10 +116,14 @@ RefusedWith request line = first_line (option_refusals request) ≡ Some line
 each_pair : (request : Request)
     → RefusedWith (record (plain request) { list = true; index = true }) both_modes
     × RefusedWith (record (plain request) { packed = true }) packs_give_lines
-    × RefusedWith (record (plain request) { list = true; packed = true; fen = true }) packs_are_plain
-    × RefusedWith (record (plain request) { list = true; packed = true; next = true }) packs_are_plain
-    × RefusedWith (record (plain request) { index = true; packed = true; with_names = true }) packs_are_plain
-    × RefusedWith (record (plain request) { list = true; packed = true; no_names = true }) packs_are_plain
+    × RefusedWith (record (plain request) { list = true; packed = true; fen = true })
+    packs_are_plain
+    × RefusedWith (record (plain request) { list = true; packed = true; next = true })
+    packs_are_plain
+    × RefusedWith (record (plain request) { index = true; packed = true; with_names = true })
+    packs_are_plain
+    × RefusedWith (record (plain request) { list = true; packed = true; no_names = true })
+    packs_are_plain
     × RefusedWith (record (plain request) { fen = true }) no_entries_listed
     × RefusedWith (record (plain request) { index = true; next = true }) no_entries_listed
     × RefusedWith (record (plain request) { list = true; others = true }) no_games_written
@@ -172,16 +181,33 @@ each_pair request = (
 
 -- of two pairs the first of the table has its line
 the_first_pair : (request : Request)
-    → RefusedWith (record (plain request) { list = true; index = true; packed = true; fen = true }) both_modes
+    → RefusedWith (record (plain request) { list = true; index = true; packed = true; fen = true })
+    both_modes
     × RefusedWith (record (plain request) { packed = true; fen = true }) packs_give_lines
-    × RefusedWith (record (plain request) { index = true; packed = true; fen = true }) packs_are_plain
-    × RefusedWith (record (plain request) { index = true; packed = true; no_names = true; others = true }) packs_are_plain
-    × RefusedWith (record (plain request) { index = true; fen = true; others = true }) no_entries_listed
-    × RefusedWith (record (plain request) { list = true; others = true; faulty = true }) no_games_written
-    × RefusedWith (record (plain request) { others = true; faulty = true; pack = true }) both_choices
+    × RefusedWith (record (plain request) { index = true; packed = true; fen = true })
+    packs_are_plain
+    × RefusedWith (record (plain request) {
+      index = true;
+      packed = true;
+      no_names = true;
+      others =
+          true;
+    }) packs_are_plain
+    × RefusedWith (record (plain request) { index = true; fen = true; others = true })
+    no_entries_listed
+    × RefusedWith (record (plain request) { list = true; others = true; faulty = true })
+    no_games_written
+    × RefusedWith (record (plain request) { others = true; faulty = true; pack = true })
+    both_choices
     × RefusedWith (record (plain request) { pack = true; moves = true; uci = true }) no_pack
     × RefusedWith (record (plain request) { moves = true; uci = true; as_is = true }) both_notations
-    × RefusedWith (record (plain request) { moves = true; as_is = true; with_names = true; no_names = true }) no_lines_of_moves
+    × RefusedWith (record (plain request) {
+      moves = true;
+      as_is = true;
+      with_names =
+          true;
+      no_names = true;
+    }) no_lines_of_moves
 the_first_pair request = (refl, refl, refl, refl, refl, refl, refl, refl, refl, refl)
 
 -- names come before marks of several files, and one file has marks
@@ -296,24 +322,29 @@ each_asked : (request : Request)
     × ((asked false (record (plain request) { min_ply = 7 }) None None).min_ply ≡ 7)
     × ((asked false (record (plain request) { max_ply = 7 }) None None).max_ply ≡ 7)
     × ((asked false (record (plain request) { first = true }) None None).first ≡ true)
-    × ((asked false (record (plain request) { fen = true }) None None).fields ≡ record { fen = true; next = false })
-    × ((asked false (record (plain request) { next = true }) None None).fields ≡ record { fen = false; next = true })
+    × ((asked false (record (plain request) { fen = true }) None None).fields
+    ≡ record { fen = true; next = false })
+    × ((asked false (record (plain request) { next = true }) None None).fields
+    ≡ record { fen = false; next = true })
     × ((asked true (plain request) None None).explain ≡ true)
     × ((asked false (plain request) None (Some [])).chosen ≡ Some [])
 each_asked request =
     (refl, refl, refl, refl, refl, refl, refl, refl, refl, refl, refl, refl, refl, refl, refl)
 
 criteria_are_asked : (noted : Bool) (request : Request)
-    (criteria : Option (List (List (Condition (List ℕ))))) (chosen : Option (List GameId))
+    (criteria : Option (List Conditions)) (chosen : Option (List GameId))
     → let aim = asked noted request criteria chosen in
     (aim.criteria ≡ criteria) × (aim.chosen ≡ chosen) × (aim.name ≡ None)
 criteria_are_asked noted request criteria chosen = (refl, refl, refl)
 
 each_style : (request : Request)
-    → ((asked false (record (plain request) { no_comments = true }) None None).style.comments ≡ false)
-    × ((asked false (record (plain request) { keep_commands = true }) None None).style.commands ≡ true)
+    → ((asked false (record (plain request) { no_comments = true }) None None).style.comments
+    ≡ false)
+    × ((asked false (record (plain request) { keep_commands = true }) None None).style.commands
+    ≡ true)
     × ((asked false (record (plain request) { no_glyphs = true }) None None).style.glyphs ≡ false)
-    × ((asked false (record (plain request) { no_variations = true }) None None).style.variations ≡ false)
+    × ((asked false (record (plain request) { no_variations = true }) None None).style.variations
+    ≡ false)
     × ((asked false (record (plain request) { roster = true }) None None).style.roster_only ≡ true)
     × ((asked false (record (plain request) { width = Some 40 }) None None).style.width ≡ 40)
 each_style request = (refl, refl, refl, refl, refl, refl)

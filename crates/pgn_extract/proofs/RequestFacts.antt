@@ -1,9 +1,11 @@
 -- Which refusal is the first that applies.
-use Rattle.std.proofs.Common.{◌≡◌, ◌<◌, ◌≤◌, ℕ, nat_lt, true, false, Bool, List, [], ◌∷◌, ◌++◌, Option, None, Some, codes, cond, refl, ap, ◌∙◌, arith}
+use Rattle.std.proofs.Common.{◌≡◌, ◌<◌, ◌≤◌, ℕ, nat_lt, true, false, Bool, List, [], ◌∷◌, ◌++◌}
+use Rattle.std.proofs.Common.{Option, None, Some, codes, cond, refl, ap, ◌∙◌, arith}
 use Rattle.std.proofs.lemmas.Bool.Decides.{nat_tests}
 use Rattle.std.specs.List.{list_all}
 use Rattle.std.specs.Option.{option_or}
-use Rattle.pgn_extract.specs.Public.Requests.{Refusal, first_line, option_refusals, text_refusals, refused, begin_of, end_of, is_one_line, bad_mark}
+use Rattle.pgn_extract.specs.Public.Requests.{Refusal, first_line, option_refusals, text_refusals}
+use Rattle.pgn_extract.specs.Public.Requests.{refused, begin_of, end_of, is_one_line, bad_mark}
 use Rattle.pgn_extract.specs.declared.app.command.Request.{Request}
 use Rattle.pgn_extract.specs.declared.marks.GameId.{GameId}
 
@@ -11,7 +13,9 @@ first_of_two : (first second : List Refusal)
     → first_line (first ++ second) ≡ option_or (first_line first) (first_line second)
 first_of_two [] second = refl
 first_of_two (refusal ∷ more) second =
-    elim refusal.applies as (λ applies. cond applies (Some refusal.line) (first_line (more ++ second)) ≡ option_or (cond applies (Some refusal.line) (first_line more)) (first_line second)) [
+    elim refusal.applies as (λ applies.
+    cond applies (Some refusal.line) (first_line (more ++ second))
+    ≡ option_or (cond applies (Some refusal.line) (first_line more)) (first_line second)) [
       | true ↦ refl
       | false ↦ first_of_two more second
     ]
@@ -33,13 +37,15 @@ by_texts noted request found none is =
 
 pub by_begin : (noted : Bool) (request : Request) → first_line (option_refusals request) ≡ None
     → begin_of request ≡ None → refused noted request ≡ Some (bad_mark noted)
-by_begin noted request none begin = by_texts noted request (Some (bad_mark noted)) none (rw begin refl)
+by_begin noted request none begin =
+    by_texts noted request (Some (bad_mark noted)) none (rw begin refl)
 
 pub by_end : (noted : Bool) (request : Request) (begin : GameId)
     → first_line (option_refusals request) ≡ None → begin_of request ≡ Some begin
     → end_of request ≡ None
     → refused noted request ≡ Some (bad_mark noted)
-by_end noted request begin none begins ends = by_texts noted request (Some (bad_mark noted)) none (rw (begins, ends) refl)
+by_end noted request begin none begins ends =
+    by_texts noted request (Some (bad_mark noted)) none (rw (begins, ends) refl)
 
 pub by_stretch : (noted : Bool) (request : Request) (begin : GameId) (end : ℕ)
     → first_line (option_refusals request) ≡ None → begin_of request ≡ Some begin
@@ -47,7 +53,8 @@ pub by_stretch : (noted : Bool) (request : Request) (begin : GameId) (end : ℕ)
     → refused noted request ≡ Some (codes "pgn-extract: --until is not after --from\n")
 by_stretch noted request begin end none begins ends within =
     let short : nat_lt begin.offset end ≡ false = grind (arith, nat_tests) in
-    by_texts noted request (Some (codes "pgn-extract: --until is not after --from\n")) none (rw (begins, ends, short) refl)
+    by_texts noted request (Some (codes "pgn-extract: --until is not after --from\n")) none
+    (rw (begins, ends, short) refl)
 
 pub by_lines : (noted : Bool) (request : Request) (begin : GameId) (end : ℕ)
     → first_line (option_refusals request) ≡ None → begin_of request ≡ Some begin
@@ -56,4 +63,5 @@ pub by_lines : (noted : Bool) (request : Request) (begin : GameId) (end : ℕ)
     → refused noted request ≡ Some (codes "pgn-extract: --where takes one line\n")
 by_lines noted request begin end none begins ends above lines =
     let long : nat_lt begin.offset end ≡ true = grind (arith, nat_tests) in
-    by_texts noted request (Some (codes "pgn-extract: --where takes one line\n")) none (rw (begins, ends, long, lines) refl)
+    by_texts noted request (Some (codes "pgn-extract: --where takes one line\n")) none
+    (rw (begins, ends, long, lines) refl)

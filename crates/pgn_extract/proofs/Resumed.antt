@@ -1,5 +1,7 @@
--- A run that reported the pieces of the rest reported what is reported of the whole from the mark on.
-use Rattle.std.proofs.Common.{◌≡◌, ℕ, ◌+◌, ◌≤◌, true, false, List, [], ◌∷◌, ◌++◌, length, drop, refl, sym, ap, ◌∙◌, subst, arith}
+-- A run that reported the pieces of the rest reported what is reported of the whole from the mark
+-- on.
+use Rattle.std.proofs.Common.{◌≡◌, ℕ, ◌+◌, ◌≤◌, true, false, List, [], ◌∷◌, ◌++◌, length, drop}
+use Rattle.std.proofs.Common.{refl, sym, ap, ◌∙◌, subst, arith}
 use Rattle.std.specs.Prelude.{nat_le, if◌then◌else◌}
 use Rattle.std.proofs.lemmas.Bool.Decides.{nat_tests}
 use Rattle.pgn_text.specs.Public.Marks.{MarkedPiece, AreMarkedPieces}
@@ -11,19 +13,26 @@ use Rattle.pgn_extract.specs.Public.Aims.{Aim}
 use Rattle.pgn_extract.proofs.OneReport.{same_report}
 
 -- pieces that are all numbered high enough
-at_least_all : (least number : ℕ) (verdicts : List Verdict) → least ≤ number → verdicts_at_least least number verdicts ≡ verdicts
+at_least_all : (least number : ℕ) (verdicts : List Verdict) → least ≤ number
+    → verdicts_at_least least number verdicts ≡ verdicts
 at_least_all least number [] low = refl
 at_least_all least number (verdict ∷ more) low =
     let here : nat_le least number ≡ true = grind (arith, nat_tests) in
-    ap (λ b. if b then verdict ∷ verdicts_at_least least (number + 1) more else verdicts_at_least least (number + 1) more) here
+    ap (λ b. if b then verdict ∷ verdicts_at_least least (number + 1) more
+    else verdicts_at_least least (number + 1) more) here
     ∙ ap (λ rest. verdict ∷ rest) (at_least_all least (number + 1) more (omega arith))
 
 -- of the pieces before the mark nothing is kept, of those from it on all
-at_least_from : (aim : Aim) (number : ℕ) (before after : List MarkedPiece) (verdicts : List Verdict) → AreVerdicts aim number (before ++ after) verdicts
-    → (later : List Verdict) × AreVerdicts aim (length before + number) after later × (verdicts_at_least (length before + number) number verdicts ≡ later)
+at_least_from : (aim : Aim) (number : ℕ) (before after : List MarkedPiece) (verdicts : List Verdict)
+    → AreVerdicts aim number (before ++ after) verdicts
+    → (later : List Verdict) × AreVerdicts aim (length before + number) after later
+    × (verdicts_at_least (length before + number) number verdicts ≡ later)
 at_least_from aim number [] after verdicts all =
-    let none : number ≡ 0 + number = omega arith in
-    (verdicts, subst (λ n. AreVerdicts aim n after verdicts) none all, at_least_all (0 + number) number verdicts (omega arith))
+    let none : number ≡ 0 + number = omega arith in (
+      verdicts,
+      subst (λ n. AreVerdicts aim n after verdicts) none all,
+      at_least_all (0 + number) number verdicts (omega arith),
+    )
 at_least_from aim number (piece ∷ before) after verdicts (verdict, rest, parted, is, others) =
     let least = length (piece ∷ before) + number in
     let above : nat_le least number ≡ false = grind (arith, nat_tests) in
@@ -32,7 +41,8 @@ at_least_from aim number (piece ∷ before) after verdicts (verdict, rest, parte
       from.0,
       subst (λ n. AreVerdicts aim n after from.0) next from.1,
       ap (verdicts_at_least least number) parted
-          ∙ ap (λ b. if b then verdict ∷ verdicts_at_least least (number + 1) rest else verdicts_at_least least (number + 1) rest) above
+          ∙ ap (λ b. if b then verdict ∷ verdicts_at_least least (number + 1) rest
+          else verdicts_at_least least (number + 1) rest) above
           ∙ ap (λ n. verdicts_at_least n (number + 1) rest) (sym next) ∙ from.2,
     )
 
@@ -46,7 +56,8 @@ run_resumes job io whole summary done pieces all mark =
     (subst (λ o. AreMarkedPieces job.limit job.max_depth o (drop o whole) done.pieces)
     mark.placed done.each) in
     let own : AreVerdicts job.aim job.id.number rest done.verdicts =
-    subst (λ p. AreVerdicts job.aim job.id.number p done.verdicts) same done.written.each in record {
+    subst (λ p. AreVerdicts job.aim job.id.number p done.verdicts) same done.written.each in
+    record {
       verdicts = done.verdicts;
       written = record {
         each = own;

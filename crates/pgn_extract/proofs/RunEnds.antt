@@ -38,7 +38,8 @@ module _ (job : Job) (io : Io) where
             (subst (AreMarkedPieces job.limit job.max_depth 0 whole) mark.parted each)
             (subst (λ o. AreMarkedPieces job.limit job.max_depth o (drop o whole) done.pieces)
             mark.placed done.each) in
-            let kept : AreEntries job.aim job.id.number rest (entries_at_least job.id.number found) =
+            let kept : AreEntries job.aim job.id.number rest
+            (entries_at_least job.id.number found) =
             subst (λ n. AreEntries job.aim n rest (entries_at_least n found)) (sym mark.numbered)
             (rest_entries job.aim mark.before rest 1 found
             (subst (λ p. AreEntries job.aim 1 p found) mark.parted are)) in
@@ -56,12 +57,17 @@ module _ (job : Job) (io : Io) where
   listed_of (Some whole) summary done = lists_of whole summary done
 
   -- a run ends as the run over its blocks, where those before its begin were dropped
-  pub ended : (result : Result Summary RunError) {mid : Option (List ℕ)} {count : ℕ} → io.input.old.moved ≡ 0 → job.id.offset ≤ largest_offset
+  pub ended : (result : Result Summary RunError) {mid : Option (List ℕ)} {count : ℕ}
+      → io.input.old.moved ≡ 0 → job.id.offset ≤ largest_offset
       → Drops io.input.old.bytes mid io.input.old.moved count job.id.offset
       → IfOk result (λ summary.
-      EndsBlocks job.aim job.limit job.max_depth job.id mid io.input.new.bytes count io.input.new.moved
-      io.out.old.bytes io.out.new.bytes io.err.old.bytes io.err.new.bytes summary × (io.out.new.flushed ≡ true) × (io.err.new.flushed ≡ true))
-      → IfErr result (BreaksOff job.aim job.limit job.max_depth job.id mid io.input.new.bytes count io.input.new.moved
+      EndsBlocks job.aim job.limit job.max_depth job.id mid io.input.new.bytes count
+      io.input.new.moved
+      io.out.old.bytes io.out.new.bytes io.err.old.bytes io.err.new.bytes summary
+      × (io.out.new.flushed ≡ true) × (io.err.new.flushed ≡ true))
+      → IfErr result
+      (BreaksOff job.aim job.limit job.max_depth job.id mid io.input.new.bytes count
+      io.input.new.moved
       io.out.old.bytes io.out.new.bytes io.err.old.bytes io.err.new.bytes)
       → FaultsAre result io → IsRun job io result
   ended (Ok summary) zero small drops ends breaks faults =
@@ -79,9 +85,11 @@ module _ (job : Job) (io : Io) where
   }
 
   -- or with a read that failed among them
-  pub not_begun : {last : Option (List ℕ)} {moved : ℕ} (error : RunError) → error ≡ Read → moved ≡ 0 → job.id.offset ≤ largest_offset
+  pub not_begun : {last : Option (List ℕ)} {moved : ℕ} (error : RunError) → error ≡ Read → moved ≡ 0
+      → job.id.offset ≤ largest_offset
       → io.out.new.bytes ≡ io.out.old.bytes → io.err.new.bytes ≡ io.err.old.bytes
-      → DropsSome io.input.old.bytes last moved io.input.new.moved job.id.offset → FaultsAre (Err error) io → IsRun job io (Err error)
+      → DropsSome io.input.old.bytes last moved io.input.new.moved job.id.offset
+      → FaultsAre (Err error) io → IsRun job io (Err error)
   not_begun error is zero small same_out same_err drops faults = record {
     done = tt;
     lists = tt;

@@ -1,5 +1,7 @@
 -- What the definitions of exports, of runs and of searches refuse.
-use Rattle.std.proofs.Common.{◌≡◌, ◌≢◌, ◌<◌, ◌+◌, ◌∙◌, ℕ, Bool, true, false, List, [], ◌∷◌, ◌++◌, codes, length, Option, None, Some, IfSome, ap, refl, sym, subst, arith, ◌≤◌, drop}
+use Rattle.std.proofs.Common.{◌≡◌, ◌≢◌, ◌<◌, ◌+◌, ◌∙◌, ℕ, Bool, true, false, List, [], ◌∷◌, ◌++◌}
+use Rattle.std.proofs.Common.{codes, length, Option, None, Some, IfSome, ap, refl, sym, subst}
+use Rattle.std.proofs.Common.{arith, ◌≤◌, drop}
 use Rattle.pgn_extract.specs.declared.output.outcome.RunError.TheVariants.{InputTooLong}
 use Rattle.pgn_text.specs.Public.Complete.{AreCompleteBlocks, AreCompletePieces}
 use Rattle.pgn_text.specs.Public.GameTexts.{GameText, IsGameText, tag_in}
@@ -19,22 +21,34 @@ use Rattle.pgn_text.specs.Public.Marks.{MarkedPiece, TooLongBlock, UnreadableRes
 use Rattle.pgn_text.specs.Public.Parts.{Part}
 use Rattle.pgn_text.specs.Public.Tallies.{Tallied}
 use Rattle.pgn_extract.specs.Public.Aims.{Aim, GameId}
-use Rattle.pgn_extract.specs.Public.Exports.{IsExportOf, IsGameExport, written_lines, IsGameRecordOf}
-use Rattle.pgn_extract.specs.Public.Exports.IsGameExport.{sound as sound_export, faulty as faulty_export}
+use Rattle.pgn_extract.specs.Public.Exports.{IsExportOf, IsGameExport, written_lines}
+use Rattle.pgn_extract.specs.Public.Exports.{IsGameRecordOf}
+use Rattle.pgn_extract.specs.Public.Exports.IsGameExport.{sound as sound_export}
+use Rattle.pgn_extract.specs.Public.Exports.IsGameExport.{faulty as faulty_export}
 use Rattle.pgn_extract.specs.Public.GameReports.{AreListed, IsFaultOf, IsReplayOf}
 use Rattle.pgn_extract.specs.Public.GivenMarks.{game_id, mark_around}
-use Rattle.pgn_extract.specs.Public.Listing.{AreEntries, Entry, IsMainReplayOf, entries_at_least, listing}
+use Rattle.pgn_extract.specs.Public.Listing.{AreEntries, Entry, IsMainReplayOf, entries_at_least}
+use Rattle.pgn_extract.specs.Public.Listing.{listing}
 use Rattle.pgn_extract.specs.Public.Outcomes.{AppendsFront, BeginsAll, WritesComplete}
 use Rattle.pgn_extract.specs.Public.Requests.{option_refusals, refusals, text_refusals}
 use Rattle.pgn_extract.specs.Public.Resuming.{WritesRest, IsMarkAmong}
 use Rattle.pgn_extract.specs.Public.Runs.{Adds, AreWritten, ArePieces, Completed, Completes, Io}
 use Rattle.pgn_extract.specs.Public.Runs.{Job, Lists, OnInput, Passage, Stream, stream_of}
 use Rattle.pgn_extract.specs.Public.Runs.{IsBegun, IsCompleteOf, Listed, Stopped, Stops}
-use Rattle.pgn_extract.specs.Public.Searching.{AreGameRecords, ArePackLines, ArePieceRecords, AreRecordLines, AreRecords, BeginsWithRecords, HasNoGame, Searches, StopsAtBytes, StopsAtRead, StopsSearch, StopsWithin, IndexesWhatWasPacked, IsIndexOfSoundGames, IsPackOf, IsRecordListing, IsSoundPiece, ListsWhatWasPacked, of_all}
-use Rattle.pgn_extract.specs.Public.Searching.AreGameRecords.{sound as sound_record, faulty as faulty_record}
-use Rattle.pgn_extract.specs.Public.Several.{AtPath, FileOf, IsOfPath, IsReport, NamesUnopened, NoFile, Order, StopsInFile, Unknown, IsRead, WritesPaths, WritesRead}
+use Rattle.pgn_extract.specs.Public.Searching.{AreGameRecords, ArePackLines, ArePieceRecords}
+use Rattle.pgn_extract.specs.Public.Searching.{AreRecordLines, AreRecords, BeginsWithRecords}
+use Rattle.pgn_extract.specs.Public.Searching.{HasNoGame, Searches, StopsAtBytes, StopsAtRead}
+use Rattle.pgn_extract.specs.Public.Searching.{StopsSearch, StopsWithin, IndexesWhatWasPacked}
+use Rattle.pgn_extract.specs.Public.Searching.{IsIndexOfSoundGames, IsPackOf, IsRecordListing}
+use Rattle.pgn_extract.specs.Public.Searching.{IsSoundPiece, ListsWhatWasPacked, of_all}
+use Rattle.pgn_extract.specs.Public.Searching.AreGameRecords.{sound as sound_record}
+use Rattle.pgn_extract.specs.Public.Searching.AreGameRecords.{faulty as faulty_record}
+use Rattle.pgn_extract.specs.Public.Several.{AtPath, FileOf, IsOfPath, IsReport, NamesUnopened}
+use Rattle.pgn_extract.specs.Public.Several.{NoFile, Order, StopsInFile, Unknown, IsRead}
+use Rattle.pgn_extract.specs.Public.Several.{WritesPaths, WritesRead}
 use Rattle.pgn_extract.specs.Private.SeveralPacks.{SearchesPath, SearchesPaths}
-use Rattle.pgn_extract.specs.Public.Verdicts.{AreVerdicts, FaultyGame, IsGameVerdict, Verdict, fault_lines, output_text}
+use Rattle.pgn_extract.specs.Public.Verdicts.{AreVerdicts, FaultyGame, IsGameVerdict, Verdict}
+use Rattle.pgn_extract.specs.Public.Verdicts.{fault_lines, output_text}
 use Rattle.pgn_extract.specs.Private.PackStops.{StopsAmongPacks, StopsAtPack, StopsInPack}
 use Rattle.pgn_extract.specs.declared.app.command.Request.{Request}
 use Rattle.pgn_extract.specs.declared.app.packs.PackFailure.{PackFailure}

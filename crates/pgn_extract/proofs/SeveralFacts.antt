@@ -1,6 +1,9 @@
 -- Runs over files, one after the other.
-use Rattle.std.proofs.Common.{◌≡◌, ◌≢◌, ◌++◌, ◌||◌, ◌+◌, ◌<◌, ℕ, Bool, List, [], ◌∷◌, Option, Some, None, IfSome, length, drop, take, map, get_or, refl, sym, ap, subst, ◌∙◌}
-use Rattle.std.proofs.lemmas.List.{append_assoc, append-nil, drop_more, get_or-map, length-map, take-append-drop, take_more}
+use Rattle.std.proofs.Common.{◌≡◌, ◌≢◌, ◌++◌, ◌||◌, ◌+◌, ◌<◌, ℕ, Bool, List, [], ◌∷◌, Option, Some}
+use Rattle.std.proofs.Common.{None, IfSome, length, drop, take, map, get_or, refl, sym, ap, subst}
+use Rattle.std.proofs.Common.{◌∙◌}
+use Rattle.std.proofs.lemmas.List.{append_assoc, append-nil, drop_more, get_or-map, length-map}
+use Rattle.std.proofs.lemmas.List.{take-append-drop, take_more}
 use Rattle.std.proofs.lemmas.List.Folds.{list_any-append}
 use Rattle.std.proofs.Math.Bool.{or-false}
 use Rattle.std.specs.Io.KnownBytes.{Appends}
@@ -10,7 +13,9 @@ use Rattle.std.specs.declared.io.ErrorKind.{ErrorKind}
 use Rattle.std.specs.declared.io.ErrorKind.TheVariants.{OutOfMemory}
 use Rattle.pgn_extract.proofs.Writing.{appends_join}
 use Rattle.pgn_extract.specs.Public.Runs.{Completes, Io}
-use Rattle.pgn_extract.specs.Public.Several.{AreKnown, AreOfPaths, AtPath, FileOf, IsOfPath, IsRead, IsRefused, NamesUnopened, NoFile, Order, Unknown, is_no_file, own_summary}
+use Rattle.pgn_extract.specs.Public.Several.{AreKnown, AreOfPaths, AtPath, FileOf, IsOfPath, IsRead}
+use Rattle.pgn_extract.specs.Public.Several.{IsRefused, NamesUnopened, NoFile, Order, Unknown}
+use Rattle.pgn_extract.specs.Public.Several.{is_no_file, own_summary}
 use Rattle.pgn_extract.specs.Public.Verdicts.{fault_lines, output_text}
 use Rattle.pgn_extract.specs.declared.output.outcome.Summary.{Summary}
 

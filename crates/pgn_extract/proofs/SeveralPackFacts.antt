@@ -1,5 +1,6 @@
 -- Searches of packs, one after the other.
-use Rattle.std.proofs.Common.{◌≡◌, ◌≢◌, ◌++◌, ◌<◌, ◌+◌, ℕ, List, [], ◌∷◌, Option, IfSome, drop, get_or, length, map, take, refl, sym, subst}
+use Rattle.std.proofs.Common.{◌≡◌, ◌≢◌, ◌++◌, ◌<◌, ◌+◌, ℕ, List, [], ◌∷◌, Option, IfSome, drop}
+use Rattle.std.proofs.Common.{get_or, length, map, take, refl, sym, subst}
 use Rattle.std.specs.Io.KnownBytes.{Keeps}
 use Rattle.std.specs.declared.io.ErrorKind.{ErrorKind}
 use Rattle.std.specs.declared.io.ErrorKind.TheVariants.{OutOfMemory}
@@ -9,7 +10,8 @@ use Rattle.pgn_extract.specs.Public.Aims.{Aim}
 use Rattle.pgn_extract.specs.Public.Outcomes.{AppendsFront}
 use Rattle.pgn_extract.specs.Public.Runs.{Adds, Passage, Stream}
 use Rattle.pgn_extract.specs.Public.Searching.{Searches}
-use Rattle.pgn_extract.specs.Public.Several.{AtPath, FileOf, IsOpened, IsRefused, NamesUnopened, NoFile, Unknown}
+use Rattle.pgn_extract.specs.Public.Several.{AtPath, FileOf, IsOpened, IsRefused, NamesUnopened}
+use Rattle.pgn_extract.specs.Public.Several.{NoFile, Unknown}
 use Rattle.pgn_extract.specs.Private.SeveralPacks.{SearchesPath, SearchesPaths}
 use Rattle.pgn_extract.specs.declared.app.packs.PackFailure.{PackFailure}
 use Rattle.pgn_extract.specs.declared.app.packs.PackFailure.TheVariants.{Search, Report}

@@ -41,8 +41,10 @@ one_byte b rest low (inr (high, other)) =
     ] in
     rw (first, delete, lead) refl
 
-after_lead : (next : ℕ) (rest : List ℕ) → 160 ≤ next → is_shown (194 ∷ next ∷ rest) ≡ is_shown (next ∷ rest)
-after_lead next rest high = let none : nat_le next 159 ≡ false = grind (arith, nat_tests) in rw none refl
+after_lead : (next : ℕ) (rest : List ℕ) → 160 ≤ next
+    → is_shown (194 ∷ next ∷ rest) ≡ is_shown (next ∷ rest)
+after_lead next rest high = let none : nat_le next 159 ≡ false = grind (arith, nat_tests) in
+    rw none refl
 
 two_bytes : (c : ℕ) (rest : List ℕ) → 160 ≤ c → c < 2048
     → is_shown ((192 + c / 64) ∷ (128 + c % 64) ∷ rest) ≡ is_shown rest
@@ -50,12 +52,15 @@ two_bytes c rest high low =
     let second : is_shown ((128 + c % 64) ∷ rest) ≡ is_shown rest =
     one_byte (128 + c % 64) rest (omega arith) (inr (omega arith, inl (omega arith))) in
     elim (cases_lt c 192) [
-      | inl less ↦ (let two : 192 + c / 64 ≡ 194 = omega arith in rw two (after_lead (128 + c % 64) rest (omega arith)) ∙ second)
-      | inr more ↦ one_byte (192 + c / 64) ((128 + c % 64) ∷ rest) (omega arith) (inr (omega arith, inr (omega arith))) ∙ second
+      | inl less ↦ (let two : 192 + c / 64 ≡ 194 = omega arith in
+          rw two (after_lead (128 + c % 64) rest (omega arith)) ∙ second)
+      | inr more ↦ one_byte (192 + c / 64) ((128 + c % 64)
+          ∷ rest) (omega arith) (inr (omega arith, inr (omega arith))) ∙ second
     ]
 
 later : (bits : ℕ) (rest : List ℕ) → is_shown ((128 + bits % 64) ∷ rest) ≡ is_shown rest
-later bits rest = one_byte (128 + bits % 64) rest (omega arith) (inr (omega arith, inl (omega arith)))
+later bits rest =
+    one_byte (128 + bits % 64) rest (omega arith) (inr (omega arith, inl (omega arith)))
 
 three_bytes : (c : ℕ) (rest : List ℕ)
     → is_shown ((224 + c / 4096) ∷ (128 + c / 64 % 64) ∷ (128 + c % 64) ∷ rest) ≡ is_shown rest
@@ -64,10 +69,12 @@ three_bytes c rest =
     (inr (omega arith, inr (omega arith))) ∙ later (c / 64) ((128 + c % 64) ∷ rest) ∙ later c rest
 
 four_bytes : (c : ℕ) (rest : List ℕ)
-    → is_shown ((240 + c / 262144) ∷ (128 + c / 4096 % 64) ∷ (128 + c / 64 % 64) ∷ (128 + c % 64) ∷ rest)
+    → is_shown ((240 + c / 262144) ∷ (128 + c / 4096 % 64) ∷ (128 + c / 64 % 64) ∷ (128 + c % 64)
+    ∷ rest)
     ≡ is_shown rest
 four_bytes c rest =
-    one_byte (240 + c / 262144) ((128 + c / 4096 % 64) ∷ (128 + c / 64 % 64) ∷ (128 + c % 64) ∷ rest)
+    one_byte (240 + c / 262144) ((128 + c / 4096 % 64) ∷ (128 + c / 64 % 64) ∷ (128 + c % 64)
+    ∷ rest)
     (omega arith) (inr (omega arith, inr (omega arith)))
     ∙ later (c / 4096) ((128 + c / 64 % 64) ∷ (128 + c % 64) ∷ rest)
     ∙ later (c / 64) ((128 + c % 64) ∷ rest) ∙ later c rest
@@ -79,7 +86,8 @@ encoded c rest (low, apart) = by (ltb c 128) (ltb c 2048) (ltb c 65536) refl ref
     by : (one two three : Bool) → ltb c 128 ≡ one → ltb c 2048 ≡ two
         → is_shown (cond one (c ∷ []) (cond two ((192 + c / 64) ∷ (128 + c % 64) ∷ [])
         (cond three ((224 + c / 4096) ∷ (128 + c / 64 % 64) ∷ (128 + c % 64) ∷ [])
-        ((240 + c / 262144) ∷ (128 + c / 4096 % 64) ∷ (128 + c / 64 % 64) ∷ (128 + c % 64) ∷ []))) ++ rest)
+        ((240 + c / 262144) ∷ (128 + c / 4096 % 64) ∷ (128 + c / 64 % 64) ∷ (128 + c % 64) ∷ [])))
+        ++ rest)
         ≡ is_shown rest
     by true two three a b = one_byte c rest low (inl (grind (arith, nat_tests)))
     by false true three a b = two_bytes c rest (grind (arith, nat_tests)) (grind (arith, nat_tests))
@@ -88,7 +96,8 @@ encoded c rest (low, apart) = by (ltb c 128) (ltb c 2048) (ltb c 65536) refl ref
 
 all_shown : (cs : List ℕ) → IsTrue (is_shown (encode_utf8_all (map shown_char cs)))
 all_shown [] = refl
-all_shown (c ∷ cs) = encoded (shown_char c) (encode_utf8_all (map shown_char cs)) (graphic c) ∙ all_shown cs
+all_shown (c ∷ cs) = encoded (shown_char c) (encode_utf8_all (map shown_char cs)) (graphic c)
+    ∙ all_shown cs
 
 pub names_are_shown : NamesAreShown
 names_are_shown path = all_shown (chars path)

@@ -1,9 +1,14 @@
--- The pieces of a text are reported in some way: each of its games has a replay or a fault, since its FEN tag has the contents of a string,
+-- The pieces of a text are reported in some way: each of its games has a replay or a fault, since
+-- its FEN tag has the contents of a string,
 -- and each sound one has an export.
-use Rattle.std.proofs.Common.{◌≡◌, ◌⊎◌, ℕ, zero, suc, arith, ◌+◌, ◌<◌, ◌≤◌, ◌==◌, Bool, true, false, List, [], ◌∷◌, ◌++◌, map, length, Option, Some, None, IfSome, refl, sym, ◌∙◌, subst, inl, inr, codes}
+use Rattle.std.proofs.Common.{◌≡◌, ◌⊎◌, ℕ, zero, suc, arith, ◌+◌, ◌<◌, ◌≤◌, ◌==◌, Bool, true, false}
+use Rattle.std.proofs.Common.{List, [], ◌∷◌, ◌++◌, map, length, Option, Some, None, IfSome, refl}
+use Rattle.std.proofs.Common.{sym, ◌∙◌, subst, inl, inr, codes}
 use Rattle.std.proofs.lemmas.Bool.{cases_lt, cases_Bool, both_ways}
 use Rattle.pgn_text.specs.Public.Games.{items_of, first_tag}
-use Rattle.pgn_text.specs.Public.Marks.{PieceKind, ReadableGame, UnreadableRest, TooLongBlock, MarkedPiece, marked, AreOfBlock, over, within, AreOfBlocks, AreMarkedPieces}
+use Rattle.pgn_text.specs.Public.Marks.{PieceKind, ReadableGame, UnreadableRest, TooLongBlock}
+use Rattle.pgn_text.specs.Public.Marks.{MarkedPiece, marked, AreOfBlock, over, within, AreOfBlocks}
+use Rattle.pgn_text.specs.Public.Marks.{AreMarkedPieces}
 use Rattle.pgn_text.specs.Public.GameTexts.{GameText, IsGameText, IsPaired, ShowsGame}
 use Rattle.pgn_text.specs.Public.Parts.{Part, spelled}
 use Rattle.pgn_text.specs.Public.Pieces.{Piece, Game, Unreadable, ArePieces}
@@ -21,8 +26,12 @@ use Rattle.pgn_extract.specs.Public.GameReports.{plies_of, cause_text, IsReplayO
 use Rattle.pgn_game.proofs.GameLineFacts.{some_line}
 use Rattle.pgn_extract.specs.declared.settings.Form.{Form}
 use Rattle.pgn_extract.specs.declared.settings.Form.TheVariants.{Standard, AsItStands, Line, Record}
-use Rattle.pgn_extract.specs.Public.Exports.{line_with, lines_in, written_lines, HasEntry, IsTextOf, IsWritten, selected, unselected, as_it_stands, faulty_text}
-use Rattle.pgn_extract.specs.Public.Verdicts.{Verdict, SoundGame, FaultyGame, IsVerdictIn, IsReportedBy, IsPieceVerdict, AreVerdicts, IsUnreadableVerdict}
+use Rattle.pgn_extract.specs.Public.Exports.{line_with, lines_in, written_lines, HasEntry, IsTextOf}
+use Rattle.pgn_extract.specs.Public.Exports.{IsWritten, selected, unselected, as_it_stands}
+use Rattle.pgn_extract.specs.Public.Exports.{faulty_text}
+use Rattle.pgn_extract.specs.Public.Verdicts.{Verdict, SoundGame, FaultyGame, IsVerdictIn}
+use Rattle.pgn_extract.specs.Public.Verdicts.{IsReportedBy, IsPieceVerdict, AreVerdicts}
+use Rattle.pgn_extract.specs.Public.Verdicts.{IsUnreadableVerdict}
 use Rattle.pgn_game.specs.Public.Replays.{Replay}
 use Rattle.pgn_criteria.specs.Public.Meeting.{Heading}
 use Rattle.pgn_extract.specs.Public.Aims.{Aim, GameId, IsMet, IsWanted, IsEntry}
@@ -47,11 +56,23 @@ abbrev AreMade : List MarkedPiece → Type 0
 AreMade [] = Unit {0}
 AreMade (piece ∷ more) = IsMade piece.kind × AreMade more
 
-made_of : (parts : List Part) → (game : GameText) × IsGameText game × ShowsGame game 0 parts → IsMade (ReadableGame parts)
-made_of parts (game, is_game, shows) =
-    (game, is_game, record { place = refl; text = shows.text; tags = shows.tags; elements = shows.elements; result = shows.result })
+made_of : (parts : List Part) → (game : GameText) × IsGameText game × ShowsGame game 0 parts
+    → IsMade (ReadableGame parts)
+made_of parts (game, is_game, shows) = (
+  game,
+  is_game,
+  record {
+    place = refl;
+    text = shows.text;
+    tags = shows.tags;
+    elements =
+        shows.elements;
+    result = shows.result;
+  },
+)
 
-pieces_made : (max_depth : ℕ) (file_start : Bool) (before : List ℕ) (pieces : List Piece) (text : List ℕ) (offset : ℕ)
+pieces_made : (max_depth : ℕ) (file_start : Bool) (before : List ℕ) (pieces : List Piece)
+    (text : List ℕ) (offset : ℕ)
     → ArePieces max_depth file_start before pieces text → AreMade (map (marked offset) pieces)
 pieces_made max_depth file_start before [] text offset h = tt
 pieces_made max_depth file_start before (Game at parts ∷ more) text offset h = (
@@ -85,13 +106,16 @@ module _ (parts : List Part) (made : IsMade (ReadableGame parts)) where
   has_string None is = tt
   has_string (Some contents) is = made.1.strings fen_tag contents (made.2.tags fen_tag ∙ is)
 
-  answers : (lines : Lines) → ((replay : Replay) × IsReplayOf lines parts replay) ⊎ ((fault : Fault) × IsFaultOf lines parts fault)
+  answers : (lines : Lines) → ((replay : Replay) × IsReplayOf lines parts replay)
+      ⊎ ((fault : Fault) × IsFaultOf lines parts fault)
   answers lines =
-      game_answer lines (first_tag fen_tag parts) (items_of parts) (has_string (first_tag fen_tag parts) refl)
+      game_answer lines (first_tag fen_tag parts) (items_of parts)
+      (has_string (first_tag fen_tag parts) refl)
       (λ all. subst (IsPaired 0) made.2.elements made.1.paired)
 
 -- a ply is wanted or not, where its position is decided
-wanted_or_not : (aim : Aim) (tags : Heading) (replay : Replay) (ply : ℕ) → IsMet aim.criteria tags replay ply ⊎ (IsMet aim.criteria tags replay ply → ⊥)
+wanted_or_not : (aim : Aim) (tags : Heading) (replay : Replay) (ply : ℕ)
+    → IsMet aim.criteria tags replay ply ⊎ (IsMet aim.criteria tags replay ply → ⊥)
     → IsWanted aim tags replay ply ⊎ (IsWanted aim tags replay ply → ⊥)
 wanted_or_not aim tags replay ply met = elim (cases_lt ply aim.min_ply) [
   | inl under ↦ inr (λ wanted. let low = wanted.0 in omega arith)
@@ -106,67 +130,82 @@ wanted_or_not aim tags replay ply met = elim (cases_lt ply aim.min_ply) [
 
 -- none before a ply is wanted, or one is
 pub none_before : (aim : Aim) (tags : Heading) (replay : Replay) (ply : ℕ)
-    → ((n : ℕ) → n < ply → IsMet aim.criteria tags replay n ⊎ (IsMet aim.criteria tags replay n → ⊥))
-    → ((n : ℕ) → n < ply → IsWanted aim tags replay n → ⊥) ⊎ ((n : ℕ) × (n < ply) × IsWanted aim tags replay n)
+    → ((n : ℕ) → n < ply → IsMet aim.criteria tags replay n
+    ⊎ (IsMet aim.criteria tags replay n → ⊥))
+    → ((n : ℕ) → n < ply → IsWanted aim tags replay n → ⊥)
+    ⊎ ((n : ℕ) × (n < ply) × IsWanted aim tags replay n)
 none_before aim tags replay zero met = inl (λ n less wanted. omega arith)
-none_before aim tags replay (suc ply) met = elim (none_before aim tags replay ply (λ n less. met n (omega arith))) [
-  | inr (n, less, wanted) ↦ inr (n, omega arith, wanted)
-  | inl none ↦ elim (wanted_or_not aim tags replay ply (met ply (omega arith))) [
-    | inl wanted ↦ inr (ply, omega arith, wanted)
-    | inr fails ↦ inl (λ n less wanted. elim (cases_lt n ply) [
-      | inl under ↦ none n under wanted
-      | inr above ↦ let same : n ≡ ply = omega arith in fails (subst (IsWanted aim tags replay) same wanted)
-    ])
-  ]
-]
+none_before aim tags replay (suc ply) met =
+    elim (none_before aim tags replay ply (λ n less. met n (omega arith))) [
+      | inr (n, less, wanted) ↦ inr (n, omega arith, wanted)
+      | inl none ↦ elim (wanted_or_not aim tags replay ply (met ply (omega arith))) [
+        | inl wanted ↦ inr (ply, omega arith, wanted)
+        | inr fails ↦ inl (λ n less wanted. elim (cases_lt n ply) [
+          | inl under ↦ none n under wanted
+          | inr above ↦ let same : n ≡ ply = omega arith in
+              fails (subst (IsWanted aim tags replay) same wanted)
+        ])
+      ]
+    ]
 
 -- so a ply is listed or not
 entry_or_not : (aim : Aim) (tags : Heading) (replay : Replay) (ply : ℕ)
-    → ((n : ℕ) → n < ply + 1 → IsMet aim.criteria tags replay n ⊎ (IsMet aim.criteria tags replay n → ⊥))
+    → ((n : ℕ) → n < ply + 1 → IsMet aim.criteria tags replay n
+    ⊎ (IsMet aim.criteria tags replay n → ⊥))
     → IsEntry aim tags replay ply ⊎ (IsEntry aim tags replay ply → ⊥)
-entry_or_not aim tags replay ply met = elim (wanted_or_not aim tags replay ply (met ply (omega arith))) [
-  | inr fails ↦ inr (λ entry. fails entry.0)
-  | inl wanted ↦ elim (cases_Bool aim.first) [
-    | inr every ↦ inl (wanted, λ first before less earlier. both_ways aim.first every first)
-    | inl first ↦ elim (none_before aim tags replay ply (λ n less. met n (omega arith))) [
-      | inl none ↦ inl (wanted, λ only. none)
-      | inr (n, less, earlier) ↦ inr (λ entry. entry.1 first n less earlier)
+entry_or_not aim tags replay ply met =
+    elim (wanted_or_not aim tags replay ply (met ply (omega arith))) [
+      | inr fails ↦ inr (λ entry. fails entry.0)
+      | inl wanted ↦ elim (cases_Bool aim.first) [
+        | inr every ↦ inl (wanted, λ first before less earlier. both_ways aim.first every first)
+        | inl first ↦ elim (none_before aim tags replay ply (λ n less. met n (omega arith))) [
+          | inl none ↦ inl (wanted, λ only. none)
+          | inr (n, less, earlier) ↦ inr (λ entry. entry.1 first n less earlier)
+        ]
+      ]
     ]
-  ]
-]
 
 -- a game has an entry or has none
-entry_or_none : (aim : Aim) (tags : Heading) (replay : Replay) (count : ℕ) → count ≤ length replay.positions
+entry_or_none : (aim : Aim) (tags : Heading) (replay : Replay) (count : ℕ)
+    → count ≤ length replay.positions
     → ((n : ℕ) → n < count → IsEntry aim tags replay n ⊎ (IsEntry aim tags replay n → ⊥))
     → HasEntry aim tags replay ⊎ ((n : ℕ) → n < count → IsEntry aim tags replay n → ⊥)
 entry_or_none aim tags replay zero fits each = inr (λ n less entry. omega arith)
-entry_or_none aim tags replay (suc count) fits each = elim (entry_or_none aim tags replay count (omega arith) (λ n less. each n (omega arith))) [
-  | inl has ↦ inl has
-  | inr none ↦ elim (each count (omega arith)) [
-    | inl entry ↦ inl (count, omega arith, entry)
-    | inr fails ↦ inr (λ n less entry. elim (cases_lt n count) [
-      | inl under ↦ none n under entry
-      | inr above ↦ let same : n ≡ count = omega arith in fails (subst (IsEntry aim tags replay) same entry)
-    ])
-  ]
-]
+entry_or_none aim tags replay (suc count) fits each =
+    elim (entry_or_none aim tags replay count (omega arith) (λ n less. each n (omega arith))) [
+      | inl has ↦ inl has
+      | inr none ↦ elim (each count (omega arith)) [
+        | inl entry ↦ inl (count, omega arith, entry)
+        | inr fails ↦ inr (λ n less entry. elim (cases_lt n count) [
+          | inl under ↦ none n under entry
+          | inr above ↦ let same : n ≡ count = omega arith in
+              fails (subst (IsEntry aim tags replay) same entry)
+        ])
+      ]
+    ]
 
-module _ (aim : Aim) (decided : IsDecided aim) (id : GameId) (parts : List Part) (made : IsMade (ReadableGame parts)) where
+module _ (aim : Aim) (decided : IsDecided aim) (id : GameId) (parts : List Part)
+    (made : IsMade (ReadableGame parts)) where
   -- a ply of a sound game is listed or not
-  listed_or_not : (lines : Lines) (replay : Replay) → IsReplayOf lines parts replay → (ply : ℕ) → ply < length replay.positions
+  listed_or_not : (lines : Lines) (replay : Replay) → IsReplayOf lines parts replay → (ply : ℕ)
+      → ply < length replay.positions
       → IsEntry aim (heading_in parts) replay ply ⊎ (IsEntry aim (heading_in parts) replay ply → ⊥)
   listed_or_not lines replay is ply short =
-      entry_or_not aim (heading_in parts) replay ply (λ n less. decided lines parts replay is n (omega arith))
+      entry_or_not aim (heading_in parts) replay ply (λ n less.
+      decided lines parts replay is n (omega arith))
 
   -- so a sound game has an entry or none
-  has_or_not : (replay : Replay) → IsReplayOf (written_lines aim) parts replay → HasEntry aim (heading_in parts) replay ⊎ (HasEntry aim (heading_in parts) replay → ⊥)
+  has_or_not : (replay : Replay) → IsReplayOf (written_lines aim) parts replay
+      → HasEntry aim (heading_in parts) replay ⊎ (HasEntry aim (heading_in parts) replay → ⊥)
   has_or_not replay is =
-      elim (entry_or_none aim (heading_in parts) replay (length replay.positions) (omega arith) (listed_or_not (written_lines aim) replay is)) [
+      elim (entry_or_none aim (heading_in parts) replay (length replay.positions) (omega arith)
+      (listed_or_not (written_lines aim) replay is)) [
         | inl has ↦ inl has
         | inr none ↦ inr (λ has. none has.0 has.1 has.2)
       ]
 
-  some_text : (form : Form) (replay : Replay) → IsReplayOf (lines_in form aim.style) parts replay → (text : List ℕ) × IsTextOf form aim id parts text
+  some_text : (form : Form) (replay : Replay) → IsReplayOf (lines_in form aim.style) parts replay
+      → (text : List ℕ) × IsTextOf form aim id parts text
   some_text Standard replay is = some_export_of_parts aim.style parts made.0 made.1 made.2 replay is
   some_text AsItStands replay is = (as_it_stands (spelled parts), refl)
   some_text (Line notation) replay is =
@@ -174,11 +213,14 @@ module _ (aim : Aim) (decided : IsDecided aim) (id : GameId) (parts : List Part)
       (line_with aim.name id own.0, (own.0, own.1, refl))
   some_text Record replay is = some_record_of_parts aim.name id parts made.0 made.1 made.2 replay is
 
-  written : (replay : Replay) → IsReplayOf (written_lines aim) parts replay → (text : List ℕ) × IsWritten aim id parts replay text
-  written replay is = elim (selected_or_not aim.select (HasEntry aim (heading_in parts) replay) (has_or_not replay is)) [
-    | inl has ↦ let own = some_text aim.form replay is in (own.0, selected has own.1)
-    | inr none ↦ ([], unselected none refl)
-  ]
+  written : (replay : Replay) → IsReplayOf (written_lines aim) parts replay
+      → (text : List ℕ) × IsWritten aim id parts replay text
+  written replay is =
+      elim (selected_or_not aim.select (HasEntry aim (heading_in parts) replay)
+      (has_or_not replay is)) [
+        | inl has ↦ let own = some_text aim.form replay is in (own.0, selected has own.1)
+        | inr none ↦ ([], unselected none refl)
+      ]
 
   game_reported : (mode : Mode) → (verdict : Verdict) × IsVerdictIn mode aim id parts verdict
   game_reported modes.Index = (SoundGame (mark_line aim.name id), refl)
@@ -188,56 +230,77 @@ module _ (aim : Aim) (decided : IsDecided aim) (id : GameId) (parts : List Part)
         let some =
         some_chosen id (IsEntry aim (heading_in parts) sound.0) (AreFields aim.fields sound.0) all
         (λ ply has. listed_or_not Main sound.0 sound.1 ply (within_plies sound.0.positions ply has))
-        (λ ply has. some_fields aim.fields Main (first_tag fen_tag parts) (items_of parts) sound.0 sound.1 ply (within_plies sound.0.positions ply has)) in
+        (λ ply has.
+        some_fields aim.fields Main (first_tag fen_tag parts) (items_of parts) sound.0 sound.1
+        ply (within_plies sound.0.positions ply has)) in
         (SoundGame (listing aim.name some.0), (sound.0, some.0, sound.1, some.1, refl))
-    | inr faulty ↦ (FaultyGame [] (fault_text aim.name id (cause_text faulty.0)) [], (faulty.0, faulty.1, refl, empty_note aim.explain, refl))
+    | inr faulty ↦ (
+      FaultyGame [] (fault_text aim.name id (cause_text faulty.0)) [],
+      (faulty.0, faulty.1, refl, empty_note aim.explain, refl),
+    )
   ]
   game_reported modes.Export = elim (answers parts made (written_lines aim)) [
-    | inl sound ↦ let text = written sound.0 sound.1 in (SoundGame text.0, (sound.0, sound.1, text.1))
+    | inl sound ↦ let text = written sound.0 sound.1 in
+        (SoundGame text.0, (sound.0, sound.1, text.1))
     | inr faulty ↦
-        let text = faulty_text modes.Export aim.select (spelled parts) in
-        (FaultyGame text (fault_text aim.name id (cause_text faulty.0)) [], (faulty.0, faulty.1, refl, empty_note aim.explain, refl))
+        let text = faulty_text modes.Export aim.select (spelled parts) in (
+          FaultyGame text (fault_text aim.name id (cause_text faulty.0)) [],
+          (faulty.0, faulty.1, refl, empty_note aim.explain, refl),
+        )
   ]
 
 by_line : (aim : Aim) (line : List ℕ) → (verdict : Verdict) × IsReportedBy aim [] line verdict
 by_line aim line = (FaultyGame [] line [], ([], empty_note aim.explain, refl))
 
-unreadable_reported : (aim : Aim) (offset : ℕ) (bytes line : List ℕ) → (verdict : Verdict) × IsUnreadableVerdict aim offset bytes line verdict
+unreadable_reported : (aim : Aim) (offset : ℕ) (bytes line : List ℕ)
+    → (verdict : Verdict) × IsUnreadableVerdict aim offset bytes line verdict
 unreadable_reported aim offset bytes line =
     let some = some_stop_note aim.explain offset bytes in
     (FaultyGame (faulty_text aim.mode aim.select bytes) line some.0, (some.0, some.1, some.2, refl))
 
 piece_reported : (kind : PieceKind) (aim : Aim) → IsDecided aim → (id : GameId) → IsMade kind
     → (verdict : Verdict) × IsPieceVerdict kind aim id verdict
-piece_reported (ReadableGame parts) aim decided id made = game_reported aim decided id parts made aim.mode
+piece_reported (ReadableGame parts) aim decided id made =
+    game_reported aim decided id parts made aim.mode
 piece_reported (UnreadableRest bytes) aim decided id made =
     unreadable_reported aim id.offset bytes (fault_text aim.name id (codes "unreadable"))
-piece_reported TooLongBlock aim decided id made = by_line aim (fault_text aim.name id (codes "too long"))
+piece_reported TooLongBlock aim decided id made =
+    by_line aim (fault_text aim.name id (codes "too long"))
 
 -- a piece, chosen or passed over
-one_reported : (taken : Bool) (kind : PieceKind) (aim : Aim) → IsDecided aim → (id : GameId) → IsMade kind
-    → (verdict : Verdict) × IfChosen taken (IsPieceVerdict kind aim id verdict) (verdict ≡ SoundGame [])
+one_reported : (taken : Bool) (kind : PieceKind) (aim : Aim) → IsDecided aim → (id : GameId)
+    → IsMade kind
+    → (verdict : Verdict)
+    × IfChosen taken (IsPieceVerdict kind aim id verdict) (verdict ≡ SoundGame [])
 one_reported true kind aim decided id made = piece_reported kind aim decided id made
 one_reported false kind aim decided id made = (SoundGame [], refl)
 
-all_reported : (aim : Aim) → IsDecided aim → (number : ℕ) (pieces : List MarkedPiece) → AreMade pieces
+all_reported : (aim : Aim) → IsDecided aim → (number : ℕ) (pieces : List MarkedPiece)
+    → AreMade pieces
     → (reported : List Verdict) × AreVerdicts aim number pieces reported
 all_reported aim decided number [] made = ([], refl)
 all_reported aim decided number (piece ∷ more) made =
-    let own = one_reported (is_chosen aim.chosen (id_of number piece)) piece.kind aim decided (id_of number piece) made.0 in
+    let own =
+    one_reported (is_chosen aim.chosen (id_of number piece)) piece.kind aim decided
+    (id_of number piece) made.0 in
     let rest = all_reported aim decided (number + 1) more made.1 in
     (own.0 ∷ rest.0, (own.0, rest.0, refl, own.1, rest.1))
 
 pub some_report : TextHasAReport
 some_report aim limit max_depth id text pieces h =
-    all_reported aim (all_decided aim) id.number pieces (blocks_made limit max_depth id.offset h.blocks pieces h.each)
+    all_reported aim (all_decided aim) id.number pieces
+    (blocks_made limit max_depth id.offset h.blocks pieces h.each)
 
 made_after : (xs ys : List MarkedPiece) → AreMade (xs ++ ys) → AreMade ys
 made_after [] ys made = made
 made_after (x ∷ xs) ys made = made_after xs ys made.1
 
 -- the last of the pieces of a text are reported in some way too
-pub rest_reported : (aim : Aim) (limit max_depth : ℕ) (id : GameId) (text : List ℕ) (before after : List MarkedPiece)
-    → AreMarkedPieces limit max_depth id.offset text (before ++ after) → (reported : List Verdict) × AreVerdicts aim id.number after reported
+pub rest_reported : (aim : Aim) (limit max_depth : ℕ) (id : GameId) (text : List ℕ)
+    (before after : List MarkedPiece)
+    → AreMarkedPieces limit max_depth id.offset text (before ++ after)
+    → (reported : List Verdict) × AreVerdicts aim id.number after reported
 rest_reported aim limit max_depth id text before after h =
-    all_reported aim (all_decided aim) id.number after (made_after before after (blocks_made limit max_depth id.offset h.blocks (before ++ after) h.each))
+    all_reported aim (all_decided aim) id.number after
+    (made_after before after
+    (blocks_made limit max_depth id.offset h.blocks (before ++ after) h.each))

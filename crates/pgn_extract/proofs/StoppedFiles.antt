@@ -1,5 +1,7 @@
 -- Runs over files that end early.
-use Rattle.std.proofs.Common.{◌≡◌, ◌≢◌, ◌⊎◌, ◌++◌, ◌<◌, ◌+◌, ℕ, List, [], ◌∷◌, Option, Some, None, IfSome, codes, count_by, drop, get_or, length, map, take, refl, sym, subst, inl, inr}
+use Rattle.std.proofs.Common.{◌≡◌, ◌≢◌, ◌⊎◌, ◌++◌, ◌<◌, ◌+◌, ℕ, List, [], ◌∷◌, Option, Some, None}
+use Rattle.std.proofs.Common.{IfSome, codes, count_by, drop, get_or, length, map, take, refl, sym}
+use Rattle.std.proofs.Common.{subst, inl, inr}
 use Rattle.std.specs.Io.KnownBytes.{Appends, Keeps}
 use Rattle.std.specs.Option.{option_map}
 use Rattle.std.specs.Prelude.{Err, Ok, OnErr, Result}
@@ -17,10 +19,14 @@ use Rattle.pgn_extract.proofs.Writing.{appends_kept, appends_none}
 use Rattle.pgn_extract.specs.Public.Index.{shown_name}
 use Rattle.pgn_extract.specs.Public.Outcomes.{AppendsFront}
 use Rattle.pgn_extract.specs.Public.Runs.{ArePieces, Completes, Io, IsBegun, Passage, Stops, Stream}
-use Rattle.pgn_extract.specs.Public.Several.{AtPath, BeginsPath, FileOf, IsOfPath, IsRead, IsRefused, NamesUnopened, NoFile, Order, StopsAmong, StopsAtPath, Unknown, WritesPaths, own_summary}
-use Rattle.pgn_extract.specs.Public.Verdicts.{AreVerdicts, Verdict, fault_lines, is_faulty, output_text}
+use Rattle.pgn_extract.specs.Public.Several.{AtPath, BeginsPath, FileOf, IsOfPath, IsRead}
+use Rattle.pgn_extract.specs.Public.Several.{IsRefused, NamesUnopened, NoFile, Order, StopsAmong}
+use Rattle.pgn_extract.specs.Public.Several.{StopsAtPath, Unknown, WritesPaths, own_summary}
+use Rattle.pgn_extract.specs.Public.Verdicts.{AreVerdicts, Verdict, fault_lines, is_faulty}
+use Rattle.pgn_extract.specs.Public.Verdicts.{output_text}
 use Rattle.pgn_extract.specs.declared.output.outcome.RunError.{RunError}
-use Rattle.pgn_extract.specs.declared.output.outcome.RunError.TheVariants.{InputTooLong, OutOfMemory, Read, Write}
+use Rattle.pgn_extract.specs.declared.output.outcome.RunError.TheVariants.{InputTooLong}
+use Rattle.pgn_extract.specs.declared.output.outcome.RunError.TheVariants.{OutOfMemory, Read, Write}
 use Rattle.pgn_extract.specs.declared.output.outcome.Summary.{Summary}
 
 -- what is written of a text of which these pieces are so reported

@@ -1,4 +1,5 @@
--- The text of a game in its form is put, or nothing is, and the first fault of the lines that are written is answered.
+-- The text of a game in its form is put, or nothing is, and the first fault of the lines that are
+-- written is answered.
 use Rattle.std.proofs.Common.{◌≡◌, ℕ, List, [], ◌++◌, refl, sym, subst}
 use Rattle.pgn_text.specs.Public.GameTexts.{GameText, tag_in}
 use Rattle.pgn_game.specs.Public.Exports.{IsExport, lines_with}
@@ -17,23 +18,36 @@ use Rattle.pgn_extract.specs.declared.settings.Form.TheVariants.{Standard, AsItS
 
 module _ (aim : Aim) (id : GameId) (game : GameText) (old new : List ℕ) where
   -- its line
-  pub line_put : (notation : Notation) → aim.form ≡ Line notation → (own : List ℕ) → IsGameLine notation (tag_in fen_tag game.tags) game.elements own
+  pub line_put : (notation : Notation) → aim.form ≡ Line notation → (own : List ℕ)
+      → IsGameLine notation (tag_in fen_tag game.tags) game.elements own
       → new ≡ old ++ line_with aim.name id own → PutsText aim id game old new
   line_put notation form own line put =
-      let replay : Replay = record { positions = line.positions; played = line.played; turns = [] } in
-      let is : IsReplay Main (tag_in fen_tag game.tags) game.elements replay = record { start = line.start; is_start = line.is_start; line = line.line; turns = refl } in (
+      let replay : Replay = record { positions = line.positions; played = line.played; turns = [] }
+      in
+      let is : IsReplay Main (tag_in fen_tag game.tags) game.elements replay =
+      record { start = line.start; is_start = line.is_start; line = line.line; turns = refl } in (
         replay,
-        subst (λ (f : Form). IsReplay (lines_in f aim.style) (tag_in fen_tag game.tags) game.elements replay) (sym form) is,
+        subst (λ (f : Form).
+            IsReplay (lines_in f aim.style) (tag_in fen_tag game.tags) game.elements replay)
+            (sym form) is,
         line_with aim.name id own,
-        subst (λ (f : Form). IsGivenText f aim id game (line_with aim.name id own)) (sym form) (own, line, refl),
+        subst (λ (f : Form). IsGivenText f aim id game (line_with aim.name id own)) (sym form) (
+          own,
+          line,
+          refl,
+        ),
         put,
       )
 
   -- its record
-  pub record_put : aim.form ≡ Record → (text : List ℕ) → IsRecordOf aim.name id.number id.offset game text → new ≡ old ++ text → PutsText aim id game old new
+  pub record_put : aim.form ≡ Record → (text : List ℕ)
+      → IsRecordOf aim.name id.number id.offset game text → new ≡ old ++ text
+      → PutsText aim id game old new
   record_put form text own put = (
     own.replay,
-    subst (λ (f : Form). IsReplay (lines_in f aim.style) (tag_in fen_tag game.tags) game.elements own.replay) (sym form) own.is_replay,
+    subst (λ (f : Form).
+        IsReplay (lines_in f aim.style) (tag_in fen_tag game.tags) game.elements own.replay)
+        (sym form) own.is_replay,
     text,
     subst (λ (f : Form). IsGivenText f aim id game text) (sym form) own,
     put,
@@ -41,30 +55,48 @@ module _ (aim : Aim) (id : GameId) (game : GameText) (old new : List ℕ) where
 
   -- its export
   pub export_put : aim.form ≡ Standard → (text : List ℕ) → IsExport aim.style game text
-      → IsSoundGame (lines_with aim.style.variations) (tag_in fen_tag game.tags) game.elements → new ≡ old ++ text → PutsText aim id game old new
+      → IsSoundGame (lines_with aim.style.variations) (tag_in fen_tag game.tags) game.elements
+      → new ≡ old ++ text → PutsText aim id game old new
   export_put form text export sound put = (
     sound.0,
-    subst (λ (f : Form). IsReplay (lines_in f aim.style) (tag_in fen_tag game.tags) game.elements sound.0) (sym form) sound.1,
+    subst (λ (f : Form).
+        IsReplay (lines_in f aim.style) (tag_in fen_tag game.tags) game.elements sound.0) (sym form)
+        sound.1,
     text,
     subst (λ (f : Form). IsGivenText f aim id game text) (sym form) export,
     put,
   )
 
   -- the game as it stands
-  pub game_put : aim.form ≡ AsItStands → IsSoundGame (written_lines aim) (tag_in fen_tag game.tags) game.elements
+  pub game_put : aim.form ≡ AsItStands
+      → IsSoundGame (written_lines aim) (tag_in fen_tag game.tags) game.elements
       → new ≡ old ++ as_it_stands game.text → PutsText aim id game old new
-  game_put form sound put =
-      (sound.0, sound.1, as_it_stands game.text, subst (λ (f : Form). IsGivenText f aim id game (as_it_stands game.text)) (sym form) refl, put)
+  game_put form sound put = (
+    sound.0,
+    sound.1,
+    as_it_stands game.text,
+    subst (λ (f : Form). IsGivenText f aim id game (as_it_stands game.text)) (sym form) refl,
+    put,
+  )
 
   -- in the standard's form and as they stand the lines that are kept are written
-  pub style_lines : aim.form ≡ Standard → (fault : Fault) → IsFault (lines_with aim.style.variations) (tag_in fen_tag game.tags) game.elements fault
+  pub style_lines : aim.form ≡ Standard → (fault : Fault)
+      → IsFault (lines_with aim.style.variations) (tag_in fen_tag game.tags) game.elements fault
       → IsFault (written_lines aim) (tag_in fen_tag game.tags) game.elements fault
-  style_lines form fault met = subst (λ (f : Form). IsFault (lines_in f aim.style) (tag_in fen_tag game.tags) game.elements fault) (sym form) met
+  style_lines form fault met =
+      subst (λ (f : Form).
+      IsFault (lines_in f aim.style) (tag_in fen_tag game.tags) game.elements fault) (sym form) met
 
-  pub line_lines : (notation : Notation) → aim.form ≡ Line notation → (fault : Fault) → IsFault Main (tag_in fen_tag game.tags) game.elements fault
+  pub line_lines : (notation : Notation) → aim.form ≡ Line notation → (fault : Fault)
+      → IsFault Main (tag_in fen_tag game.tags) game.elements fault
       → IsFault (written_lines aim) (tag_in fen_tag game.tags) game.elements fault
-  line_lines notation form fault met = subst (λ (f : Form). IsFault (lines_in f aim.style) (tag_in fen_tag game.tags) game.elements fault) (sym form) met
+  line_lines notation form fault met =
+      subst (λ (f : Form).
+      IsFault (lines_in f aim.style) (tag_in fen_tag game.tags) game.elements fault) (sym form) met
 
-  pub record_lines : aim.form ≡ Record → (fault : Fault) → IsFault Main (tag_in fen_tag game.tags) game.elements fault
+  pub record_lines : aim.form ≡ Record → (fault : Fault)
+      → IsFault Main (tag_in fen_tag game.tags) game.elements fault
       → IsFault (written_lines aim) (tag_in fen_tag game.tags) game.elements fault
-  record_lines form fault met = subst (λ (f : Form). IsFault (lines_in f aim.style) (tag_in fen_tag game.tags) game.elements fault) (sym form) met
+  record_lines form fault met =
+      subst (λ (f : Form).
+      IsFault (lines_in f aim.style) (tag_in fen_tag game.tags) game.elements fault) (sym form) met

@@ -1,5 +1,6 @@
 -- Runs over two files in memory, with a path between them at which there is none.
-use Rattle.std.proofs.Common.{◌≡◌, ◌≢◌, ◌⊎◌, ◌++◌, ◌<◌, ℕ, Bool, true, false, List, [], ◌∷◌, codes, if◌then◌else◌, get_or, length, take, sym, subst, ap, inl, inr, ◌∙◌}
+use Rattle.std.proofs.Common.{◌≡◌, ◌≢◌, ◌⊎◌, ◌++◌, ◌<◌, ℕ, Bool, true, false, List, [], ◌∷◌, codes}
+use Rattle.std.proofs.Common.{if◌then◌else◌, get_or, length, take, sym, subst, ap, inl, inr, ◌∙◌}
 use Rattle.std.proofs.lemmas.List.{append_assoc, append-nil}
 use Rattle.std.specs.Str.{bytes_eq}
 use Rattle.pgn_extract.proofs.ExactEntries.{are_entries}
@@ -12,7 +13,9 @@ use Rattle.pgn_extract.specs.Private.TwoFiles.{known_of_two}
 use Rattle.pgn_extract.specs.declared.output.outcome.RunError.{RunError}
 use Rattle.pgn_extract.specs.declared.output.outcome.RunError.TheVariants.{InputTooLong}
 use Rattle.pgn_extract.specs.declared.settings.Mode.TheVariants as modes
-use Rattle.pgn_extract.specs.Public.Several.{AreKnown, AreOfPaths, FileOf, IsRead, IsReport, NamesUnopened, NoFile, Order, StopsAmong, StopsAtPath, Unknown, own_summary}
+use Rattle.pgn_extract.specs.Public.Several.{AreKnown, AreOfPaths, FileOf, IsRead, IsReport}
+use Rattle.pgn_extract.specs.Public.Several.{NamesUnopened, NoFile, Order, StopsAmong, StopsAtPath}
+use Rattle.pgn_extract.specs.Public.Several.{Unknown, own_summary}
 
 abbrev pub three_paths : List (List ℕ)
 three_paths = codes "first.pgn" ∷ codes "none.pgn" ∷ codes "second.pgn" ∷ []

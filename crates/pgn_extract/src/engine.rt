@@ -28,7 +28,8 @@ fn finish_both<O: Write, E: Write>(out: &mut Tally<O>, err: &mut Tally<E>) -> Re
         × Keeps (E.contents err.old.inner) (E.contents err.new.inner) }
     ensures flushed { OnOk result ((out.new.flushed ≡ true) × (err.new.flushed ≡ true)) }
     ensures only { IfErr result (λ error. error ≡ RunError.Write) }
-    ensures faults { WriteFaultsAre result (passage O.contents out.old out.new) (passage E.contents err.old err.new) }
+    ensures faults { WriteFaultsAre result (passage O.contents out.old out.new)
+        (passage E.contents err.old err.new) }
 {
     finish(out)?;
     finish(err)
@@ -46,9 +47,17 @@ fn run_blocks<R: Read, O: Write, E: Write>(
         × (err.old.faulted ≡ false) }
     requires number { settings.now.number ≤ 2 ^ 62 }
     requires offset { settings.now.offset ≤ largest_offset }
-    ensures done { IfOk result (Finished (job_of settings.now) (io_of R.remaining O.contents E.contents input.old input.new out.old out.new err.old err.new)) }
-    ensures stopped { IfErr result (Broken (job_of settings.now) (io_of R.remaining O.contents E.contents input.old input.new out.old out.new err.old err.new)) }
-    ensures faults { FaultsAre result (io_of R.remaining O.contents E.contents input.old input.new out.old out.new err.old err.new) }
+    ensures done { IfOk result
+        (Finished (job_of settings.now)
+        (io_of R.remaining O.contents E.contents input.old input.new out.old out.new err.old
+        err.new)) }
+    ensures stopped { IfErr result
+        (Broken (job_of settings.now)
+        (io_of R.remaining O.contents E.contents input.old input.new out.old out.new err.old
+        err.new)) }
+    ensures faults { FaultsAre result
+        (io_of R.remaining O.contents E.contents input.old input.new out.old out.new err.old
+        err.new) }
 {
     let first = settings.number;
     let mut blocks = Blocks::new(alloc, settings.offset);
@@ -101,7 +110,8 @@ pub fn run<R: Read, O: Write, E: Write>(
     }
 }
 
-/// Does what `run` does, and passes over the bytes before the settings' offset where the reader can: a file is not read up to there.
+/// Does what `run` does, and passes over the bytes before the settings' offset where the reader
+/// can: a file is not read up to there.
 pub fn run_skipping<R: Skip, O: Write, E: Write>(
     alloc: Global,
     input: &mut Tally<R>,

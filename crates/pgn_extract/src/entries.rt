@@ -45,7 +45,8 @@ pub fn push_entries<'a>(
     game: &RawGame<'a>,
 ) -> Result<(), GameFault<'a>>
     ensures { MatchResult result
-        (λ _. AddsEntries (aim_of context.entry.settings.now) context.entry.own game.now text.old.items text.new.items)
+        (λ _. AddsEntries (aim_of context.entry.settings.now) context.entry.own game.now
+        text.old.items text.new.items)
         (λ fault. IfSome (fault_of fault) (StopsAtFault game.now text.old.items text.new.items)) }
 {
     let GameContext {
@@ -73,7 +74,9 @@ pub fn push_entries<'a>(
 
 /// Whether a main line with so many plies has one within the bounds.
 fn is_within(settings: &Settings, plies: usize) -> bool
-    ensures { IsTrue result ↔ ((ply : ℕ) × (ply ≤ plies) × (settings.now.min_ply ≤ ply) × (ply ≤ settings.now.max_ply)) }
+    ensures { IsTrue result
+        ↔ ((ply : ℕ) × (ply ≤ plies) × (settings.now.min_ply ≤ ply)
+        × (ply ≤ settings.now.max_ply)) }
 {
     settings.min_ply <= settings.max_ply && settings.min_ply as usize <= plies
 }
@@ -86,7 +89,8 @@ pub fn has_entry<'a>(
 ) -> Result<bool, GameFault<'a>>
     ensures { MatchResult result
         (IsChosen (aim_of settings.now) game.now)
-        (λ fault. IfSome (fault_of fault) (IsFault Main (tag_in fen_tag game.now.tags) game.now.elements)) }
+        (λ fault.
+        IfSome (fault_of fault) (IsFault Main (tag_in fen_tag game.now.tags) game.now.elements)) }
 {
     let Some(criteria) = &settings.criteria else {
         return Ok(is_within(settings, count_plies(alloc, game)?));

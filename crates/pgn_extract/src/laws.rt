@@ -1,4 +1,5 @@
-//! What holds of every text, whatever lists or reports it. Each law is the contract of a function that does nothing.
+//! What holds of every text, whatever lists or reports it. Each law is the contract of a function
+//! that does nothing.
 
 ghost use Rattle.pgn_extract.specs.Public.Searching.{PackedTextIsAPack};
 ghost use Rattle.pgn_extract.specs.Public.Laws.{PiecesHaveOneListing, EachPieceHasAMark};
@@ -10,13 +11,16 @@ ghost use Rattle.pgn_extract.specs.Public.Laws.{NoteNamesTheStop, NoNotes};
 ghost use Rattle.pgn_extract.specs.Public.Laws.{PartsJoin, PartsAreReported};
 ghost use Rattle.pgn_extract.specs.Public.Laws.{RunIndexes, RunExports, RunResumes};
 
-/// The pieces of each text have entries, and these are one list: the plies of its sound games that are within the bounds and whose position
-/// meets the criteria, or the least such of each game, each once, in the order of the games and their plies.
+/// The pieces of each text have entries, and these are one list: the plies of its sound games that
+/// are within the bounds and whose position
+/// meets the criteria, or the least such of each game, each once, in the order of the games and
+/// their plies.
 pub fn one_listing()
     ensures { PiecesHaveOneListing }
 {}
 
-/// Each piece of a text has a mark, which is one of the marks, within the text, and one at which a run can begin.
+/// Each piece of a text has a mark, which is one of the marks, within the text, and one at which a
+/// run can begin.
 pub fn marks()
     ensures { EachPieceHasAMark }
 {}
@@ -27,7 +31,8 @@ pub fn one_report()
     ensures one { TextHasOneReport }
 {}
 
-/// What a run writes in the export's mode is the exports of the games among the pieces of the text, and these are one text.
+/// What a run writes in the export's mode is the exports of the games among the pieces of the text,
+/// and these are one text.
 pub fn one_export()
     ensures written { ExportsAreWritten }
     ensures one { TextHasOneExport }
@@ -38,26 +43,31 @@ pub fn first_changes_no_export()
     ensures { FirstChangesNoExport }
 {}
 
-/// Each piece is in just one of three exports, as it stands: of the games with an entry, of those without one, and of the faulty ones.
+/// Each piece is in just one of three exports, as it stands: of the games with an entry, of those
+/// without one, and of the faulty ones.
 pub fn each_piece_in_one_export()
     ensures { PieceIsInOneExport }
 {}
 
-/// The note on bytes that are no game names just the byte at which they stop agreeing with games; and what is no note.
+/// The note on bytes that are no game names just the byte at which they stop agreeing with games;
+/// and what is no note.
 pub fn notes()
     ensures one { NoteNamesTheStop }
     ensures none { NoNotes }
 {}
 
-/// What is reported of a text is what is reported of its parts, one after the other, where it is cut at one of its pieces. The text begins
+/// What is reported of a text is what is reported of its parts, one after the other, where it is
+/// cut at one of its pieces. The text begins
 /// at any offset and its pieces are numbered from any number, so it may be cut again.
 pub fn parts()
     ensures join { PartsJoin }
     ensures reported { PartsAreReported }
 {}
 
-/// Where each sound game of a text is packed, what the export writes is the pack of the text. So a search that lists what such a run wrote
-/// writes the listing of the text. Both ask that the name of the file is shown as it is, as each name of a
+/// Where each sound game of a text is packed, what the export writes is the pack of the text. So a
+/// search that lists what such a run wrote
+/// writes the listing of the text. Both ask that the name of the file is shown as it is, as each
+/// name of a
 /// path is.
 pub fn packs()
     ensures pack { PackedTextIsAPack }

@@ -1,5 +1,7 @@
 //! Runs over memory: what each clause of `run` says where all bytes are known.
-ghost use Rattle.std.specs.Prelude.{◌≡◌, ◌≢◌, ◌↔◌, ◌⊎◌, ◌≤◌, ◌<◌, ◌^◌, ◌+◌, ◌++◌, ℕ, true, false, List, [], Option, codes, drop, length, take, count_by, IfErr, IfOk, OnOk, IsErrOf};
+ghost use Rattle.std.specs.Prelude.{◌≡◌, ◌≢◌, ◌↔◌, ◌⊎◌, ◌≤◌, ◌<◌, ◌^◌, ◌+◌, ◌++◌, ℕ, true, false};
+ghost use Rattle.std.specs.Prelude.{List, [], Option, codes, drop, length, take, count_by, IfErr};
+ghost use Rattle.std.specs.Prelude.{IfOk, OnOk, IsErrOf};
 ghost use Rattle.pgn_text.specs.Public.Complete.{AreCompletePieces};
 ghost use Rattle.pgn_text.specs.Public.Limits.{block_limit, depth_limit, largest_offset};
 ghost use Rattle.pgn_text.specs.Public.Marks.{MarkedPiece, AreMarkedPieces};
@@ -8,12 +10,15 @@ ghost use Rattle.pgn_game.specs.Public.PackStreams.{HasNoRecord};
 ghost use Rattle.pgn_extract.specs.Public.Aims.{aim_of};
 ghost use Rattle.pgn_extract.specs.Public.Exports.{AreExports};
 ghost use Rattle.pgn_extract.specs.Public.Index.{index};
-ghost use Rattle.pgn_extract.specs.Public.Listing.{Entry, AreEntries, entries_at_least, is_plain, listing};
+ghost use Rattle.pgn_extract.specs.Public.Listing.{Entry, AreEntries, entries_at_least, is_plain};
+ghost use Rattle.pgn_extract.specs.Public.Listing.{listing};
 ghost use Rattle.pgn_extract.specs.Public.Resuming.{IsMarkAmong, verdicts_at_least};
 ghost use Rattle.pgn_extract.specs.Public.Runs.{ArePieces, job_of};
-ghost use Rattle.pgn_extract.specs.Public.Searching.{ArePackLines, HasNoGame, IsIndexOfSoundGames, IsPackOf, of_all};
+ghost use Rattle.pgn_extract.specs.Public.Searching.{ArePackLines, HasNoGame, IsIndexOfSoundGames};
+ghost use Rattle.pgn_extract.specs.Public.Searching.{IsPackOf, of_all};
 ghost use Rattle.pgn_extract.specs.Public.Several.{IsReport, NamesUnopened};
-ghost use Rattle.pgn_extract.specs.Public.Verdicts.{Verdict, AreVerdicts, IsSameReport, fault_lines, is_faulty, output_text};
+ghost use Rattle.pgn_extract.specs.Public.Verdicts.{Verdict, AreVerdicts, IsSameReport};
+ghost use Rattle.pgn_extract.specs.Public.Verdicts.{fault_lines, is_faulty, output_text};
 ghost use Rattle.pgn_extract.specs.Public.GivenMarks.{game_id};
 
 use crate::app::files::{Files, Task, run_files};
@@ -68,29 +73,39 @@ pub fn index_text(alloc: Global, text: &[u8], settings: &Settings) -> Result<Wri
     requires number { (1 ≤ settings.now.number) × (settings.now.number ≤ 2 ^ 62) }
     requires offset { settings.now.offset ≤ largest_offset }
     requires mode { settings.now.mode ≡ Mode.Index }
-    ensures { IfOk result (λ written. (pieces : List MarkedPiece) × AreMarkedPieces block_limit depth_limit settings.now.offset (drop settings.now.offset text.now) pieces
-        × (written.out.items ≡ index settings.now.chosen settings.now.name settings.now.number pieces)) }
+    ensures { IfOk result (λ written. (pieces : List MarkedPiece)
+        × AreMarkedPieces block_limit depth_limit settings.now.offset
+        (drop settings.now.offset text.now) pieces
+        × (written.out.items
+        ≡ index settings.now.chosen settings.now.name settings.now.number pieces)) }
 {
     run_over(alloc, text, settings)
 }
 
-/// The listing of a text: exactly the pairs of game and ply that are looked for, each once, in their order.
+/// The listing of a text: exactly the pairs of game and ply that are looked for, each once, in
+/// their order.
 pub fn list_text(alloc: Global, text: &[u8], settings: &Settings) -> Result<Written, RunError>
     requires number { (1 ≤ settings.now.number) × (settings.now.number ≤ 2 ^ 62) }
     requires offset { settings.now.offset ≤ largest_offset }
     requires mode { settings.now.mode ≡ Mode.List }
-    ensures { IfOk result (λ written. (pieces : List MarkedPiece) × (entries : List Entry) × AreMarkedPieces block_limit depth_limit settings.now.offset (drop settings.now.offset text.now) pieces
-        × AreEntries (aim_of settings.now) settings.now.number pieces entries × (written.out.items ≡ listing settings.now.name entries)) }
+    ensures { IfOk result (λ written. (pieces : List MarkedPiece) × (entries : List Entry)
+        × AreMarkedPieces block_limit depth_limit settings.now.offset
+        (drop settings.now.offset text.now) pieces
+        × AreEntries (aim_of settings.now) settings.now.number pieces entries
+        × (written.out.items ≡ listing settings.now.name entries)) }
 {
     run_over(alloc, text, settings)
 }
 
-/// What the export writes of a text: the exports of its games that have an entry, or what else the settings select.
+/// What the export writes of a text: the exports of its games that have an entry, or what else the
+/// settings select.
 pub fn export_text(alloc: Global, text: &[u8], settings: &Settings) -> Result<Written, RunError>
     requires number { (1 ≤ settings.now.number) × (settings.now.number ≤ 2 ^ 62) }
     requires offset { settings.now.offset ≤ largest_offset }
     requires mode { settings.now.mode ≡ Mode.Export }
-    ensures { IfOk result (λ written. (pieces : List MarkedPiece) × AreMarkedPieces block_limit depth_limit settings.now.offset (drop settings.now.offset text.now) pieces
+    ensures { IfOk result (λ written. (pieces : List MarkedPiece)
+        × AreMarkedPieces block_limit depth_limit settings.now.offset
+        (drop settings.now.offset text.now) pieces
         × AreExports (aim_of settings.now) settings.now.number pieces written.out.items) }
 {
     run_over(alloc, text, settings)
@@ -100,11 +115,22 @@ pub fn export_text(alloc: Global, text: &[u8], settings: &Settings) -> Result<Wr
 fn run_over(alloc: Global, text: &[u8], settings: &Settings) -> Result<Written, RunError>
     requires number { (1 ≤ settings.now.number) × (settings.now.number ≤ 2 ^ 62) }
     requires offset { settings.now.offset ≤ largest_offset }
-    ensures indexes { IfOk result (λ written. settings.now.mode ≡ Mode.Index → (pieces : List MarkedPiece) × AreMarkedPieces block_limit depth_limit settings.now.offset (drop settings.now.offset text.now) pieces
-        × (written.out.items ≡ index settings.now.chosen settings.now.name settings.now.number pieces)) }
-    ensures lists { IfOk result (λ written. settings.now.mode ≡ Mode.List → (pieces : List MarkedPiece) × (entries : List Entry)
-        × AreMarkedPieces block_limit depth_limit settings.now.offset (drop settings.now.offset text.now) pieces × AreEntries (aim_of settings.now) settings.now.number pieces entries × (written.out.items ≡ listing settings.now.name entries)) }
-    ensures exports { IfOk result (λ written. settings.now.mode ≡ Mode.Export → (pieces : List MarkedPiece) × AreMarkedPieces block_limit depth_limit settings.now.offset (drop settings.now.offset text.now) pieces
+    ensures indexes { IfOk result (λ written. settings.now.mode ≡ Mode.Index
+        → (pieces : List MarkedPiece)
+        × AreMarkedPieces block_limit depth_limit settings.now.offset
+        (drop settings.now.offset text.now) pieces
+        × (written.out.items
+        ≡ index settings.now.chosen settings.now.name settings.now.number pieces)) }
+    ensures lists { IfOk result (λ written. settings.now.mode ≡ Mode.List
+        → (pieces : List MarkedPiece) × (entries : List Entry)
+        × AreMarkedPieces block_limit depth_limit settings.now.offset
+        (drop settings.now.offset text.now) pieces
+        × AreEntries (aim_of settings.now) settings.now.number pieces entries
+        × (written.out.items ≡ listing settings.now.name entries)) }
+    ensures exports { IfOk result (λ written. settings.now.mode ≡ Mode.Export
+        → (pieces : List MarkedPiece)
+        × AreMarkedPieces block_limit depth_limit settings.now.offset
+        (drop settings.now.offset text.now) pieces
         × AreExports (aim_of settings.now) settings.now.number pieces written.out.items) }
 {
     let mut input = Tally::new(text);
@@ -120,7 +146,8 @@ fn run_over(alloc: Global, text: &[u8], settings: &Settings) -> Result<Written, 
     }
 }
 
-/// Runs over a reader and writers in memory, which may hold bytes already. What was reported stands in their new bytes, and is counted.
+/// Runs over a reader and writers in memory, which may hold bytes already. What was reported stands
+/// in their new bytes, and is counted.
 pub fn report_text<'a>(
     alloc: Global,
     input: &mut Tally<&'a [u8]>,
@@ -128,24 +155,31 @@ pub fn report_text<'a>(
     err: &mut Tally<Vec<u8>>,
     settings: &Settings,
 ) -> Result<Summary, RunError>
-    requires sound { (input.old.faulted ≡ false) × (out.old.faulted ≡ false) × (err.old.faulted ≡ false) }
+    requires sound { (input.old.faulted ≡ false) × (out.old.faulted ≡ false)
+        × (err.old.faulted ≡ false) }
     requires fresh { input.old.moved ≡ 0 }
     requires number { (1 ≤ settings.now.number) × (settings.now.number ≤ 2 ^ 62) }
     requires offset { settings.now.offset ≤ largest_offset }
-    ensures reported { IfOk result (λ summary. (pieces : List MarkedPiece) × (verdicts : List Verdict)
-        × AreMarkedPieces block_limit depth_limit settings.now.offset (drop settings.now.offset input.old.inner.now) pieces × AreVerdicts (aim_of settings.now) settings.now.number pieces verdicts
-        × (out.new.inner.items ≡ out.old.inner.items ++ output_text verdicts) × (err.new.inner.items ≡ err.old.inner.items ++ fault_lines verdicts)
+    ensures reported { IfOk result (λ summary. (pieces : List MarkedPiece)
+        × (verdicts : List Verdict)
+        × AreMarkedPieces block_limit depth_limit settings.now.offset
+        (drop settings.now.offset input.old.inner.now) pieces
+        × AreVerdicts (aim_of settings.now) settings.now.number pieces verdicts
+        × (out.new.inner.items ≡ out.old.inner.items ++ output_text verdicts)
+        × (err.new.inner.items ≡ err.old.inner.items ++ fault_lines verdicts)
         × (summary.games ≡ length pieces) × (summary.faulty ≡ count_by is_faulty verdicts)) }
     ensures size { OnOk result (length input.old.inner.now ≤ largest_offset) }
     ensures flushed { OnOk result ((out.new.flushed ≡ true) × (err.new.flushed ≡ true)) }
     ensures sound { OnOk result ((out.new.faulted ≡ false) × (err.new.faulted ≡ false)) }
     ensures read { IsErrOf result RunError.Read ↔ (input.new.faulted ≡ true) }
-    ensures write { IsErrOf result RunError.Write ↔ ((out.new.faulted ≡ true) ⊎ (err.new.faulted ≡ true)) }
+    ensures write { IsErrOf result RunError.Write
+        ↔ ((out.new.faulted ≡ true) ⊎ (err.new.faulted ≡ true)) }
 {
     run(alloc, input, out, err, settings)
 }
 
-/// Begins at a mark of a text. What is reported is what a run over the whole text reports of the games from there on; and of a listing
+/// Begins at a mark of a text. What is reported is what a run over the whole text reports of the
+/// games from there on; and of a listing
 /// just the lines of their entries.
 pub fn resume_text<'a>(
     alloc: Global,
@@ -154,17 +188,25 @@ pub fn resume_text<'a>(
     err: &mut Tally<Vec<u8>>,
     settings: &Settings,
 ) -> Result<Summary, RunError>
-    requires sound { (input.old.faulted ≡ false) × (out.old.faulted ≡ false) × (err.old.faulted ≡ false) }
+    requires sound { (input.old.faulted ≡ false) × (out.old.faulted ≡ false)
+        × (err.old.faulted ≡ false) }
     requires fresh { input.old.moved ≡ 0 }
     requires number { (1 ≤ settings.now.number) × (settings.now.number ≤ 2 ^ 62) }
     requires offset { settings.now.offset ≤ largest_offset }
-    ensures rest { OnOk result ((pieces : List MarkedPiece) → AreMarkedPieces block_limit depth_limit 0 input.old.inner.now pieces
-        → IsMarkAmong (game_id settings.now.number settings.now.offset) pieces → (all : List Verdict) → AreVerdicts (aim_of settings.now) 1 pieces all
-        → (own : List Verdict) × IsSameReport (aim_of settings.now) own (verdicts_at_least settings.now.number 1 all)
-        × (out.new.inner.items ≡ out.old.inner.items ++ output_text own) × (err.new.inner.items ≡ err.old.inner.items ++ fault_lines own)) }
-    ensures listed { OnOk result (settings.now.mode ≡ Mode.List → (pieces : List MarkedPiece) → AreMarkedPieces block_limit depth_limit 0 input.old.inner.now pieces
-        → IsMarkAmong (game_id settings.now.number settings.now.offset) pieces → (entries : List Entry) → AreEntries (aim_of settings.now) 1 pieces entries
-        → out.new.inner.items ≡ out.old.inner.items ++ listing settings.now.name (entries_at_least settings.now.number entries)) }
+    ensures rest { OnOk result ((pieces : List MarkedPiece)
+        → AreMarkedPieces block_limit depth_limit 0 input.old.inner.now pieces
+        → IsMarkAmong (game_id settings.now.number settings.now.offset) pieces
+        → (all : List Verdict) → AreVerdicts (aim_of settings.now) 1 pieces all
+        → (own : List Verdict)
+        × IsSameReport (aim_of settings.now) own (verdicts_at_least settings.now.number 1 all)
+        × (out.new.inner.items ≡ out.old.inner.items ++ output_text own)
+        × (err.new.inner.items ≡ err.old.inner.items ++ fault_lines own)) }
+    ensures listed { OnOk result (settings.now.mode ≡ Mode.List → (pieces : List MarkedPiece)
+        → AreMarkedPieces block_limit depth_limit 0 input.old.inner.now pieces
+        → IsMarkAmong (game_id settings.now.number settings.now.offset) pieces
+        → (entries : List Entry) → AreEntries (aim_of settings.now) 1 pieces entries
+        → out.new.inner.items ≡ out.old.inner.items
+        ++ listing settings.now.name (entries_at_least settings.now.number entries)) }
 {
     complete_runs();
     run(alloc, input, out, err, settings)
@@ -178,44 +220,70 @@ pub fn report_some<'a>(
     err: &mut Tally<Vec<u8>>,
     settings: &Settings,
 ) -> Result<Summary, RunError>
-    requires sound { (input.old.faulted ≡ false) × (out.old.faulted ≡ false) × (err.old.faulted ≡ false) }
+    requires sound { (input.old.faulted ≡ false) × (out.old.faulted ≡ false)
+        × (err.old.faulted ≡ false) }
     requires fresh { input.old.moved ≡ 0 }
     requires number { (1 ≤ settings.now.number) × (settings.now.number ≤ 2 ^ 62) }
     requires offset { settings.now.offset ≤ largest_offset }
-    // A read failed: the pieces of the complete blocks that were read are reported, and nothing else.
-    ensures read { IfErr result (λ error. error ≡ RunError.Read → (pieces : List MarkedPiece) × (verdicts : List Verdict)
-        × AreCompletePieces block_limit depth_limit settings.now.offset (drop settings.now.offset (take input.new.moved input.old.inner.now)) pieces
+    // A read failed: the pieces of the complete blocks that were read are reported, and nothing
+    // else.
+    ensures read { IfErr result (λ error. error ≡ RunError.Read
+        → (pieces : List MarkedPiece) × (verdicts : List Verdict)
+        × AreCompletePieces block_limit depth_limit settings.now.offset
+        (drop settings.now.offset (take input.new.moved input.old.inner.now)) pieces
         × AreVerdicts (aim_of settings.now) settings.now.number pieces verdicts
-        × (out.new.inner.items ≡ out.old.inner.items ++ output_text verdicts) × (err.new.inner.items ≡ err.old.inner.items ++ fault_lines verdicts)) }
+        × (out.new.inner.items ≡ out.old.inner.items ++ output_text verdicts)
+        × (err.new.inner.items ≡ err.old.inner.items ++ fault_lines verdicts)) }
     // A write failed: each writer took a beginning of what is to be reported.
-    ensures write { IfErr result (λ error. error ≡ RunError.Write → (pieces : List MarkedPiece) × (verdicts : List Verdict) × (n : ℕ) × (m : ℕ)
-        × AreMarkedPieces block_limit depth_limit settings.now.offset (drop settings.now.offset input.old.inner.now) pieces × AreVerdicts (aim_of settings.now) settings.now.number pieces verdicts
-        × (out.new.inner.items ≡ out.old.inner.items ++ take n (output_text verdicts)) × (err.new.inner.items ≡ err.old.inner.items ++ take m (fault_lines verdicts))) }
-    // Memory ran out: so did each.
-    ensures memory { IfErr result (λ error. error ≡ RunError.OutOfMemory → (pieces : List MarkedPiece) × (verdicts : List Verdict) × (n : ℕ) × (m : ℕ)
-        × AreMarkedPieces block_limit depth_limit settings.now.offset (drop settings.now.offset input.old.inner.now) pieces × AreVerdicts (aim_of settings.now) settings.now.number pieces verdicts
-        × (out.new.inner.items ≡ out.old.inner.items ++ take n (output_text verdicts)) × (err.new.inner.items ≡ err.old.inner.items ++ take m (fault_lines verdicts))) }
-    // The input is longer than can be read: the complete blocks up to there are reported, and nothing else.
-    ensures too_long { IfErr result (λ error. error ≡ RunError.InputTooLong → largest_offset < length input.old.inner.now) }
-    ensures cut { IfErr result (λ error. error ≡ RunError.InputTooLong → (pieces : List MarkedPiece) × (verdicts : List Verdict)
-        × AreCompletePieces block_limit depth_limit settings.now.offset (drop settings.now.offset (take largest_offset input.old.inner.now)) pieces
+    ensures write { IfErr result (λ error. error ≡ RunError.Write
+        → (pieces : List MarkedPiece) × (verdicts : List Verdict) × (n : ℕ) × (m : ℕ)
+        × AreMarkedPieces block_limit depth_limit settings.now.offset
+        (drop settings.now.offset input.old.inner.now) pieces
         × AreVerdicts (aim_of settings.now) settings.now.number pieces verdicts
-        × (out.new.inner.items ≡ out.old.inner.items ++ output_text verdicts) × (err.new.inner.items ≡ err.old.inner.items ++ fault_lines verdicts)) }
+        × (out.new.inner.items ≡ out.old.inner.items ++ take n (output_text verdicts))
+        × (err.new.inner.items ≡ err.old.inner.items ++ take m (fault_lines verdicts))) }
+    // Memory ran out: so did each.
+    ensures memory { IfErr result (λ error. error ≡ RunError.OutOfMemory
+        → (pieces : List MarkedPiece) × (verdicts : List Verdict) × (n : ℕ) × (m : ℕ)
+        × AreMarkedPieces block_limit depth_limit settings.now.offset
+        (drop settings.now.offset input.old.inner.now) pieces
+        × AreVerdicts (aim_of settings.now) settings.now.number pieces verdicts
+        × (out.new.inner.items ≡ out.old.inner.items ++ take n (output_text verdicts))
+        × (err.new.inner.items ≡ err.old.inner.items ++ take m (fault_lines verdicts))) }
+    // The input is longer than can be read: the complete blocks up to there are reported, and
+    // nothing else.
+    ensures too_long { IfErr result (λ error. error ≡ RunError.InputTooLong
+        → largest_offset < length input.old.inner.now) }
+    ensures cut { IfErr result (λ error. error ≡ RunError.InputTooLong
+        → (pieces : List MarkedPiece) × (verdicts : List Verdict)
+        × AreCompletePieces block_limit depth_limit settings.now.offset
+        (drop settings.now.offset (take largest_offset input.old.inner.now)) pieces
+        × AreVerdicts (aim_of settings.now) settings.now.number pieces verdicts
+        × (out.new.inner.items ≡ out.old.inner.items ++ output_text verdicts)
+        × (err.new.inner.items ≡ err.old.inner.items ++ fault_lines verdicts)) }
     ensures alone { (out.new.faulted ≡ true) × (err.new.faulted ≡ true) → ⊥ }
 {
     run(alloc, input, out, err, settings)
 }
 
-/// What the search of a pack in memory writes: whatever text the bytes are the pack of, its listing, or the index of its sound games. Bytes that
+/// What the search of a pack in memory writes: whatever text the bytes are the pack of, its
+/// listing, or the index of its sound games. Bytes that
 /// are no pack are refused at the first record of no game.
 pub fn search_pack(alloc: Global, bytes: &[u8], settings: &Settings) -> Result<Vec<u8>, SearchError>
     requires plain { is_plain settings.now.fields ≡ true }
-    ensures listed { IfOk result (λ out. settings.now.mode ≡ Mode.List → (name : Option (List ℕ)) (number : ℕ) (pieces : List MarkedPiece)
-        → IsPackOf name number pieces bytes.now → (entries : List Entry) → AreEntries (of_all (aim_of settings.now)) number pieces entries → out.items ≡ listing name entries) }
-    ensures indexed { IfOk result (λ out. settings.now.mode ≡ Mode.Index → (name : Option (List ℕ)) (number : ℕ) (pieces : List MarkedPiece)
-        → IsPackOf name number pieces bytes.now → IsIndexOfSoundGames name number pieces out.items) }
-    ensures bad { IfErr result (λ error. (at : ℕ) → error ≡ SearchError.BadPack at → (before : List PackedGame) × (rest : List ℕ)
-        × (bytes.now ≡ pack_bytes before ++ rest) × (at ≡ length (pack_bytes before)) × (rest ≢ []) × HasNoGame rest) }
+    ensures listed { IfOk result (λ out. settings.now.mode ≡ Mode.List
+        → (name : Option (List ℕ)) (number : ℕ) (pieces : List MarkedPiece)
+        → IsPackOf name number pieces bytes.now → (entries : List Entry)
+        → AreEntries (of_all (aim_of settings.now)) number pieces entries
+        → out.items ≡ listing name entries) }
+    ensures indexed { IfOk result (λ out. settings.now.mode ≡ Mode.Index
+        → (name : Option (List ℕ)) (number : ℕ) (pieces : List MarkedPiece)
+        → IsPackOf name number pieces bytes.now
+        → IsIndexOfSoundGames name number pieces out.items) }
+    ensures bad { IfErr result (λ error. (at : ℕ) → error ≡ SearchError.BadPack at
+        → (before : List PackedGame) × (rest : List ℕ)
+        × (bytes.now ≡ pack_bytes before ++ rest) × (at ≡ length (pack_bytes before)) × (rest ≢ [])
+        × HasNoGame rest) }
 {
     let mut input = Tally::new(bytes);
     let mut out = Tally::new(Vec::new(alloc));
@@ -225,7 +293,8 @@ pub fn search_pack(alloc: Global, bytes: &[u8], settings: &Settings) -> Result<V
     }
 }
 
-/// Searches a pack in memory, after which the writer may hold bytes already. What is found of the records stands in its new bytes.
+/// Searches a pack in memory, after which the writer may hold bytes already. What is found of the
+/// records stands in its new bytes.
 pub fn search_records<'a>(
     alloc: Global,
     input: &mut Tally<&'a [u8]>,
@@ -235,23 +304,36 @@ pub fn search_records<'a>(
     requires sound { (input.old.faulted ≡ false) × (out.old.faulted ≡ false) }
     requires plain { is_plain settings.now.fields ≡ true }
     // Each record is counted, and its lines are written.
-    ensures searched { IfOk result (λ searched. (records : List PackedGame) × (text : List ℕ) × (input.old.inner.now ≡ pack_bytes records)
-        × ArePackLines (aim_of settings.now) records text × (searched.records ≡ length records) × (out.new.inner.items ≡ out.old.inner.items ++ text)) }
+    ensures searched { IfOk result (λ searched. (records : List PackedGame) × (text : List ℕ)
+        × (input.old.inner.now ≡ pack_bytes records)
+        × ArePackLines (aim_of settings.now) records text × (searched.records ≡ length records)
+        × (out.new.inner.items ≡ out.old.inner.items ++ text)) }
     // A record of no game: the lines of those before it are written, and nothing else.
-    ensures bad { IfErr result (λ error. (at : ℕ) → error ≡ SearchError.BadPack at → (before : List PackedGame) × (rest : List ℕ) × (text : List ℕ)
-        × (input.old.inner.now ≡ pack_bytes before ++ rest) × (at ≡ length (pack_bytes before)) × HasNoGame rest
-        × ArePackLines (aim_of settings.now) before text × (out.new.inner.items ≡ out.old.inner.items ++ text)) }
+    ensures bad { IfErr result (λ error. (at : ℕ) → error ≡ SearchError.BadPack at
+        → (before : List PackedGame) × (rest : List ℕ) × (text : List ℕ)
+        × (input.old.inner.now ≡ pack_bytes before ++ rest) × (at ≡ length (pack_bytes before))
+        × HasNoGame rest
+        × ArePackLines (aim_of settings.now) before text
+        × (out.new.inner.items ≡ out.old.inner.items ++ text)) }
     // A read failed: the lines of all records that were read are.
-    ensures read { IfErr result (λ error. error ≡ SearchError.Read → (taken : List ℕ) × (before : List PackedGame) × (rest : List ℕ) × (text : List ℕ)
-        × (input.old.inner.now ≡ taken ++ input.new.inner.now) × (taken ≡ pack_bytes before ++ rest) × HasNoRecord rest
-        × ArePackLines (aim_of settings.now) before text × (out.new.inner.items ≡ out.old.inner.items ++ text)) }
+    ensures read { IfErr result (λ error. error ≡ SearchError.Read
+        → (taken : List ℕ) × (before : List PackedGame) × (rest : List ℕ) × (text : List ℕ)
+        × (input.old.inner.now ≡ taken ++ input.new.inner.now) × (taken ≡ pack_bytes before ++ rest)
+        × HasNoRecord rest
+        × ArePackLines (aim_of settings.now) before text
+        × (out.new.inner.items ≡ out.old.inner.items ++ text)) }
     // A record ends past the largest offset: those of the records before it are.
-    ensures limit { IfErr result (λ error. error ≡ SearchError.InputTooLong → (before : List PackedGame) × (next : PackedGame) × (rest : List ℕ) × (text : List ℕ)
-        × (input.old.inner.now ≡ pack_bytes before ++ (record_bytes next ++ rest)) × (largest_offset < length (pack_bytes before) + length (record_bytes next))
-        × ArePackLines (aim_of settings.now) before text × (out.new.inner.items ≡ out.old.inner.items ++ text)) }
+    ensures limit { IfErr result (λ error. error ≡ SearchError.InputTooLong
+        → (before : List PackedGame) × (next : PackedGame) × (rest : List ℕ) × (text : List ℕ)
+        × (input.old.inner.now ≡ pack_bytes before ++ (record_bytes next ++ rest))
+        × (largest_offset < length (pack_bytes before) + length (record_bytes next))
+        × ArePackLines (aim_of settings.now) before text
+        × (out.new.inner.items ≡ out.old.inner.items ++ text)) }
     // A write failed: a beginning of their lines is written.
-    ensures write { IfErr result (λ error. error ≡ SearchError.Write → (before : List PackedGame) × (rest : List ℕ) × (text : List ℕ) × (n : ℕ)
-        × (input.old.inner.now ≡ pack_bytes before ++ rest) × ArePackLines (aim_of settings.now) before text
+    ensures write { IfErr result (λ error. error ≡ SearchError.Write
+        → (before : List PackedGame) × (rest : List ℕ) × (text : List ℕ) × (n : ℕ)
+        × (input.old.inner.now ≡ pack_bytes before ++ rest)
+        × ArePackLines (aim_of settings.now) before text
         × (out.new.inner.items ≡ out.old.inner.items ++ take n text)) }
     ensures flushed { OnOk result (out.new.flushed ≡ true) }
     ensures faulted { IsErrOf result SearchError.Write ↔ (out.new.faulted ≡ true) }
@@ -259,7 +341,8 @@ pub fn search_records<'a>(
     search(alloc, input, out, settings)
 }
 
-/// Runs over two files in memory, up to an offset in each, with a path between them at which there is none.
+/// Runs over two files in memory, up to an offset in each, with a path between them at which there
+/// is none.
 /// Written is what each file alone gives, and the line that names the path.
 pub fn report_files(
     alloc: Global,
@@ -269,12 +352,15 @@ pub fn report_files(
 ) -> Result<Written, RunError>
     requires number { (1 ≤ settings.number) × (settings.number ≤ 2 ^ 62) }
     requires offset { settings.offset ≤ largest_offset }
-    ensures written { IfOk result (λ written. (one : List ℕ) × (faults : List ℕ) × (line : List ℕ) × (two : List ℕ) × (others : List ℕ)
-        × IsReport (job_of settings) (take end files.old.first.now) one faults × NamesUnopened (codes "none.pgn") line
+    ensures written { IfOk result (λ written. (one : List ℕ) × (faults : List ℕ) × (line : List ℕ)
+        × (two : List ℕ) × (others : List ℕ)
+        × IsReport (job_of settings) (take end files.old.first.now) one faults
+        × NamesUnopened (codes "none.pgn") line
         × IsReport (job_of settings) (take end files.old.second.now) two others
         × (written.out.items ≡ one ++ two) × (written.err.items ≡ faults ++ line ++ others)) }
     ensures too_long { IfErr result (λ error. error ≡ RunError.InputTooLong
-        → (largest_offset < length (take end files.old.first.now)) ⊎ (largest_offset < length (take end files.old.second.now))) }
+        → (largest_offset < length (take end files.old.first.now))
+        ⊎ (largest_offset < length (take end files.old.second.now))) }
 {
     let mut out = Tally::new(Vec::new(alloc));
     let mut err = Tally::new(Vec::new(alloc));
@@ -305,9 +391,12 @@ pub fn list_files(
     requires number { (1 ≤ settings.number) × (settings.number ≤ 2 ^ 62) }
     requires offset { settings.offset ≤ largest_offset }
     requires mode { settings.mode ≡ Mode.List }
-    ensures { IfOk result (λ written. (pieces : List MarkedPiece) × (entries : List Entry) × (others : List MarkedPiece) × (more : List Entry)
-        × ArePieces (job_of settings) (take end files.old.first.now) pieces × AreEntries (aim_of settings) settings.number pieces entries
-        × ArePieces (job_of settings) (take end files.old.second.now) others × AreEntries (aim_of settings) settings.number others more
+    ensures { IfOk result (λ written. (pieces : List MarkedPiece) × (entries : List Entry)
+        × (others : List MarkedPiece) × (more : List Entry)
+        × ArePieces (job_of settings) (take end files.old.first.now) pieces
+        × AreEntries (aim_of settings) settings.number pieces entries
+        × ArePieces (job_of settings) (take end files.old.second.now) others
+        × AreEntries (aim_of settings) settings.number others more
         × (written.out.items ≡ listing settings.name entries ++ listing settings.name more)) }
 {
     report_files(alloc, files, settings, end)

@@ -1,4 +1,5 @@
-//! What a run writes and how it ends: the texts of lines, the names of files, writing through a tally.
+//! What a run writes and how it ends: the texts of lines, the names of files, writing through a
+//! tally.
 
 pub(crate) mod file_name;
 pub(crate) mod outcome;

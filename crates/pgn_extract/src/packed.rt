@@ -1,5 +1,6 @@
 //! The entries of a packed game: a walk over the codes of its plies shows its positions.
-ghost use Rattle.std.specs.Prelude.{◌≡◌, ◌≢◌, ◌+◌, ◌<◌, ◌≤◌, ◌++◌, ◌==◌, ◌/◌, ◌%◌, ℕ, length, true, false, Some, None, codes, OnOk, IfOk, IfErr};
+ghost use Rattle.std.specs.Prelude.{◌≡◌, ◌≢◌, ◌+◌, ◌<◌, ◌≤◌, ◌++◌, ◌==◌, ◌/◌, ◌%◌, ℕ, length, true};
+ghost use Rattle.std.specs.Prelude.{false, Some, None, codes, OnOk, IfOk, IfErr};
 ghost use Rattle.pgn_text.specs.Public.GameTexts.{tag_in};
 ghost use Rattle.pgn_game.specs.Public.Faults.{Fault};
 ghost use Rattle.pgn_game.specs.Public.Replays.{fault_of};
@@ -13,7 +14,9 @@ ghost use Rattle.pgn_criteria.specs.Public.ByMarks.{has_marks, NoneMeets};
 ghost use Rattle.pgn_criteria.specs.Public.Meeting.{heading_of};
 ghost use Rattle.pgn_criteria.specs.Public.Sieves.{codes_in};
 ghost use Rattle.pgn_extract.specs.Private.MarkedPacked.{StartsWith, AreMetWith};
-ghost use Rattle.pgn_extract.specs.Private.Packed.{raw_id, PutsRecord, LeavesRecord, EachOfRecord, HasNoText, record_aim, Grows, ShowsInitial, StartsThere, GoesOnSeen, ListsRecord};
+ghost use Rattle.pgn_extract.specs.Private.Packed.{raw_id, PutsRecord, LeavesRecord, EachOfRecord};
+ghost use Rattle.pgn_extract.specs.Private.Packed.{HasNoText, record_aim, Grows, ShowsInitial};
+ghost use Rattle.pgn_extract.specs.Private.Packed.{StartsThere, GoesOnSeen, ListsRecord};
 
 mod kept_packed;
 mod marked_packed;
@@ -36,7 +39,8 @@ use std::alloc::{AllocError, Global};
 /// Why the lines of a packed game are not added.
 #[derive(Clone, Copy)]
 pub enum PackedFault {
-    /// It is the record of no game: its FEN tag spells no position, or its codes tell no line of legal moves.
+    /// It is the record of no game: its FEN tag spells no position, or its codes tell no line of
+    /// legal moves.
     NoGame,
     /// Memory was refused.
     OutOfMemory,
@@ -65,9 +69,11 @@ fn push_record_title(text: &mut Vec<u8>, record: &RawRecord<'_>) -> Result<(), A
     }
 }
 
-/// Appends the mark that the lines of the record begin with, after the name of its file where it has one.
+/// Appends the mark that the lines of the record begin with, after the name of its file where it
+/// has one.
 pub(crate) fn push_record_mark(text: &mut Vec<u8>, record: &RawRecord<'_>) -> Result<(), AllocError>
-    ensures { OnOk result (text.new.items ≡ text.old.items ++ named_mark record.now.name (raw_id record.now)) }
+    ensures { OnOk result (text.new.items ≡ text.old.items
+        ++ named_mark record.now.name (raw_id record.now)) }
 {
     push_record_title(text, record)?;
     let id = GameId {
@@ -96,7 +102,8 @@ fn begin_at(
     record: &RawRecord<'_>,
     contents: &[u8],
 ) -> Result<(), PackedFault>
-    requires { EachOfRecord record.now (λ game replay packed. tag_in fen_tag game.tags ≡ Some contents.now) }
+    requires { EachOfRecord record.now (λ game replay packed. tag_in fen_tag game.tags
+        ≡ Some contents.now) }
     ensures ok { OnOk result (StartsThere record.now walk.new) }
     ensures err { IfErr result (λ fault. fault ≡ PackedFault.NoGame → HasNoText record.now) }
 {
@@ -113,7 +120,8 @@ fn begin_at(
     }
 }
 
-/// Begins the walk where the game of the record starts, if that is another position than the initial one, which it shows.
+/// Begins the walk where the game of the record starts, if that is another position than the
+/// initial one, which it shows.
 fn begin(alloc: Global, walk: &mut Walk<Bits>, record: &RawRecord<'_>) -> Result<(), PackedFault>
     requires { ShowsInitial record.now walk.old }
     ensures ok { OnOk result (StartsThere record.now walk.new) }
@@ -135,7 +143,8 @@ struct Walker<'s, 'r, 'a> {
 }
 
 impl<'s, 'r, 'a> Walker<'s, 'r, 'a> {
-    /// Adds the line of the ply whose position the walk shows, if it is an entry. Answers whether a later one may be one.
+    /// Adds the line of the ply whose position the walk shows, if it is an entry. Answers whether a
+    /// later one may be one.
     #[inline(always)]
     fn ask(
         &self,
@@ -145,9 +154,11 @@ impl<'s, 'r, 'a> Walker<'s, 'r, 'a> {
         is_open: bool,
     ) -> Result<bool, AllocError>
         requires plain { is_plain self.now.settings.now.fields ≡ true }
-        requires marked { self.now.mark.items ≡ named_mark self.now.record.now.name (raw_id self.now.record.now) }
+        requires marked { self.now.mark.items
+            ≡ named_mark self.now.record.now.name (raw_id self.now.record.now) }
         ensures { IfOk result (λ still. Grows text.old.items text.new.items
-            × GoesOnSeen (record_aim (aim_of self.now.settings.now) self.now.record.now) (raw_id self.now.record.now)
+            × GoesOnSeen (record_aim (aim_of self.now.settings.now) self.now.record.now)
+            (raw_id self.now.record.now)
             self.now.search walk.now ply text.old.items text.new.items is_open still) }
     {
         if !is_open || ply > self.settings.max_ply as usize {
@@ -160,13 +171,18 @@ impl<'s, 'r, 'a> Walker<'s, 'r, 'a> {
         Ok(!self.settings.first)
     }
 
-    /// Walks over the plies of the game, and adds the lines of its entries. It goes no further than an entry may stand.
+    /// Walks over the plies of the game, and adds the lines of its entries. It goes no further than
+    /// an entry may stand.
     fn walk(&self, text: &mut Vec<u8>, walk: &mut Walk<Bits>) -> Result<(), AllocError>
         requires plain { is_plain self.now.settings.now.fields ≡ true }
-        requires marked { self.now.mark.items ≡ named_mark self.now.record.now.name (raw_id self.now.record.now) }
-        requires asks { EachOfRecord self.now.record.now (λ game replay packed. AsksFor (aim_of self.now.settings.now) game self.now.search) }
+        requires marked { self.now.mark.items
+            ≡ named_mark self.now.record.now.name (raw_id self.now.record.now) }
+        requires asks { EachOfRecord self.now.record.now (λ game replay packed.
+            AsksFor (aim_of self.now.settings.now) game self.now.search) }
         requires starts { StartsThere self.now.record.now walk.old }
-        ensures { OnOk result (ListsRecord (aim_of self.now.settings.now) self.now.record.now text.old.items text.new.items) }
+        ensures { OnOk result
+            (ListsRecord (aim_of self.now.settings.now) self.now.record.now text.old.items
+            text.new.items) }
     {
         let plies = self.record.plies();
         let mut is_open = self.ask(text, walk, 0, !self.search.is_empty())?;
@@ -197,15 +213,19 @@ fn side_at_start(alloc: Global, record: &RawRecord<'_>) -> Result<Side, PackedFa
     }
 }
 
-/// Whether the set has the marks of the start of the game, where that side is to move, or of a position after a ply.
+/// Whether the set has the marks of the start of the game, where that side is to move, or of a
+/// position after a ply.
 fn has_some(marks: MarkSet, turn: Side, record: &RawRecord<'_>) -> bool
-    ensures { result ≡ false → (has_marks marks.bits turn (record.now.head % 2 == 1) (record.now.head / 2 % 2 == 1) ≡ false) × NoneMeets marks.bits turn (codes_in record.now.plies) }
+    ensures { result ≡ false
+        → (has_marks marks.bits turn (record.now.head % 2 == 1) (record.now.head / 2 % 2 == 1)
+        ≡ false) × NoneMeets marks.bits turn (codes_in record.now.plies) }
 {
     marks.has(turn, record.in_check(), record.is_stuck())
         || marks.next(turn, record.plies()).is_some()
 }
 
-/// Adds the lines of the entries of a packed game whose positions meet the criteria where they have these marks.
+/// Adds the lines of the entries of a packed game whose positions meet the criteria where they have
+/// these marks.
 fn push_marked(
     text: &mut Vec<u8>,
     alloc: Global,
@@ -214,9 +234,11 @@ fn push_marked(
     record: &RawRecord<'_>,
 ) -> Result<(), PackedFault>
     requires plain { is_plain settings.now.fields ≡ true }
-    requires met { EachOfRecord record.now (λ game replay packed. AreMetWith marks.bits (heading_of game) settings.now.criteria) }
+    requires met { EachOfRecord record.now (λ game replay packed.
+        AreMetWith marks.bits (heading_of game) settings.now.criteria) }
     ensures ok { OnOk result (ListsRecord (aim_of settings.now) record.now text.old.items text.new.items) }
-    ensures err { IfErr result (λ fault. fault ≡ PackedFault.NoGame → (text.new.items ≡ text.old.items) × HasNoText record.now) }
+    ensures err { IfErr result (λ fault. fault ≡ PackedFault.NoGame
+        → (text.new.items ≡ text.old.items) × HasNoText record.now) }
 {
     let turn = match side_at_start(alloc, record) {
         Ok(turn) => turn,
@@ -236,7 +258,8 @@ fn push_marked(
     Ok(())
 }
 
-/// Adds the lines of the entries of a packed game by criteria. Where these speak of its moves or of several plies, its line is replayed.
+/// Adds the lines of the entries of a packed game by criteria. Where these speak of its moves or of
+/// several plies, its line is replayed.
 fn push_walked<'a>(
     text: &mut Vec<u8>,
     alloc: Global,
@@ -248,7 +271,8 @@ fn push_walked<'a>(
     requires criteria { settings.now.criteria ≡ Some criteria.now }
     requires shows { IsRawOfGame record.now }
     ensures ok { OnOk result (ListsRecord (aim_of settings.now) record.now text.old.items text.new.items) }
-    ensures err { IfErr result (λ fault. fault ≡ PackedFault.NoGame → (text.new.items ≡ text.old.items) × HasNoText record.now) }
+    ensures err { IfErr result (λ fault. fault ≡ PackedFault.NoGame
+        → (text.new.items ≡ text.old.items) × HasNoText record.now) }
 {
     if let Some(marks) = criteria.marks_packed(record) {
         return push_marked(text, alloc, settings, marks, record);
@@ -295,7 +319,8 @@ fn push_plain(
     Ok(())
 }
 
-/// Adds the lines of the entries of a packed game. Where it is found to be the record of no game, nothing is added.
+/// Adds the lines of the entries of a packed game. Where it is found to be the record of no game,
+/// nothing is added.
 fn push_entries<'a>(
     text: &mut Vec<u8>,
     alloc: Global,
@@ -305,7 +330,8 @@ fn push_entries<'a>(
     requires plain { is_plain settings.now.fields ≡ true }
     requires shows { IsRawOfGame record.now }
     ensures ok { OnOk result (ListsRecord (aim_of settings.now) record.now text.old.items text.new.items) }
-    ensures err { IfErr result (λ fault. fault ≡ PackedFault.NoGame → (text.new.items ≡ text.old.items) × HasNoText record.now) }
+    ensures err { IfErr result (λ fault. fault ≡ PackedFault.NoGame
+        → (text.new.items ≡ text.old.items) × HasNoText record.now) }
 {
     match &settings.criteria {
         Some(criteria) => push_walked(text, alloc, settings, criteria, record),
@@ -315,14 +341,16 @@ fn push_entries<'a>(
 
 /// Adds the line of a packed game in the index. Its plies are not read.
 fn push_record_line(text: &mut Vec<u8>, record: &RawRecord<'_>) -> Result<(), AllocError>
-    ensures { OnOk result (text.new.items ≡ text.old.items ++ mark_line record.now.name (raw_id record.now)) }
+    ensures { OnOk result (text.new.items ≡ text.old.items
+        ++ mark_line record.now.name (raw_id record.now)) }
 {
     push_record_mark(text, record)?;
     text.push(b'\n')?;
     Ok(())
 }
 
-/// Adds the lines of a packed game: in the index its mark, else those of its entries. Where it is found to be the record of no game, nothing is added.
+/// Adds the lines of a packed game: in the index its mark, else those of its entries. Where it is
+/// found to be the record of no game, nothing is added.
 pub fn push_packed<'a>(
     text: &mut Vec<u8>,
     alloc: Global,
@@ -332,7 +360,8 @@ pub fn push_packed<'a>(
     requires plain { is_plain settings.now.fields ≡ true }
     requires shows { IsRawOfGame record.now }
     ensures ok { OnOk result (PutsRecord (aim_of settings.now) record.now text.old.items text.new.items) }
-    ensures err { IfErr result (λ fault. fault ≡ PackedFault.NoGame → LeavesRecord record.now text.old.items text.new.items) }
+    ensures err { IfErr result (λ fault. fault ≡ PackedFault.NoGame
+        → LeavesRecord record.now text.old.items text.new.items) }
 {
     match settings.mode {
         Mode::Index => {

@@ -12,7 +12,8 @@ use pgn_game::{Notation, Style};
 pub enum Mode {
     /// The mark of each readable game, on a line of its own.
     Index,
-    /// Each entry on a line of its own: the mark of a game whose main line can be replayed, and a ply of it whose position is looked for.
+    /// Each entry on a line of its own: the mark of a game whose main line can be replayed, and a
+    /// ply of it whose position is looked for.
     List,
     /// The text of each game that is selected.
     Export,
@@ -60,13 +61,16 @@ pub enum Form {
     Standard,
     /// As it stands, followed by two line feeds.
     AsItStands,
-    /// On a line of its own: its mark, the position that it starts from, and the moves of its main line in this notation.
+    /// On a line of its own: its mark, the position that it starts from, and the moves of its main
+    /// line in this notation.
     Line(Notation),
-    /// As the record of a pack: its mark, the name of its file where lines have one, its tags, its result and the moves of its main line.
+    /// As the record of a pack: its mark, the name of its file where lines have one, its tags, its
+    /// result and the moves of its main line.
     Record,
 }
 
-/// What a run writes, and where in the file it begins. With [`Mode::Index`] only `name`, `chosen`, `explain`, `number` and `offset` have an effect.
+/// What a run writes, and where in the file it begins. With [`Mode::Index`] only `name`, `chosen`,
+/// `explain`, `number` and `offset` have an effect.
 #[derive(Drop)]
 pub struct Settings {
     /// The name that the lines of games begin with, if they have one.
@@ -89,7 +93,8 @@ pub struct Settings {
     pub select: Select,
     /// How each game that the export selects is written.
     pub form: Form,
-    /// What is kept of a game in the standard's format. Where variations are, each line of a game must be sound, also of one that is written
+    /// What is kept of a game in the standard's format. Where variations are, each line of a game
+    /// must be sound, also of one that is written
     /// as it stands; else its main line alone, as where it is written on a line or as a record.
     pub style: Style,
     /// Whether notes stand after the lines of faulty games: where a game is faulty, and why.

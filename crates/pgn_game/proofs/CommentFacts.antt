@@ -1,26 +1,33 @@
 -- Where a comment is cut at white space.
-use Rattle.std.proofs.Common.{◌≡◌, ℕ, ◌+◌, ◌-◌, ◌<◌, ◌≤◌, true, false, List, [], ◌∷◌, ◌++◌, length, map, take, drop, get_or, refl, sym, ap, subst, ◌∙◌, arith, append_assoc, length-append}
+use Rattle.std.proofs.Common.{◌≡◌, ℕ, ◌+◌, ◌-◌, ◌<◌, ◌≤◌, true, false, List, [], ◌∷◌, ◌++◌, length}
+use Rattle.std.proofs.Common.{map, take, drop, get_or, refl, sym, ap, subst, ◌∙◌, arith}
+use Rattle.std.proofs.Common.{append_assoc, length-append}
 use Rattle.std.specs.Prelude.{if◌then◌else◌, ◌==◌, not, filter}
 use Rattle.std.proofs.Math.Seq.{take-append_seam}
 use Rattle.std.proofs.lemmas.Bool.{ne_eqb, both_ways}
 use Rattle.std.proofs.lemmas.Bool.Decides.{nat_tests}
 use Rattle.pgn_text.specs.Public.Bytes.{is_white, is_empty}
-use Rattle.pgn_game.specs.Public.Comments.{in_first, cut_at_white, words_in, unbraced, later_word, closed, braced}
+use Rattle.pgn_game.specs.Public.Comments.{in_first, cut_at_white, words_in, unbraced, later_word}
+use Rattle.pgn_game.specs.Public.Comments.{closed, braced}
 use Rattle.pgn_game.specs.Public.TextLines.{joined}
 use Rattle.chess.specs.Shared.SetFacts.{false_of}
-use Rattle.pgn_game.specs.Private.CommentWords.{word_front, after_front, after_white, IsBare, IsAfterBare, IsAfterKept, IsSpaced, IsSpacedAfter}
+use Rattle.pgn_game.specs.Private.CommentWords.{word_front, after_front, after_white, IsBare}
+use Rattle.pgn_game.specs.Private.CommentWords.{IsAfterBare, IsAfterKept, IsSpaced, IsSpacedAfter}
 
 -- a text is its first run and what follows it
 pub front_whole : (text : List ℕ) → word_front text ++ after_front text ≡ text
 front_whole [] = refl
 front_whole (b ∷ text) =
-    elim (is_white b) as (λ t. (if t then [] else b ∷ word_front text) ++ (if t then b ∷ text else after_front text) ≡ b ∷ text) [
+    elim (is_white b) as (λ t. (if t then [] else b ∷ word_front text)
+    ++ (if t then b ∷ text else after_front text) ≡ b ∷ text) [
       | true ↦ refl
       | false ↦ ap (λ rest. b ∷ rest) (front_whole text)
     ]
 
-pub front_length : (text : List ℕ) → length text ≡ length (word_front text) + length (after_front text)
-front_length text = ap length (sym (front_whole text)) ∙ length-append (word_front text) (after_front text)
+pub front_length : (text : List ℕ) → length text
+    ≡ length (word_front text) + length (after_front text)
+front_length text = ap length (sym (front_whole text))
+    ∙ length-append (word_front text) (after_front text)
 
 abbrev pub full_ones : List (List ℕ) → List (List ℕ)
 full_ones pieces = filter (λ piece. not (is_empty piece)) pieces
@@ -33,32 +40,43 @@ cut_after (b ∷ text) = cut_at_white text
 cut_by_front : (text : List ℕ) → cut_at_white text ≡ word_front text ∷ cut_after (after_front text)
 cut_by_front [] = refl
 cut_by_front (b ∷ text) =
-    elim (is_white b) as (λ t. (if t then [] ∷ cut_at_white text else in_first b (cut_at_white text))
-    ≡ (if t then [] else b ∷ word_front text) ∷ cut_after (if t then b ∷ text else after_front text)) [
+    elim (is_white b) as (λ t.
+    (if t then [] ∷ cut_at_white text else in_first b (cut_at_white text))
+    ≡ (if t then [] else b ∷ word_front text)
+    ∷ cut_after (if t then b ∷ text else after_front text)) [
       | true ↦ refl
       | false ↦ ap (in_first b) (cut_by_front text)
     ]
 
-words_after : (text : List ℕ) → full_ones (cut_after (after_front text)) ≡ words_in (after_front text)
+words_after : (text : List ℕ) → full_ones (cut_after (after_front text))
+    ≡ words_in (after_front text)
 words_after [] = refl
 words_after (b ∷ text) =
-    elim (is_white b) as (λ t. is_white b ≡ t → full_ones (cut_after (if t then b ∷ text else after_front text)) ≡ words_in (if t then b ∷ text else after_front text)) [
-      | true ↦ λ e. sym (ap (λ t. full_ones (if t then [] ∷ cut_at_white text else in_first b (cut_at_white text))) e)
+    elim (is_white b) as (λ t. is_white b ≡ t
+    → full_ones (cut_after (if t then b ∷ text else after_front text))
+    ≡ words_in (if t then b ∷ text else after_front text)) [
+      | true ↦ λ e. sym
+          (ap (λ t. full_ones (if t then [] ∷ cut_at_white text
+          else in_first b (cut_at_white text))) e)
       | false ↦ λ e. words_after text
     ] refl
 
 -- a text that begins with a byte of a word: the first word, and the words of what follows it
-pub words_of_front : (b : ℕ) (text : List ℕ) → is_white b ≡ false → words_in (b ∷ text) ≡ word_front (b ∷ text) ∷ words_in (after_front (b ∷ text))
+pub words_of_front : (b : ℕ) (text : List ℕ) → is_white b ≡ false
+    → words_in (b ∷ text) ≡ word_front (b ∷ text) ∷ words_in (after_front (b ∷ text))
 words_of_front b text other =
-    let first : word_front (b ∷ text) ≡ b ∷ word_front text = ap (λ t. if t then [] else b ∷ word_front text) other in
+    let first : word_front (b ∷ text) ≡ b ∷ word_front text =
+    ap (λ t. if t then [] else b ∷ word_front text) other in
     ap full_ones (cut_by_front (b ∷ text))
     ∙ ap (λ front. full_ones (front ∷ cut_after (after_front (b ∷ text)))) first
     ∙ ap (λ rest. (b ∷ word_front text) ∷ rest) (words_after (b ∷ text))
     ∙ ap (λ front. front ∷ words_in (after_front (b ∷ text))) (sym first)
 
-shorter_after : (b : ℕ) (text : List ℕ) → is_white b ≡ false → length (after_front (b ∷ text)) < length (b ∷ text)
+shorter_after : (b : ℕ) (text : List ℕ) → is_white b ≡ false
+    → length (after_front (b ∷ text)) < length (b ∷ text)
 shorter_after b text other =
-    let first : length (word_front (b ∷ text)) ≡ length (b ∷ word_front text) = ap (λ t. length (if t then [] else b ∷ word_front text)) other in
+    let first : length (word_front (b ∷ text)) ≡ length (b ∷ word_front text) =
+    ap (λ t. length (if t then [] else b ∷ word_front text)) other in
     let whole = front_length (b ∷ text) in
     let long : length (b ∷ word_front text) ≡ length (word_front text) + 1 = omega arith in
     omega arith
@@ -67,8 +85,11 @@ shorter_after b text other =
 words_after_white : (text : List ℕ) → words_in text ≡ words_in (after_white text)
 words_after_white [] = refl
 words_after_white (b ∷ text) =
-    elim (is_white b) as (λ t. is_white b ≡ t → words_in (b ∷ text) ≡ words_in (if t then after_white text else b ∷ text)) [
-      | true ↦ λ e. ap (λ t. full_ones (if t then [] ∷ cut_at_white text else in_first b (cut_at_white text))) e ∙ words_after_white text
+    elim (is_white b) as (λ t. is_white b ≡ t
+    → words_in (b ∷ text) ≡ words_in (if t then after_white text else b ∷ text)) [
+      | true ↦ λ e. ap (λ t.
+          full_ones (if t then [] ∷ cut_at_white text else in_first b (cut_at_white text))) e
+          ∙ words_after_white text
       | false ↦ λ e. refl
     ] refl
 
@@ -77,21 +98,25 @@ no_longer [] = omega arith
 no_longer (b ∷ text) =
     let long : length (b ∷ text) ≡ length text + 1 = omega arith in
     let less = no_longer text in
-    elim (is_white b) as (λ t. length (if t then after_white text else b ∷ text) ≤ length (b ∷ text)) [
+    elim (is_white b) as (λ t. length (if t then after_white text else b ∷ text)
+    ≤ length (b ∷ text)) [
       | true ↦ omega arith
       | false ↦ omega arith
     ]
 
 -- what is left after white space begins with none
-begins_word : (text : List ℕ) (b : ℕ) (rest : List ℕ) → after_white text ≡ b ∷ rest → is_white b ≡ false
+begins_word : (text : List ℕ) (b : ℕ) (rest : List ℕ) → after_white text ≡ b ∷ rest
+    → is_white b ≡ false
 begins_word [] b rest e = let none : [] ≡ b ∷ rest = e in cc
 begins_word (a ∷ text) b rest e =
-    elim (is_white a) as (λ t. is_white a ≡ t → (if t then after_white text else a ∷ text) ≡ b ∷ rest → is_white b ≡ false) [
+    elim (is_white a) as (λ t. is_white a ≡ t
+    → (if t then after_white text else a ∷ text) ≡ b ∷ rest → is_white b ≡ false) [
       | true ↦ λ same f. begins_word text b rest f
       | false ↦ λ other f. let head : a ≡ b = cc in ap is_white (sym head) ∙ other
     ] refl e
 
--- a text whose white space at its front was taken off: without words, or the first word and what follows it
+-- a text whose white space at its front was taken off: without words, or the first word and what
+-- follows it
 pub full : (text : List ℕ) → (length text == 0) ≡ false → text ≡ [] → ⊥
 full text some none = both_ways (length text == 0) some (ap (λ t. length t == 0) none)
 
@@ -99,7 +124,8 @@ pub no_word : (text : List ℕ) → after_white text ≡ [] → [] ≡ words_in 
 no_word text none = sym (words_after_white text ∙ ap words_in none)
 
 pub some_word : (text rest : List ℕ) → rest ≡ after_white text → (rest ≡ [] → ⊥)
-    → (word_front rest ∷ words_in (after_front rest) ≡ words_in text) × (length (after_front rest) < length text)
+    → (word_front rest ∷ words_in (after_front rest) ≡ words_in text)
+    × (length (after_front rest) < length text)
 some_word text [] e full = absurd (full refl)
 some_word text (b ∷ rest) e full =
     let other = begins_word text b rest (sym e) in
@@ -113,7 +139,8 @@ pub bare_both : (x y : List ℕ) → IsBare x → IsBare y → IsBare (x ++ y)
 bare_both [] y first second = second
 bare_both (b ∷ x) y first second =
     let here : (if b == 125 then 41 else b) ≡ b = ap (λ text. get_or text 0 0) first in
-    ap (λ a. a ∷ unbraced (x ++ y)) here ∙ ap (λ rest. b ∷ rest) (bare_both x y (ap (drop 1) first) second)
+    ap (λ a. a ∷ unbraced (x ++ y)) here
+    ∙ ap (λ rest. b ∷ rest) (bare_both x y (ap (drop 1) first) second)
 
 bare_byte : (b : ℕ) → (b ≡ 125 → ⊥) → IsBare (b ∷ [])
 bare_byte b other = ap (λ t. (if t then 41 else b) ∷ []) (ne_eqb b 125 other)
@@ -124,38 +151,52 @@ no_white b high = grind (arith, nat_tests)
 pub bare_first : (text : List ℕ) → IsAfterBare text text
 bare_first text = record { front = []; whole = refl; bare = refl; same = refl }
 
-pub bare_next : (text rest : List ℕ) (b : ℕ) (after : List ℕ) → rest ≡ b ∷ after → 32 < b → (b ≡ 125 → ⊥) → IsAfterBare text rest → IsAfterBare text after
+pub bare_next : (text rest : List ℕ) (b : ℕ) (after : List ℕ) → rest ≡ b ∷ after → 32 < b
+    → (b ≡ 125 → ⊥) → IsAfterBare text rest → IsAfterBare text after
 bare_next text rest b after cut high other kept = record {
   front = kept.front ++ b ∷ [];
   whole = kept.whole ∙ ap (λ x. kept.front ++ x) cut ∙ sym (append_assoc kept.front (b ∷ []) after);
   bare = bare_both kept.front (b ∷ []) kept.bare (bare_byte b other);
-  same = sym (ap (λ t. if t then b ∷ after else after_front after) (no_white b high)) ∙ sym (ap after_front cut) ∙ kept.same;
+  same = sym (ap (λ t. if t then b ∷ after else after_front after) (no_white b high))
+      ∙ sym (ap after_front cut) ∙ kept.same;
 }
 
 -- what stands before it
-pub bare_word : (text left : List ℕ) (size : ℕ) → IsAfterBare text left → size ≡ length left → IsBare (take (length text - size) text)
+pub bare_word : (text left : List ℕ) (size : ℕ) → IsAfterBare text left → size ≡ length left
+    → IsBare (take (length text - size) text)
 bare_word text left size kept same =
     let whole : length text ≡ length (kept.front ++ left) = ap length kept.whole in
-    let at : length text - size ≡ length kept.front = omega (arith, whole, length-append kept.front left, same) in
-    let word : take (length text - size) text ≡ kept.front = ap (λ n. take n text) at ∙ ap (take (length kept.front)) kept.whole ∙ take-append_seam kept.front left in
+    let at : length text - size ≡ length kept.front =
+    omega (arith, whole, length-append kept.front left, same) in
+    let word : take (length text - size) text ≡ kept.front =
+    ap (λ n. take n text) at ∙ ap (take (length kept.front)) kept.whole
+    ∙ take-append_seam kept.front left in
     subst IsBare (sym word) kept.bare
 
 -- a text that begins with a word which is written as it is
-words_at : (text : List ℕ) → (word_front text ≡ [] → ⊥) → words_in text ≡ word_front text ∷ words_in (after_front text)
+words_at : (text : List ℕ) → (word_front text ≡ [] → ⊥)
+    → words_in text ≡ word_front text ∷ words_in (after_front text)
 words_at [] full = absurd (full refl)
-words_at (b ∷ text) full = words_of_front b text (false_of (is_white b) (λ white. full (ap (λ t. if t then [] else b ∷ word_front text) white)))
+words_at (b ∷ text) full =
+    words_of_front b text
+    (false_of (is_white b) (λ white. full (ap (λ t. if t then [] else b ∷ word_front text) white)))
 
-pub kept_word : (text word rest : List ℕ) → word ≡ word_front text → rest ≡ after_front text → (word ≡ [] → ⊥) → IsBare word → later_word word ≡ unbraced word
+pub kept_word : (text word rest : List ℕ) → word ≡ word_front text → rest ≡ after_front text
+    → (word ≡ [] → ⊥) → IsBare word → later_word word ≡ unbraced word
     → IsAfterKept text rest
 kept_word text word rest front after full bare later = record {
   word = word;
-  whole = sym (front_whole text) ∙ ap (λ w. w ++ after_front text) (sym front) ∙ ap (λ r. word ++ r) (sym after);
-  words = words_at text (λ none. full (front ∙ none)) ∙ ap (λ w. w ∷ words_in (after_front text)) (sym front) ∙ ap (λ r. word ∷ words_in r) (sym after);
+  whole = sym (front_whole text) ∙ ap (λ w. w ++ after_front text) (sym front)
+      ∙ ap (λ r. word ++ r) (sym after);
+  words = words_at text (λ none. full (front ∙ none))
+      ∙ ap (λ w. w ∷ words_in (after_front text)) (sym front)
+      ∙ ap (λ r. word ∷ words_in r) (sym after);
   bare = bare;
   later = later ∙ bare;
 }
 
-joined_more : (word next : List ℕ) (more : List (List ℕ)) → joined (closed (word ∷ next ∷ more)) ≡ word ++ (32 ∷ joined (closed (next ∷ more)))
+joined_more : (word next : List ℕ) (more : List (List ℕ))
+    → joined (closed (word ∷ next ∷ more)) ≡ word ++ (32 ∷ joined (closed (next ∷ more)))
 joined_more word next [] = refl
 joined_more word next (other ∷ more) = refl
 
@@ -163,17 +204,20 @@ joined_more word next (other ∷ more) = refl
 pub spaced_end : (rest : List ℕ) → rest ≡ [] → IsSpacedAfter rest
 spaced_end rest none = subst IsSpacedAfter (sym none) (λ word. refl)
 
-pub spaced_step : (more after : List ℕ) → IsAfterKept more after → IsSpacedAfter after → IsSpacedAfter (32 ∷ more)
+pub spaced_step : (more after : List ℕ) → IsAfterKept more after → IsSpacedAfter after
+    → IsSpacedAfter (32 ∷ more)
 spaced_step more after kept spaced word =
     ap (λ words. joined (closed (word ∷ map later_word words))) kept.words
     ∙ ap (λ next. joined (closed (word ∷ next ∷ map later_word (words_in after)))) kept.later
     ∙ joined_more word kept.word (map later_word (words_in after))
     ∙ ap (λ rest. word ++ (32 ∷ rest)) (spaced kept.word)
-    ∙ ap (λ rest. word ++ (32 ∷ rest)) (sym (append_assoc kept.word after (125 ∷ [])) ∙ ap (λ text. text ++ 125 ∷ []) (sym kept.whole))
+    ∙ ap (λ rest. word ++ (32 ∷ rest)) (sym (append_assoc kept.word after (125 ∷ []))
+    ∙ ap (λ text. text ++ 125 ∷ []) (sym kept.whole))
 
 pub spaced_whole : (text rest : List ℕ) → IsAfterKept text rest → IsSpacedAfter rest → IsSpaced text
 spaced_whole text rest kept spaced =
     ap (λ words. joined (braced words)) kept.words
     ∙ ap (λ word. joined (closed ((123 ∷ word) ∷ map later_word (words_in rest)))) kept.bare
     ∙ spaced (123 ∷ kept.word)
-    ∙ ap (λ after. 123 ∷ after) (sym (append_assoc kept.word rest (125 ∷ [])) ∙ ap (λ whole. whole ++ 125 ∷ []) (sym kept.whole))
+    ∙ ap (λ after. 123 ∷ after) (sym (append_assoc kept.word rest (125 ∷ []))
+    ∙ ap (λ whole. whole ++ 125 ∷ []) (sym kept.whole))

@@ -1,6 +1,8 @@
 -- Worked rows of exports: tags, comments, tokens in lines, and games on a line; and what these
 -- definitions refuse.
-use Rattle.std.proofs.Common.{◌≡◌, ◌≢◌, ◌<◌, ◌+◌, ◌-◌, ◌∙◌, ℕ, decimal, flat_map, Bool, true, false, List, [], ◌∷◌, ◌++◌, length, codes, Option, None, Some, ap, refl, sym, arith}
+use Rattle.std.proofs.Common.{◌≡◌, ◌≢◌, ◌<◌, ◌+◌, ◌-◌, ◌∙◌, ℕ, decimal, flat_map, Bool, true, false}
+use Rattle.std.proofs.Common.{List, [], ◌∷◌, ◌++◌, length, codes, Option, None, Some, ap, refl, sym}
+use Rattle.std.proofs.Common.{arith}
 use Rattle.chess.specs.Public.Positions.{State, IsCheck}
 use Rattle.chess.specs.Public.Start.{initial}
 use Rattle.chess.specs.declared.board.man.Kind.TheVariants.{Knight}
@@ -9,15 +11,20 @@ use Rattle.chess.specs.declared.moves.Move.{Move}
 use Rattle.pgn_text.specs.Public.Games.{Item, MoveText, CommentText, VariationOpen, VariationClose}
 use Rattle.pgn_text.specs.Public.Strings.{Sign, Single, Escaped, spelled_sign, value_of_sign}
 use Rattle.pgn_game.specs.Public.AllLines.{LineEnd, ThenGlyph, SaysTurn}
-use Rattle.pgn_game.specs.Public.Comments.{in_first, cut_at_white, words_in, closed, braced, begins_command, has_bracket, closes, leaves_open, in_command, ties, in_front, tied, comment_tokens}
+use Rattle.pgn_game.specs.Public.Comments.{in_first, cut_at_white, words_in, closed, braced}
+use Rattle.pgn_game.specs.Public.Comments.{begins_command, has_bracket, closes, leaves_open}
+use Rattle.pgn_game.specs.Public.Comments.{in_command, ties, in_front, tied, comment_tokens}
 use Rattle.pgn_game.specs.Public.Exports.{number_tokens, IsTurnText, kept, AreTokens}
-use Rattle.pgn_game.specs.Public.GameLines.{unspaced, IsStartText, promotion_letter, uci_text, IsMoveText, AreMoveTexts}
+use Rattle.pgn_game.specs.Public.GameLines.{unspaced, IsStartText, promotion_letter, uci_text}
+use Rattle.pgn_game.specs.Public.GameLines.{IsMoveText, AreMoveTexts}
 use Rattle.pgn_game.specs.Public.GameLines.IsStartText.{as_initial, as_fen}
 use Rattle.pgn_game.specs.Public.Openings.{IsBeginning}
 use Rattle.pgn_game.specs.Public.PlayedLines as played
-use Rattle.pgn_game.specs.Public.Refusals.{PlayedLine, played_items, after_move, in_its_place, is_variation, LeadTo, IsPlayedThere}
+use Rattle.pgn_game.specs.Public.Refusals.{PlayedLine, played_items, after_move, in_its_place}
+use Rattle.pgn_game.specs.Public.Refusals.{is_variation, LeadTo, IsPlayedThere}
 use Rattle.pgn_game.specs.Public.Replays.{Replay, IsMainReplay}
-use Rattle.pgn_game.specs.Public.TagLines.{roster, missing_text, escaped, IsValueText, IsTagText, tag_line, IsLineOf, AreLinesOf}
+use Rattle.pgn_game.specs.Public.TagLines.{roster, missing_text, escaped, IsValueText, IsTagText}
+use Rattle.pgn_game.specs.Public.TagLines.{tag_line, IsLineOf, AreLinesOf}
 use Rattle.pgn_game.specs.Public.TextLines.{joined, tokens_of, text_of, IsLine, IsFull, AreLines}
 use Rattle.pgn_game.specs.declared.exports.notation.Notation.{Notation}
 use Rattle.pgn_game.specs.declared.exports.notation.Notation.TheVariants.{Uci}
@@ -193,7 +200,8 @@ ties_of_words :
     ∷ false ∷ false ∷ []
 ties_of_words = refl
 
-token_before_others : in_front true (codes "a") (codes "b" ∷ codes "c" ∷ []) ≡ codes "a b" ∷ codes "c"
+token_before_others : in_front true (codes "a") (codes "b" ∷ codes "c" ∷ [])
+    ≡ codes "a b" ∷ codes "c"
     ∷ []
 token_before_others = refl
 

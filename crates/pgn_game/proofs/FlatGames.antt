@@ -5,7 +5,8 @@ use Rattle.chess.specs.Public.Moves.{after}
 use Rattle.chess.specs.declared.moves.Move.{Move}
 use Rattle.pgn_text.specs.Public.Games.{Item}
 use Rattle.pgn_text.specs.Public.GameTexts.{IsPaired}
-use Rattle.pgn_game.specs.Public.AllLines.{Line, LineEnd, ThenMove, ThenGlyph, ThenComment, ThenVariation, IsPlayed, own_words, spelled}
+use Rattle.pgn_game.specs.Public.AllLines.{Line, LineEnd, ThenMove, ThenGlyph, ThenComment}
+use Rattle.pgn_game.specs.Public.AllLines.{ThenVariation, IsPlayed, own_words, spelled}
 use Rattle.pgn_game.specs.Private.LineWalks.{IsFlat}
 use Rattle.pgn_game.specs.Public.MainLines.{main_words, IsMainLine}
 use Rattle.pgn_game.specs.Public.Replays.{IsSoundGame}
@@ -17,20 +18,35 @@ use Rattle.pgn_game.proofs.OneLine.{main_words_of}
 use Rattle.pgn_game.proofs.Spelling.{one_spelt}
 
 -- the moves of its words are its turns
-flat_played : (line : Line) (before now : State) (positions : List State) (played : List Move) → IsFlat (spelled line) → IsMainLine now (own_words line) positions played
+flat_played : (line : Line) (before now : State) (positions : List State) (played : List Move)
+    → IsFlat (spelled line) → IsMainLine now (own_words line) positions played
     → (turns : List LineMove) × IsPlayed false before now line turns
 flat_played LineEnd before now positions played flat is = ([], refl)
-flat_played (ThenMove word rest) before now positions played flat (m, later, more, positions_is, played_is, named, line) =
+flat_played (ThenMove word rest) before now positions played flat (
+  m,
+  later,
+  more,
+  positions_is,
+  played_is,
+  named,
+  line,
+) =
     let there = flat_played rest now (after now m) later more flat line in
     (Played m ∷ there.0, (Played m, there.0, refl, named, there.1))
-flat_played (ThenGlyph number rest) before now positions played flat is = flat_played rest before now positions played flat is
-flat_played (ThenComment text rest) before now positions played flat is = flat_played rest before now positions played flat is
+flat_played (ThenGlyph number rest) before now positions played flat is =
+    flat_played rest before now positions played flat is
+flat_played (ThenComment text rest) before now positions played flat is =
+    flat_played rest before now positions played flat is
 flat_played (ThenVariation inner rest) before now positions played flat is = absurd flat
 
-pub flat_sound : (fen : Option (List ℕ)) (items : List Item) → IsPaired 0 items → IsFlat items → IsSoundGame Main fen items → IsSoundGame All fen items
+pub flat_sound : (fen : Option (List ℕ)) (items : List Item) → IsPaired 0 items → IsFlat items
+    → IsSoundGame Main fen items → IsSoundGame All fen items
 flat_sound fen items paired flat (replay, is) =
     let tree = one_spelt items paired in
-    let words : main_words items 0 ≡ own_words tree.0 = ap (λ xs. main_words xs 0) tree.1 ∙ main_words_of tree.0 in
+    let words : main_words items 0 ≡ own_words tree.0 =
+    ap (λ xs. main_words xs 0) tree.1 ∙ main_words_of tree.0 in
     let line = subst (λ ws. IsMainLine is.start ws replay.positions replay.played) words is.line in
-    let all = flat_played tree.0 is.start is.start replay.positions replay.played (subst IsFlat tree.1 flat) line in
+    let all =
+    flat_played tree.0 is.start is.start replay.positions replay.played
+    (subst IsFlat tree.1 flat) line in
     played_sound fen is.start items all.0 is.is_start (tree.0, tree.1, all.1)

@@ -1,5 +1,7 @@
--- What the definitions refuse: of a main line that is played ply by ply, of the moves of a replay, and of an export.
-use Rattle.std.proofs.Common.{◌≡◌, ◌∙◌, ℕ, List, [], ◌∷◌, ◌++◌, Option, Some, codes, ap, inr, refl, sym, subst, arith}
+-- What the definitions refuse: of a main line that is played ply by ply, of the moves of a replay,
+-- and of an export.
+use Rattle.std.proofs.Common.{◌≡◌, ◌∙◌, ℕ, List, [], ◌∷◌, ◌++◌, Option, Some, codes, ap, inr, refl}
+use Rattle.std.proofs.Common.{sym, subst, arith}
 use Rattle.std.proofs.lemmas.Option.{same_Some}
 use Rattle.std.specs.List.{slice_get}
 use Rattle.chess.specs.Public.Positions.{State}
@@ -14,21 +16,30 @@ use Rattle.pgn_game.specs.Public.Replays.{Replay, IsReplay}
 use Rattle.pgn_game.specs.declared.replays.replayer.Lines.{Lines}
 
 -- a line that is at its end goes on by no ply, and has no word left
-no_ply_at_the_end : (now : State) → HasEnded (record { position = now; plies = 1; words = [] }) (record { position = now; plies = 2; words = [] }) → ⊥
-no_ply_at_the_end now ended = let same : 2 ≡ 1 = ap (λ line. line.plies) ended.same in absurd (omega (arith, same))
+no_ply_at_the_end : (now : State)
+    → HasEnded (record { position = now; plies = 1; words = [] })
+    (record { position = now; plies = 2; words = [] }) → ⊥
+no_ply_at_the_end now ended = let same : 2 ≡ 1 = ap (λ line. line.plies) ended.same in
+    absurd (omega (arith, same))
 
-no_word_at_the_end : (now : State) (word : List ℕ) (line : PlayedLine) → HasEnded (record { position = now; plies = 1; words = word ∷ [] }) line → ⊥
+no_word_at_the_end : (now : State) (word : List ℕ) (line : PlayedLine)
+    → HasEnded (record { position = now; plies = 1; words = word ∷ [] }) line → ⊥
 no_word_at_the_end now word line ended = let none = ended.words in cc
 
 -- the word of a move that was played names no other move
-no_other_move : EachMoveIsNamed → (lines : Lines) (fen : Option (List ℕ)) (items : List Item) (replay : Replay) → IsReplay lines fen items replay
-    → (i : ℕ) (m n : Move) (word : List ℕ) (now : State) → slice_get replay.played i ≡ Some m → slice_get (main_words items 0) i ≡ Some word
+no_other_move : EachMoveIsNamed
+    → (lines : Lines) (fen : Option (List ℕ)) (items : List Item) (replay : Replay)
+    → IsReplay lines fen items replay
+    → (i : ℕ) (m n : Move) (word : List ℕ) (now : State) → slice_get replay.played i ≡ Some m
+    → slice_get (main_words items 0) i ≡ Some word
     → slice_get replay.positions i ≡ Some now → IsNamed now word n → (n ≡ m → ⊥) → ⊥
 no_other_move law lines fen items replay is i m n word now played said here named apart =
-    let (own, before, its_word, its_place, only, after) = law lines fen items replay is i m played in
+    let (own, before, its_word, its_place, only, after) =
+    law lines fen items replay is i m played in
     let same_word : word ≡ own = same_Some word own (sym said ∙ its_word) in
     let same_place : now ≡ before = same_Some now before (sym here ∙ its_place) in
-    apart (only.only n (subst (λ (w : List ℕ). IsNamed before w n) same_word (subst (λ (s : State). IsNamed s word n) same_place named)))
+    apart (only.only n (subst (λ (w : List ℕ).
+    IsNamed before w n) same_word (subst (λ (s : State). IsNamed s word n) same_place named)))
 
 -- an export begins with an event line, and has no other and no escape
 not_without_event_line : IsReadAsOne (codes "x") → ⊥

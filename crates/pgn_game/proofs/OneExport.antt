@@ -3,7 +3,8 @@ use Rattle.std.proofs.Common.{◌≡◌, ℕ, List, [], ◌∷◌, ◌++◌, sym
 use Rattle.std.specs.Prelude.{Option, Some, None, flat_map}
 use Rattle.pgn_text.specs.Public.GameTexts.{tag_in}
 use Rattle.pgn_game.specs.Public.Starts.{fen_tag}
-use Rattle.pgn_game.specs.Public.TagLines.{missing_text, escaped, IsTagText, tag_line, AreLinesOf, written_names}
+use Rattle.pgn_game.specs.Public.TagLines.{missing_text, escaped, IsTagText, tag_line, AreLinesOf}
+use Rattle.pgn_game.specs.Public.TagLines.{written_names}
 use Rattle.pgn_game.specs.Public.TextLines.{IsLaid}
 use Rattle.pgn_game.specs.Public.Exports.{AreMovetextTokens}
 use Rattle.pgn_game.specs.Public.Laws.{GameHasOneExport}
@@ -11,26 +12,42 @@ use Rattle.pgn_game.proofs.LaidOnce.{one_text}
 use Rattle.pgn_game.proofs.OneMovetext.{one_movetext}
 use Rattle.pgn_game.proofs.OneReplay.{same_value, one_start}
 
-one_tag_text : (contents : Option (List ℕ)) (missing text other : List ℕ) → IsTagText contents missing text → IsTagText contents missing other → text ≡ other
+one_tag_text : (contents : Option (List ℕ)) (missing text other : List ℕ)
+    → IsTagText contents missing text → IsTagText contents missing other → text ≡ other
 one_tag_text None missing text other is is2 = is ∙ sym is2
 one_tag_text (Some contents) missing text other (value, given, spells) (value2, given2, spells2) =
     spells ∙ ap (flat_map escaped) (same_value contents value value2 given given2) ∙ sym spells2
 
-one_head : (tags : List (List ℕ × List ℕ)) (result : List ℕ) (names : List (List ℕ)) (lines others : List ℕ)
+one_head : (tags : List (List ℕ × List ℕ)) (result : List ℕ) (names : List (List ℕ))
+    (lines others : List ℕ)
     → AreLinesOf tags result names lines → AreLinesOf tags result names others → lines ≡ others
 one_head tags result [] lines others is is2 = is ∙ sym is2
-one_head tags result (name ∷ names) lines others (line, more, (text, is, line_is), lines_are, rest) (line2, more2, (text2, is2, line_is2), lines_are2, rest2) =
-    let texts : text ≡ text2 = one_tag_text (tag_in name tags) (missing_text result name) text text2 is is2 in
+one_head tags result (name ∷ names) lines others (
+  line,
+  more,
+  (text, is, line_is),
+  lines_are,
+  rest,
+) (line2, more2, (text2, is2, line_is2), lines_are2, rest2) =
+    let texts : text ≡ text2 =
+    one_tag_text (tag_in name tags) (missing_text result name) text text2 is is2 in
     let same : line ≡ line2 = line_is ∙ ap (tag_line name) texts ∙ sym line_is2 in
-    lines_are ∙ ap (λ xs. xs ++ more) same ∙ ap (λ xs. line2 ++ xs) (one_head tags result names more more2 rest rest2) ∙ sym lines_are2
+    lines_are ∙ ap (λ xs. xs ++ more) same
+    ∙ ap (λ xs. line2 ++ xs) (one_head tags result names more more2 rest rest2) ∙ sym lines_are2
 
 pub one_export : GameHasOneExport
 one_export style game text other is is2 =
-    let heads : is.head ≡ is2.head = one_head game.tags game.result (written_names style game.tags) is.head is2.head is.tags is2.tags in
-    let starts : is2.start ≡ is.start = one_start (tag_in fen_tag game.tags) is2.start is.start is2.is_start is.is_start in
+    let heads : is.head ≡ is2.head =
+    one_head game.tags game.result (written_names style game.tags) is.head is2.head is.tags
+    is2.tags in
+    let starts : is2.start ≡ is.start =
+    one_start (tag_in fen_tag game.tags) is2.start is.start is2.is_start is.is_start in
     let tokens : is2.tokens ≡ is.tokens =
     one_movetext style is.start game.elements game.result is2.tokens is.tokens
-    (subst (λ start. AreMovetextTokens style start game.elements game.result is2.tokens) starts is2.are_tokens) is.are_tokens in
+    (subst (λ start. AreMovetextTokens style start game.elements game.result is2.tokens) starts
+    is2.are_tokens) is.are_tokens in
     let movetexts : is.movetext ≡ is2.movetext =
-    one_text style.width is.tokens is.movetext is2.movetext is.laid (subst (λ ts. IsLaid style.width ts is2.movetext) tokens is2.laid) in
-    is.spells ∙ ap (λ head. head ++ 10 ∷ (is.movetext ++ 10 ∷ [])) heads ∙ ap (λ movetext. is2.head ++ 10 ∷ (movetext ++ 10 ∷ [])) movetexts ∙ sym is2.spells
+    one_text style.width is.tokens is.movetext is2.movetext is.laid
+    (subst (λ ts. IsLaid style.width ts is2.movetext) tokens is2.laid) in
+    is.spells ∙ ap (λ head. head ++ 10 ∷ (is.movetext ++ 10 ∷ [])) heads
+    ∙ ap (λ movetext. is2.head ++ 10 ∷ (movetext ++ 10 ∷ [])) movetexts ∙ sym is2.spells

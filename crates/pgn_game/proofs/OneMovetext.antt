@@ -1,46 +1,94 @@
 -- The lines of a game have one list of tokens at most.
-use Rattle.std.proofs.Common.{◌≡◌, ℕ, Bool, true, false, ◌&&◌, ◌||◌, List, [], ◌∷◌, ◌++◌, refl, sym, ap, ◌∙◌, subst}
+use Rattle.std.proofs.Common.{◌≡◌, ℕ, Bool, true, false, ◌&&◌, ◌||◌, List, [], ◌∷◌, ◌++◌, refl, sym}
+use Rattle.std.proofs.Common.{ap, ◌∙◌, subst}
 use Rattle.std.specs.Prelude.{codes, decimal}
 use Rattle.chess.specs.Public.Positions.{State}
 use Rattle.chess.proofs.SanOnce.{one_san}
-use Rattle.pgn_game.specs.Public.AllLines.{Line, LineEnd, ThenMove, ThenGlyph, ThenComment, ThenVariation, is_pass, after_turn}
+use Rattle.pgn_game.specs.Public.AllLines.{Line, LineEnd, ThenMove, ThenGlyph, ThenComment}
+use Rattle.pgn_game.specs.Public.AllLines.{ThenVariation, is_pass, after_turn}
 use Rattle.pgn_game.specs.Public.Comments.{comment_tokens}
-use Rattle.pgn_game.specs.Public.Exports.{number_tokens, IsTurnText, kept, AreTokens, MovetextHasOneList}
+use Rattle.pgn_game.specs.Public.Exports.{number_tokens, IsTurnText, kept, AreTokens}
+use Rattle.pgn_game.specs.Public.Exports.{MovetextHasOneList}
 use Rattle.pgn_game.specs.declared.exports.style.Style.{Style}
 use Rattle.pgn_game.specs.declared.turns.line_move.LineMove.{LineMove}
 use Rattle.pgn_game.specs.declared.turns.line_move.LineMove.TheVariants.{Played, Passed}
 use Rattle.pgn_game.proofs.OneLine.{one_turn}
 use Rattle.pgn_game.proofs.Spelling.{one_tree}
 
-one_turn_text : (now : State) (turn : LineMove) (text other : List ℕ) → IsTurnText now turn text → IsTurnText now turn other → text ≡ other
+one_turn_text : (now : State) (turn : LineMove) (text other : List ℕ) → IsTurnText now turn text
+    → IsTurnText now turn other → text ≡ other
 one_turn_text now (Played m) text other a b = one_san now m text other a b
 one_turn_text now Passed text other a b = a ∙ sym b
 
 -- what is left out may be anything
-same_kept : (shown : Bool) (own others : List (List ℕ)) → (shown ≡ true → own ≡ others) → kept shown (codes "(" ∷ own ++ codes ")" ∷ []) ≡ kept shown (codes "(" ∷ others ++ codes ")" ∷ [])
+same_kept : (shown : Bool) (own others : List (List ℕ)) → (shown ≡ true → own ≡ others)
+    → kept shown (codes "(" ∷ own ++ codes ")" ∷ [])
+    ≡ kept shown (codes "(" ∷ others ++ codes ")" ∷ [])
 same_kept true own others same = ap (λ ts. codes "(" ∷ ts ++ codes ")" ∷ []) (same refl)
 same_kept false own others same = refl
 
-one_list : (line : Line) (style : Style) (inside : Bool) (before now : State) (apart : Bool) (tokens others : List (List ℕ))
-    → AreTokens style inside before now apart line tokens → AreTokens style inside before now apart line others → tokens ≡ others
+one_list : (line : Line) (style : Style) (inside : Bool) (before now : State) (apart : Bool)
+    (tokens others : List (List ℕ))
+    → AreTokens style inside before now apart line tokens
+    → AreTokens style inside before now apart line others → tokens ≡ others
 one_list LineEnd style inside before now apart tokens others a b = a ∙ sym b
-one_list (ThenMove word line) style inside before now apart tokens others (turn, text, more, says, spells, is, rest) (turn2, text2, more2, says2, spells2, is2, rest2) =
+one_list (ThenMove word line) style inside before now apart tokens others (
+  turn,
+  text,
+  more,
+  says,
+  spells,
+  is,
+  rest,
+) (turn2, text2, more2, says2, spells2, is2, rest2) =
     let same : turn2 ≡ turn = one_turn (inside && is_pass word) now word turn2 turn says2 says in
-    let texts : text ≡ text2 = one_turn_text now turn text text2 spells (subst (λ t. IsTurnText now t text2) same spells2) in
-    let ends : more ≡ more2 = one_list line style inside now (after_turn now turn) false more more2 rest
+    let texts : text ≡ text2 =
+    one_turn_text now turn text text2 spells (subst (λ t. IsTurnText now t text2) same spells2)
+    in
+    let ends : more ≡ more2 =
+    one_list line style inside now (after_turn now turn) false more more2 rest
     (subst (λ t. AreTokens style inside now (after_turn now t) false line more2) same rest2) in
     is ∙ ap (λ t. number_tokens now.turn now.fullmove_number apart ++ t ∷ more) texts
     ∙ ap (λ ts. number_tokens now.turn now.fullmove_number apart ++ text2 ∷ ts) ends ∙ sym is2
-one_list (ThenGlyph number line) style inside before now apart tokens others (more, is, rest) (more2, is2, rest2) =
-    is ∙ ap (λ ts. kept style.glyphs ((36 ∷ decimal number) ∷ []) ++ ts) (one_list line style inside before now apart more more2 rest rest2) ∙ sym is2
-one_list (ThenComment text line) style inside before now apart tokens others (more, is, rest) (more2, is2, rest2) =
-    is ∙ ap (λ ts. kept style.comments (comment_tokens style.commands text) ++ ts) (one_list line style inside before now (apart || style.comments) more more2 rest rest2) ∙ sym is2
-one_list (ThenVariation inner line) style inside before now apart tokens others (own, more, is, within, rest) (own2, more2, is2, within2, rest2) =
-    is ∙ ap (λ ts. ts ++ more) (same_kept style.variations own own2 (λ shown. one_list inner style true before before true own own2 (within shown) (within2 shown)))
-    ∙ ap (λ ts. kept style.variations (codes "(" ∷ own2 ++ codes ")" ∷ []) ++ ts) (one_list line style inside before now (apart || style.variations) more more2 rest rest2)
+one_list (ThenGlyph number line) style inside before now apart tokens others (
+  more,
+  is,
+  rest,
+) (more2, is2, rest2) =
+    is ∙ ap (λ ts. kept style.glyphs ((36 ∷ decimal number) ∷ [])
+    ++ ts) (one_list line style inside before now apart more more2 rest rest2) ∙ sym is2
+one_list (ThenComment text line) style inside before now apart tokens others (
+  more,
+  is,
+  rest,
+) (more2, is2, rest2) =
+    is ∙ ap (λ ts. kept style.comments (comment_tokens style.commands text)
+    ++ ts) (one_list line style inside before now (apart
+    || style.comments) more more2 rest rest2) ∙ sym is2
+one_list (ThenVariation inner line) style inside before now apart tokens others (
+  own,
+  more,
+  is,
+  within,
+  rest,
+) (own2, more2, is2, within2, rest2) =
+    is ∙ ap (λ ts. ts
+    ++ more) (same_kept style.variations own own2 (λ shown.
+    one_list inner style true before before true own own2 (within shown) (within2 shown)))
+    ∙ ap (λ ts. kept style.variations (codes "(" ∷ own2 ++ codes ")" ∷ [])
+    ++ ts) (one_list line style inside before now (apart
+    || style.variations) more more2 rest rest2)
     ∙ sym is2
 
 pub one_movetext : MovetextHasOneList
-one_movetext style start items result tokens others (line, own, is, are, all) (line2, own2, is2, are2, all2) =
+one_movetext style start items result tokens others (line, own, is, are, all) (
+  line2,
+  own2,
+  is2,
+  are2,
+  all2,
+) =
     let same : line2 ≡ line = one_tree line2 line (sym is2 ∙ is) in
-    all ∙ ap (λ ts. ts ++ result ∷ []) (one_list line style false start start true own own2 are (subst (λ l. AreTokens style false start start true l own2) same are2)) ∙ sym all2
+    all ∙ ap (λ ts. ts ++ result
+    ∷ []) (one_list line style false start start true own own2 are
+    (subst (λ l. AreTokens style false start start true l own2) same are2)) ∙ sym all2

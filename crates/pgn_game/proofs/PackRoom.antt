@@ -1,7 +1,11 @@
--- The record of a game of a block is no larger than the largest: a tag takes at least half of its bytes of a text, and a ply likewise.
-use Rattle.std.proofs.Common.{◌≡◌, ℕ, ◌+◌, ◌*◌, ◌≤◌, ◌==◌, Bool, true, false, List, [], ◌∷◌, ◌++◌, length, Option, Some, None, refl, sym, ap, subst, ◌∙◌, arith, inl, inr}
+-- The record of a game of a block is no larger than the largest: a tag takes at least half of its
+-- bytes of a text, and a ply likewise.
+use Rattle.std.proofs.Common.{◌≡◌, ℕ, ◌+◌, ◌*◌, ◌≤◌, ◌==◌, Bool, true, false, List, [], ◌∷◌, ◌++◌}
+use Rattle.std.proofs.Common.{length, Option, Some, None, refl, sym, ap, subst, ◌∙◌, arith, inl}
+use Rattle.std.proofs.Common.{inr}
 use Rattle.std.specs.Prelude.{IfSome, bytes_eq, if◌then◌else◌}
-use Rattle.std.specs.FinMap.{FinMap, empty, entries, entries_sorted, get, insert, get-empty, get-entries, get-insert, entries-insert, len-empty, len-entries}
+use Rattle.std.specs.FinMap.{FinMap, empty, entries, entries_sorted, get, insert, get-empty}
+use Rattle.std.specs.FinMap.{get-entries, get-insert, entries-insert, len-empty, len-entries}
 use Rattle.std.specs.FinMap.Entries.{by_order, put}
 use Rattle.std.specs.Cmp.Lexicographic.{slice_cmp}
 use Rattle.std.specs.List.Sorted.{IsStrictlySortedBy}
@@ -15,13 +19,18 @@ use Rattle.std.proofs.lemmas.Option.{same_Some}
 use Rattle.chess.specs.Public.Letters.{square_text}
 use Rattle.chess.specs.Public.Moves.{after}
 use Rattle.chess.specs.Public.Positions.{State}
-use Rattle.chess.specs.Public.San.{IsNamed, Spells, Said, IsCastlingText, letter_text, file_text, rank_text, promotion_text}
+use Rattle.chess.specs.Public.San.{IsNamed, Spells, Said, IsCastlingText, letter_text, file_text}
+use Rattle.chess.specs.Public.San.{rank_text, promotion_text}
 use Rattle.chess.specs.declared.board.man.Wing.{Wing}
 use Rattle.chess.specs.declared.board.man.Wing.TheVariants.{KingSide, QueenSide}
 use Rattle.chess.specs.declared.moves.Move.{Move}
 use Rattle.pgn_text.specs.Public.GameTexts.{GameText, IsGameText, IsResult, ShowsGame, tag_names}
-use Rattle.pgn_text.specs.Public.Games.{Item, MoveText, GlyphNumber, CommentText, VariationOpen, VariationClose, is_move_text, glyphs_of_marks, items_of, items_of_part, first_tag}
-use Rattle.pgn_text.specs.Public.Parts.{Part, ByteOrderMark, White, Brace, Line, EscapeLine, Tag, Word, Star, Dot, Glyph, Marks, Open, Close, spelled, spelled_part}
+use Rattle.pgn_text.specs.Public.Games.{Item, MoveText, GlyphNumber, CommentText, VariationOpen}
+use Rattle.pgn_text.specs.Public.Games.{VariationClose, is_move_text, glyphs_of_marks, items_of}
+use Rattle.pgn_text.specs.Public.Games.{items_of_part, first_tag}
+use Rattle.pgn_text.specs.Public.Parts.{Part, ByteOrderMark, White, Brace, Line, EscapeLine, Tag}
+use Rattle.pgn_text.specs.Public.Parts.{Word, Star, Dot, Glyph, Marks, Open, Close, spelled}
+use Rattle.pgn_text.specs.Public.Parts.{spelled_part}
 use Rattle.pgn_text.proofs.ShownOnce.{same_tags}
 use Rattle.pgn_text.proofs.SortedTags.{name_cmp, names_of_sorted, find-tag_in}
 use Rattle.pgn_game.specs.Public.Laws.{GameOfABlockFits}
@@ -54,14 +63,18 @@ moves_size-append (CommentText text ∷ xs) ys = moves_size-append xs ys
 moves_size-append (VariationOpen ∷ xs) ys = moves_size-append xs ys
 moves_size-append (VariationClose ∷ xs) ys = moves_size-append xs ys
 
-or_none : (word : List ℕ) (words : List (List ℕ)) (size : ℕ) (stands : Bool) → words_size words ≤ size → words_size (if stands then word ∷ words else words) ≤ length word + size
+or_none : (word : List ℕ) (words : List (List ℕ)) (size : ℕ) (stands : Bool)
+    → words_size words ≤ size → words_size (if stands then word ∷ words else words)
+    ≤ length word + size
 or_none word words size true within = omega arith
 or_none word words size false within = omega arith
 
 -- those of the main line are among them
-main_within : (items : List Item) (depth : ℕ) → words_size (main_words items depth) ≤ moves_size items
+main_within : (items : List Item) (depth : ℕ)
+    → words_size (main_words items depth) ≤ moves_size items
 main_within [] depth = omega arith
-main_within (MoveText word ∷ items) depth = or_none word (main_words items depth) (moves_size items) (depth == 0) (main_within items depth)
+main_within (MoveText word ∷ items) depth =
+    or_none word (main_words items depth) (moves_size items) (depth == 0) (main_within items depth)
 main_within (GlyphNumber number ∷ items) depth = main_within items depth
 main_within (CommentText text ∷ items) depth = main_within items depth
 main_within (VariationOpen ∷ items) depth = main_within items _
@@ -77,11 +90,24 @@ castling_long QueenSide x (marks, are, inr zeros) = omega (arith, ap length zero
 -- and any other text of a move has the two of its target
 target_within : (a b c d e f : List ℕ) → length e ≤ length (a ++ (b ++ (c ++ (d ++ (e ++ f)))))
 target_within a b c d e f =
-    omega (arith, length-append a (b ++ (c ++ (d ++ (e ++ f)))), length-append b (c ++ (d ++ (e ++ f))), length-append c (d ++ (e ++ f)), length-append d (e ++ f), length-append e f)
+    omega (
+      arith,
+      length-append a (b ++ (c ++ (d ++ (e ++ f)))),
+      length-append b (c ++ (d ++ (e ++ f))),
+      length-append c (d ++ (e ++ f)),
+      length-append d (e ++ f),
+      length-append e f,
+    )
 
 said_long : (said : Said) (x : List ℕ) → Spells x said → 2 ≤ length x
 said_long said x spells =
-    omega (arith, ap length spells.text, target_within (letter_text said.letter) (file_text said.file) (rank_text said.rank) spells.sign (square_text said.target) (promotion_text spells.equals said.promote ++ spells.marks))
+    omega (
+      arith,
+      ap length spells.text,
+      target_within (letter_text said.letter) (file_text said.file) (rank_text said.rank)
+          spells.sign (square_text said.target) (promotion_text spells.equals said.promote
+          ++ spells.marks),
+    )
 
 named_long : (P : State) (x : List ℕ) (m : Move) → IsNamed P x m → 2 ≤ length x
 named_long P x m named =
@@ -91,11 +117,25 @@ named_long P x m named =
     ]
 
 -- so three bytes for each ply are at most twice the words
-line_within : (start : State) (words : List (List ℕ)) (positions : List State) (played : List Move) → IsMainLine start words positions played
+line_within : (start : State) (words : List (List ℕ)) (positions : List State) (played : List Move)
+    → IsMainLine start words positions played
     → 3 * length played ≤ 2 * words_size words
 line_within start [] positions played line = omega (arith, ap length line.1)
-line_within start (word ∷ words) positions played (m, later, more, positions_is, played_is, named, rest) =
-    omega (arith, ap length played_is, named_long start word m named.named, line_within (after start m) words later more rest)
+line_within start (word ∷ words) positions played (
+  m,
+  later,
+  more,
+  positions_is,
+  played_is,
+  named,
+  rest,
+) =
+    omega (
+      arith,
+      ap length played_is,
+      named_long start word m named.named,
+      line_within (after start m) words later more rest,
+    )
 
 -- ---- tags
 
@@ -104,23 +144,30 @@ no_tags [] none = refl
 no_tags (tag ∷ tags) none = absurd (omega arith)
 
 -- one more tag, in its place
-put_within : (name contents : List ℕ) (tags : List NamedTag) → tags_size (put name_cmp name contents tags) ≤ 8 + length name + length contents + tags_size tags
+put_within : (name contents : List ℕ) (tags : List NamedTag)
+    → tags_size (put name_cmp name contents tags)
+    ≤ 8 + length name + length contents + tags_size tags
 put_within name contents [] = omega arith
 put_within name contents (tag ∷ tags) =
-    elim (name_cmp name tag.0) as (λ o. tags_size (by_order o ((name, contents) ∷ tag ∷ tags) ((tag.0, contents) ∷ tags) (tag ∷ put name_cmp name contents tags)) ≤ 8 + length name + length contents + tags_size (tag ∷ tags)) [
+    elim (name_cmp name tag.0) as (λ o.
+    tags_size (by_order o ((name, contents) ∷ tag ∷ tags) ((tag.0, contents) ∷ tags) (tag
+    ∷ put name_cmp name contents tags)) ≤ 8 + length name + length contents
+    + tags_size (tag ∷ tags)) [
       | Less ↦ omega arith
       | Equal ↦ omega arith
       | Greater ↦ omega (arith, put_within name contents tags)
     ]
 
--- the first tag of each name among these parts, and with the words of their moves they take at most twice the bytes of the parts
+-- the first tag of each name among these parts, and with the words of their moves they take at most
+-- twice the bytes of the parts
 record HasRoom (parts : List Part) : Type 0 where
   tags : FinMap name_cmp (List ℕ)
   found : (wanted : List ℕ) → get tags wanted ≡ first_tag wanted parts
   within : tags_size (entries tags) + 2 * moves_size (items_of parts) ≤ 2 * length (spelled parts)
 
 -- one more part that is no tag
-beside : (part : Part) (more : List Part) → HasRoom more → ((wanted : List ℕ) → first_tag wanted (part ∷ more) ≡ first_tag wanted more)
+beside : (part : Part) (more : List Part) → HasRoom more
+    → ((wanted : List ℕ) → first_tag wanted (part ∷ more) ≡ first_tag wanted more)
     → moves_size (items_of_part part) ≤ length (spelled_part part) → HasRoom (part ∷ more)
 beside part more room same fits = record {
   tags = room.tags;
@@ -140,12 +187,14 @@ glyphs_within [] = refl
 glyphs_within (mark ∷ []) = refl
 glyphs_within (first ∷ second ∷ more) = glyphs_within more
 
-word_within : (text : List ℕ) (moves : Bool) → moves_size (if moves then MoveText text ∷ [] else []) ≤ length text
+word_within : (text : List ℕ) (moves : Bool)
+    → moves_size (if moves then MoveText text ∷ [] else []) ≤ length text
 word_within text true = omega arith
 word_within text false = omega arith
 
 tag_long : (first name second contents third : List ℕ)
-    → 4 + length name + length contents ≤ length (spelled_part (Tag first name second contents third))
+    → 4 + length name + length contents
+    ≤ length (spelled_part (Tag first name second contents third))
 tag_long first name second contents third =
     omega (
       arith,
@@ -158,14 +207,24 @@ tag_long first name second contents third =
 
 room : (parts : List Part) → HasRoom parts
 room [] =
-    let none = no_tags (entries (empty {R = name_cmp})) (sym (len-entries (empty {R = name_cmp})) ∙ len-empty name_cmp (List ℕ)) in
-    record { tags = empty; found = λ wanted. get-empty name_cmp wanted; within = omega (arith, none) }
+    let none =
+    no_tags (entries (empty {R = name_cmp})) (sym (len-entries (empty {R = name_cmp}))
+    ∙ len-empty name_cmp (List ℕ)) in
+    record {
+      tags = empty;
+      found = λ wanted. get-empty name_cmp wanted;
+      within =
+          omega (arith, none);
+    }
 room (Tag first name second contents third ∷ more) =
     let later = room more in record {
       tags = insert later.tags name contents;
       found = λ wanted. get-insert nat_list_cmp_total later.tags name contents wanted
-          ∙ ap (λ (b : Bool). if b then Some contents else get later.tags wanted) (is_eq-slice_cmp wanted name ∙ nat_list_eq_equiv.symm wanted name)
-          ∙ ap (λ (o : Option (List ℕ)). if bytes_eq name wanted then Some contents else o) (later.found wanted);
+          ∙ ap (λ (b : Bool). if b then Some contents
+          else get later.tags wanted) (is_eq-slice_cmp wanted name
+          ∙ nat_list_eq_equiv.symm wanted name)
+          ∙ ap (λ (o : Option (List ℕ)). if bytes_eq name wanted then Some contents
+          else o) (later.found wanted);
       within = omega (
         arith,
         later.within,
@@ -181,23 +240,30 @@ room (ByteOrderMark ∷ more) = beside ByteOrderMark more (room more) (λ wanted
 room (White b ∷ more) = beside (White b) more (room more) (λ wanted. refl) (omega arith)
 room (Brace text ∷ more) = beside (Brace text) more (room more) (λ wanted. refl) (omega arith)
 room (Line text ∷ more) = beside (Line text) more (room more) (λ wanted. refl) (omega arith)
-room (EscapeLine text ∷ more) = beside (EscapeLine text) more (room more) (λ wanted. refl) (omega arith)
-room (Word text ∷ more) = beside (Word text) more (room more) (λ wanted. refl) (word_within text (is_move_text text))
+room (EscapeLine text ∷ more) =
+    beside (EscapeLine text) more (room more) (λ wanted. refl) (omega arith)
+room (Word text ∷ more) =
+    beside (Word text) more (room more) (λ wanted. refl) (word_within text (is_move_text text))
 room (Star ∷ more) = beside Star more (room more) (λ wanted. refl) (omega arith)
 room (Dot ∷ more) = beside Dot more (room more) (λ wanted. refl) (omega arith)
 room (Glyph digits ∷ more) = beside (Glyph digits) more (room more) (λ wanted. refl) (omega arith)
-room (Marks marks ∷ more) = beside (Marks marks) more (room more) (λ wanted. refl) (omega (arith, glyphs_within marks))
+room (Marks marks ∷ more) =
+    beside (Marks marks) more (room more) (λ wanted. refl) (omega (arith, glyphs_within marks))
 room (Open ∷ more) = beside Open more (room more) (λ wanted. refl) (omega arith)
 room (Close ∷ more) = beside Close more (room more) (λ wanted. refl) (omega arith)
 
 -- a game's tags and three bytes for each ply of its main line are at most twice its bytes
-game_room : (game : GameText) (parts : List Part) (start : State) (positions : List State) (played : List Move) → IsGameText game → ShowsGame game game.at parts
-    → IsMainLine start (main_words game.elements 0) positions played → tags_size game.tags + 3 * length played ≤ 2 * length game.text
+game_room : (game : GameText) (parts : List Part) (start : State) (positions : List State)
+    (played : List Move) → IsGameText game → ShowsGame game game.at parts
+    → IsMainLine start (main_words game.elements 0) positions played
+    → tags_size game.tags + 3 * length played ≤ 2 * length game.text
 game_room game parts start positions played is shows line =
     let own = room parts in
     let sorted = names_of_sorted (entries own.tags) (entries_sorted own.tags) in
     let tags : game.tags ≡ entries own.tags =
-    same_tags game.tags (entries own.tags) is.ordered sorted (λ wanted. shows.tags wanted ∙ sym (own.found wanted) ∙ get-entries own.tags wanted ∙ find-tag_in wanted (entries own.tags)) in
+    same_tags game.tags (entries own.tags) is.ordered sorted (λ wanted. shows.tags wanted
+    ∙ sym (own.found wanted) ∙ get-entries own.tags wanted
+    ∙ find-tag_in wanted (entries own.tags)) in
     omega (
       arith,
       own.within,
@@ -208,15 +274,22 @@ game_room game parts start positions played is shows line =
       ap length shows.text,
     )
 
-name_within : (name : Option (List ℕ)) → IfSome name (λ own. length own ≤ longest_name) → name_size name ≤ 4 + longest_name
+name_within : (name : Option (List ℕ)) → IfSome name (λ own. length own ≤ longest_name)
+    → name_size name ≤ 4 + longest_name
 name_within None short = omega arith
 name_within (Some own) short = omega arith
 
 pub game_fits : GameOfABlockFits
-game_fits name number offset game parts replay packed is shows small replays is_packed short number_fits offset_fits origin =
-    let begins = same_Some is_packed.start replays.start (sym is_packed.first ∙ line_head replays.start (main_words game.elements 0) replay.positions replay.played replays.line) in
-    let codes : AreCodes replays.start replay.played packed.plies = subst (λ (P : State). AreCodes P replay.played packed.plies) begins is_packed.plies in
-    record_fits packed replays.start (main_words game.elements 0) replay.positions replay.played (omega (arith, is_packed.number)) (omega (arith, is_packed.offset))
+game_fits name number offset game parts replay packed is shows small replays is_packed short
+    number_fits offset_fits origin =
+    let begins =
+    same_Some is_packed.start replays.start (sym is_packed.first
+    ∙ line_head replays.start (main_words game.elements 0) replay.positions replay.played
+    replays.line) in
+    let codes : AreCodes replays.start replay.played packed.plies =
+    subst (λ (P : State). AreCodes P replay.played packed.plies) begins is_packed.plies in
+    record_fits packed replays.start (main_words game.elements 0) replay.positions replay.played
+    (omega (arith, is_packed.number)) (omega (arith, is_packed.offset))
     (subst IsResult (sym is_packed.result) is.ends) replays.line codes
     (omega (
       arith,
@@ -226,5 +299,6 @@ game_fits name number offset game parts replay packed is shows small replays is_
       codes_count replays.start replay.played packed.plies codes,
       game_room game parts replays.start replay.positions replay.played is shows replays.line,
     ))
-    (subst (λ (tags : List NamedTag). IsStrictlySortedBy (slice_cmp nat_cmp) (tag_names tags)) (sym is_packed.tags) is.ordered)
+    (subst (λ (tags : List NamedTag).
+    IsStrictlySortedBy (slice_cmp nat_cmp) (tag_names tags)) (sym is_packed.tags) is.ordered)
     (rw (is_packed.number, is_packed.offset, is_packed.name) origin)

@@ -16,13 +16,19 @@ use Rattle.chess.specs.declared.moves.Move.{Move}
 use Rattle.pgn_text.specs.Public.GameTexts.{tag_names}
 use Rattle.pgn_text.specs.Public.Limits.{largest_offset}
 use Rattle.pgn_game.specs.Public.CodeLines.{AreLegalMoves, positions_from}
-use Rattle.pgn_game.specs.Public.PackReading.{and_then, number_at, text_at, name_at, tag_at, follows}
+use Rattle.pgn_game.specs.Public.PackReading.{and_then, number_at, text_at, name_at, tag_at}
+use Rattle.pgn_game.specs.Public.PackReading.{follows}
 use Rattle.pgn_game.specs.Public.PackReading.{next_tag, after_tags, body_at}
 use Rattle.pgn_game.specs.Public.PackStreams.{Window, HasNoRecord, PassesOn, BreaksOff, IsPastEnd}
-use Rattle.pgn_game.specs.Public.PackedGames.{Tag, PackedGame, FitsRecord, FitsTag, record_bytes, with_length, tag_bytes, named_number, name_bytes, tail_bytes, body_bytes, name_size, tags_size, is_origin}
+use Rattle.pgn_game.specs.Public.PackedGames.{Tag, PackedGame, FitsRecord, FitsTag, record_bytes}
+use Rattle.pgn_game.specs.Public.PackedGames.{with_length, tag_bytes, named_number, name_bytes}
+use Rattle.pgn_game.specs.Public.PackedGames.{tail_bytes, body_bytes, name_size, tags_size}
+use Rattle.pgn_game.specs.Public.PackedGames.{is_origin}
 use Rattle.pgn_game.specs.Public.PackedGames.{begins_control, is_shown, is_shown_name}
-use Rattle.pgn_game.specs.Public.PlyCodes.{PlyCode, AreCodes, bit, marks_number, kind_number, side_number, castle_number, man_number, numbered_kind}
-use Rattle.pgn_game.specs.declared.pack.error.RecordError.TheVariants.{CutShort, TagOrder, PartOfPly, NoOrigin}
+use Rattle.pgn_game.specs.Public.PlyCodes.{PlyCode, AreCodes, bit, marks_number, kind_number}
+use Rattle.pgn_game.specs.Public.PlyCodes.{side_number, castle_number, man_number, numbered_kind}
+use Rattle.pgn_game.specs.declared.pack.error.RecordError.TheVariants.{CutShort, TagOrder}
+use Rattle.pgn_game.specs.declared.pack.error.RecordError.TheVariants.{PartOfPly, NoOrigin}
 
 -- Codes.
 
@@ -212,7 +218,8 @@ no_record_with_a_tag_twice : (game : PackedGame) → game.tags ≡ one_tag ∷ o
     → FitsRecord game → ⊥
 unfolding IsStrictlySortedBy
 no_record_with_a_tag_twice game twice fits =
-    let sorted = subst (λ (tags : List Tag). IsStrictlySortedBy (slice_cmp nat_cmp) (tag_names tags))
+    let sorted =
+    subst (λ (tags : List Tag). IsStrictlySortedBy (slice_cmp nat_cmp) (tag_names tags))
     twice fits.ordered in
     let below : slice_cmp nat_cmp (codes "A") (codes "A") ≡ Less = sorted.0.0 in
     cc

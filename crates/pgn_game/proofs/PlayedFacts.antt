@@ -1,5 +1,6 @@
 -- A main line that is played ply by ply: what one element of its game does.
-use Rattle.std.proofs.Common.{◌≡◌, ◌+◌, ◌-◌, ◌<◌, ◌≤◌, true, false, List, [], ◌∷◌, length, get_or, take, drop, map, sym, subst, ap, ◌∙◌, arith}
+use Rattle.std.proofs.Common.{◌≡◌, ◌+◌, ◌-◌, ◌<◌, ◌≤◌, true, false, List, [], ◌∷◌, length, get_or}
+use Rattle.std.proofs.Common.{take, drop, map, sym, subst, ap, ◌∙◌, arith}
 use Rattle.std.specs.Prelude.{Option, Some, None}
 use Rattle.std.specs.Option.{is_some}
 use Rattle.std.proofs.lemmas.List.{take_all}
@@ -15,19 +16,25 @@ use Rattle.pgn_game.specs.declared.replays.main_line.MainWalk.{MainWalk}
 use Rattle.pgn_game.proofs.WalkFacts.{items_step}
 
 -- the elements after the first
-after_first : (rest : List Element) → 1 ≤ length rest → take (length rest - 1) (drop 1 rest) ≡ drop 1 rest
+after_first : (rest : List Element) → 1 ≤ length rest
+    → take (length rest - 1) (drop 1 rest) ≡ drop 1 rest
 after_first [] some = absurd (omega arith)
 after_first (first ∷ more) some = take_all (length (first ∷ more) - 1) more (omega arith)
 
 first_item : (rest : List Element) (d : Element) → 1 ≤ length rest
-    → map item_of rest ≡ item_of (get_or rest 0 d) ∷ map item_of (take (length rest - 1) (drop 1 rest))
+    → map item_of rest ≡ item_of (get_or rest 0 d)
+    ∷ map item_of (take (length rest - 1) (drop 1 rest))
 first_item rest d some =
-    items_step rest 0 d (omega arith) ∙ ap (λ xs. item_of (get_or rest 0 d) ∷ map item_of xs) (sym (after_first rest some))
+    items_step rest 0 d (omega arith)
+    ∙ ap (λ xs. item_of (get_or rest 0 d) ∷ map item_of xs) (sym (after_first rest some))
 
-module _ (old new : MainWalk) (entry : PlayedLine) (rest : List Element) (d : Element) (some : 1 ≤ length rest)
-    (words : main_words (map item_of rest) old.depth ≡ entry.words) (position : old.position ≡ entry.position) (plies : old.plies ≡ entry.plies) where
+module _ (old new : MainWalk) (entry : PlayedLine) (rest : List Element) (d : Element) (some : 1
+    ≤ length rest)
+    (words : main_words (map item_of rest) old.depth ≡ entry.words) (position : old.position
+    ≡ entry.position) (plies : old.plies ≡ entry.plies) where
   -- a move of the main line
-  pub plays_word : (answer : Option Move) → HasStepped old new (item_of (get_or rest 0 d)) answer → is_some answer ≡ true
+  pub plays_word : (answer : Option Move) → HasStepped old new (item_of (get_or rest 0 d)) answer
+      → is_some answer ≡ true
       → PlaysWord entry (record {
         position = new.position;
         plies = new.plies;
@@ -37,31 +44,43 @@ module _ (old new : MainWalk) (entry : PlayedLine) (rest : List Element) (d : El
   plays_word (Some m) stepped is = record {
     word = stepped.word;
     m = m;
-    words = sym words ∙ ap (λ items. main_words items old.depth) (first_item rest d some) ∙ stepped.words (map item_of (take (length rest - 1) (drop 1 rest)));
+    words = sym words ∙ ap (λ items. main_words items old.depth) (first_item rest d some)
+        ∙ stepped.words (map item_of (take (length rest - 1) (drop 1 rest)));
     named = subst (λ s. IsOnlyNamed s stepped.word m) position stepped.named;
     position = stepped.position ∙ ap (λ s. after s m) position;
     plies = stepped.plies ∙ ap (λ n. n + 1) plies;
   }
 
   -- any other element
-  pub passes_words : (answer : Option Move) → HasStepped old new (item_of (get_or rest 0 d)) answer → is_some answer ≡ false
+  pub passes_words : (answer : Option Move) → HasStepped old new (item_of (get_or rest 0 d)) answer
+      → is_some answer ≡ false
       → main_words (map item_of (take (length rest - 1) (drop 1 rest))) new.depth ≡ entry.words
   passes_words (Some m) stepped is = absurd (cc)
   passes_words None stepped is =
-      sym (stepped.words (map item_of (take (length rest - 1) (drop 1 rest)))) ∙ ap (λ items. main_words items old.depth) (sym (first_item rest d some)) ∙ words
+      sym (stepped.words (map item_of (take (length rest - 1) (drop 1 rest))))
+      ∙ ap (λ items. main_words items old.depth) (sym (first_item rest d some)) ∙ words
 
-  pub passes_position : (answer : Option Move) → HasStepped old new (item_of (get_or rest 0 d)) answer → is_some answer ≡ false → new.position ≡ entry.position
+  pub passes_position : (answer : Option Move)
+      → HasStepped old new (item_of (get_or rest 0 d)) answer → is_some answer ≡ false
+      → new.position ≡ entry.position
   passes_position (Some m) stepped is = absurd (cc)
   passes_position None stepped is = stepped.position ∙ position
 
-  pub passes_plies : (answer : Option Move) → HasStepped old new (item_of (get_or rest 0 d)) answer → is_some answer ≡ false → new.plies ≡ entry.plies
+  pub passes_plies : (answer : Option Move) → HasStepped old new (item_of (get_or rest 0 d)) answer
+      → is_some answer ≡ false → new.plies ≡ entry.plies
   passes_plies (Some m) stepped is = absurd (cc)
   passes_plies None stepped is = stepped.plies ∙ plies
 
 -- after the last
-pub has_ended : (walk : MainWalk) (rest : List Element) (entry : PlayedLine) → length rest < 1 → main_words (map item_of rest) walk.depth ≡ entry.words
+pub has_ended : (walk : MainWalk) (rest : List Element) (entry : PlayedLine) → length rest < 1
+    → main_words (map item_of rest) walk.depth ≡ entry.words
     → walk.position ≡ entry.position → walk.plies ≡ entry.plies
-    → HasEnded entry (record { position = walk.position; plies = walk.plies; words = main_words (map item_of rest) walk.depth })
+    → HasEnded entry (record {
+      position = walk.position;
+      plies = walk.plies;
+      words =
+          main_words (map item_of rest) walk.depth;
+    })
 has_ended walk [] entry none words position plies = record {
   words = sym words;
   same = λ i. record { position = position i; plies = plies i; words = words i };

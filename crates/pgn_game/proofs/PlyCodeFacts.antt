@@ -1,5 +1,8 @@
--- The men moved by the code of a move are the men after it; three bytes spell one code, and each three bytes do.
-use Rattle.std.proofs.Common.{◌≡◌, ◌↔◌, ℕ, zero, suc, ◌+◌, ◌*◌, ◌/◌, ◌%◌, ◌<◌, ◌==◌, ltb, Bool, true, false, cond, List, [], ◌∷◌, Option, Some, None, IfSome, refl, sym, ap, subst, ◌∙◌, arith}
+-- The men moved by the code of a move are the men after it; three bytes spell one code, and each
+-- three bytes do.
+use Rattle.std.proofs.Common.{◌≡◌, ◌↔◌, ℕ, zero, suc, ◌+◌, ◌*◌, ◌/◌, ◌%◌, ◌<◌, ◌==◌, ltb, Bool}
+use Rattle.std.proofs.Common.{true, false, cond, List, [], ◌∷◌, Option, Some, None, IfSome, refl}
+use Rattle.std.proofs.Common.{sym, ap, subst, ◌∙◌, arith}
 use Rattle.std.proofs.lemmas.Option.{same_Some, none-some}
 use Rattle.chess.specs.Public.Squares.{Place, IsOnBoard, square_at, index_of}
 use Rattle.chess.specs.Shared.SquareFacts.{index_of-square_at}
@@ -15,19 +18,26 @@ use Rattle.chess.specs.declared.board.man.Kind.TheVariants.{King, Queen, Rook, B
 use Rattle.chess.specs.declared.board.man.Wing.{Wing}
 use Rattle.chess.specs.declared.board.man.Wing.TheVariants.{KingSide, QueenSide}
 use Rattle.chess.specs.declared.moves.Move.{Move}
-use Rattle.pgn_game.specs.Public.Laws.{MoveHasOneCode, CodeOfAMoveFits, CodeMovesAsItsMove, GameHasOneRecord}
-use Rattle.pgn_game.specs.Public.PlyCodes.{PlyCode, AreMarks, IsCode, AreCodes, FitsCode, bit, marks_number, man_number, numbered_kind, numbered_man, numbered_castle, code_bytes, code_of}
+use Rattle.pgn_game.specs.Public.Laws.{MoveHasOneCode, CodeOfAMoveFits, CodeMovesAsItsMove}
+use Rattle.pgn_game.specs.Public.Laws.{GameHasOneRecord}
+use Rattle.pgn_game.specs.Public.PlyCodes.{PlyCode, AreMarks, IsCode, AreCodes, FitsCode, bit}
+use Rattle.pgn_game.specs.Public.PlyCodes.{marks_number, man_number, numbered_kind, numbered_man}
+use Rattle.pgn_game.specs.Public.PlyCodes.{numbered_castle, code_bytes, code_of}
 
 -- the man that arrives is one of the side to move
-arrives_own : (P : State) (m : Move) (man : Man) (promote : Option Kind) → IsPseudoLegal P m → arriving P promote m.from ≡ Some man → man.side ≡ P.turn
-arrives_own P m man None legal e = ap (λ (x : Man). x.side) (same_Some man legal.man (sym e ∙ legal.here)) ∙ legal.own
-arrives_own P m man (Some kind) legal e = ap (λ (x : Man). x.side) (same_Some man (record { side = P.turn; kind = kind }) (sym e))
+arrives_own : (P : State) (m : Move) (man : Man) (promote : Option Kind) → IsPseudoLegal P m
+    → arriving P promote m.from ≡ Some man → man.side ≡ P.turn
+arrives_own P m man None legal e =
+    ap (λ (x : Man). x.side) (same_Some man legal.man (sym e ∙ legal.here)) ∙ legal.own
+arrives_own P m man (Some kind) legal e =
+    ap (λ (x : Man). x.side) (same_Some man (record { side = P.turn; kind = kind }) (sym e))
 
 -- the men moved by the code of a move are those of the position after it
 pub moved_after : CodeMovesAsItsMove
 moved_after P m c legal code =
     let left : Placement = with_man (with_man P.men c.taken None) c.from None in
-    ap (λ (side : Side). with_rook side c.castle (with_man left c.to (Some c.man))) (arrives_own P m c.man m.promote legal code.man)
+    ap (λ (side : Side). with_rook side c.castle (with_man left c.to (Some c.man)))
+    (arrives_own P m c.man m.promote legal code.man)
     ∙ ap (λ (x : Option Man). with_rook P.turn c.castle (with_man left c.to x)) (sym code.man)
     ∙ rw (code.from, code.to, code.taken, code.castle) refl
 
@@ -42,16 +52,33 @@ marks_agree false false p q = refl
 -- a move has one code at most
 pub one_code_of_a_move : MoveHasOneCode
 one_code_of_a_move P m c other own also =
-    let from = own.from ∙ sym also.from in let to = own.to ∙ sym also.to in let taken = own.taken ∙ sym also.taken in
+    let from = own.from ∙ sym also.from in let to = own.to ∙ sym also.to in let taken =
+    own.taken ∙ sym also.taken in
     let man = same_Some c.man other.man (sym own.man ∙ also.man) in
     let castle = own.castle ∙ sym also.castle in
     let check = marks_agree c.check other.check own.marks.check also.marks.check in
     let stuck = marks_agree c.stuck other.stuck own.marks.stuck also.marks.stuck in
-    λ i. record { from = from i; to = to i; taken = taken i; man = man i; castle = castle i; check = check i; stuck = stuck i }
+    λ i. record {
+      from = from i;
+      to = to i;
+      taken = taken i;
+      man = man i;
+      castle = castle i;
+      check =
+          check i;
+      stuck = stuck i;
+    }
 
-codes_same : (P : State) (moves : List Move) (codes others : List PlyCode) → AreCodes P moves codes → AreCodes P moves others → codes ≡ others
+codes_same : (P : State) (moves : List Move) (codes others : List PlyCode) → AreCodes P moves codes
+    → AreCodes P moves others → codes ≡ others
 codes_same P [] codes others own also = own ∙ sym also
-codes_same P (m ∷ moves) codes others (c, more, is, is_code, are) (d, rest, is_too, is_code_too, are_too) =
+codes_same P (m ∷ moves) codes others (c, more, is, is_code, are) (
+  d,
+  rest,
+  is_too,
+  is_code_too,
+  are_too,
+) =
     let first = one_code_of_a_move P m c d is_code is_code_too in
     let later = codes_same (after P m) moves more rest are are_too in
     is ∙ (λ i. first i ∷ later i) ∙ sym is_too
@@ -59,21 +86,35 @@ codes_same P (m ∷ moves) codes others (c, more, is, is_code, are) (d, rest, is
 -- a replayed game has one record at most
 pub one_record_of_a_game : GameHasOneRecord
 one_record_of_a_game its_name its_number its_offset game replay packed other own also =
-    let number = own.number ∙ sym also.number in let offset = own.offset ∙ sym also.offset in let tags = own.tags ∙ sym also.tags in
+    let number = own.number ∙ sym also.number in let offset = own.offset ∙ sym also.offset in
+    let tags = own.tags ∙ sym also.tags in
     let name = own.name ∙ sym also.name in let result = own.result ∙ sym also.result in
     let start = same_Some also.start own.start (sym also.first ∙ own.first) in
     let marks = subst (λ (P : State). AreMarks P other.check other.stuck) start also.marks in
     let check = marks_agree packed.check other.check own.marks.check marks.check in
     let stuck = marks_agree packed.stuck other.stuck own.marks.stuck marks.stuck in
-    let plies = codes_same own.start replay.played packed.plies other.plies own.plies (subst (λ (P : State). AreCodes P replay.played other.plies) start also.plies) in
-    λ i. record { number = number i; offset = offset i; name = name i; tags = tags i; result = result i; check = check i; stuck = stuck i; plies = plies i }
+    let plies =
+    codes_same own.start replay.played packed.plies other.plies own.plies
+    (subst (λ (P : State). AreCodes P replay.played other.plies) start also.plies) in
+    λ i. record {
+      number = number i;
+      offset = offset i;
+      name = name i;
+      tags = tags i;
+      result =
+          result i;
+      check = check i;
+      stuck = stuck i;
+      plies = plies i;
+    }
 
 one_of : (b : Bool) (s t : Place) → IsOnBoard s → IsOnBoard t → IsOnBoard (cond b s t)
 one_of true s t p q = p
 one_of false s t p q = q
 
 -- only a king castles, and it becomes nothing
-king_castles : (P : State) (m : Move) (kind : Kind) (wing : Wing) → Goes P m kind → m.castle ≡ Some wing → (kind ≡ King) × (m.promote ≡ None)
+king_castles : (P : State) (m : Move) (kind : Kind) (wing : Wing) → Goes P m kind
+    → m.castle ≡ Some wing → (kind ≡ King) × (m.promote ≡ None)
 king_castles P m King wing goes e = (refl, goes.0)
 king_castles P m Queen wing goes e = absurd (none-some wing (sym goes.0 ∙ e))
 king_castles P m Rook wing goes e = absurd (none-some wing (sym goes.0 ∙ e))
@@ -81,11 +122,13 @@ king_castles P m Bishop wing goes e = absurd (none-some wing (sym goes.0 ∙ e))
 king_castles P m Knight wing goes e = absurd (none-some wing (sym goes.0 ∙ e))
 king_castles P m Pawn wing goes e = absurd (none-some wing (sym goes.0 ∙ e))
 
-king_of_castling : (P : State) (m : Move) (c : PlyCode) (castle : Option Wing) → IsPseudoLegal P m → IsCode P m c → m.castle ≡ castle → IfSome castle (λ _. c.man.kind ≡ King)
+king_of_castling : (P : State) (m : Move) (c : PlyCode) (castle : Option Wing) → IsPseudoLegal P m
+    → IsCode P m c → m.castle ≡ castle → IfSome castle (λ _. c.man.kind ≡ King)
 king_of_castling P m c None legal code e = tt
 king_of_castling P m c (Some wing) legal code e =
     let king = king_castles P m legal.man.kind wing legal.goes e in
-    let stays = subst (λ (promote : Option Kind). arriving P promote m.from ≡ Some c.man) king.1 code.man in
+    let stays =
+    subst (λ (promote : Option Kind). arriving P promote m.from ≡ Some c.man) king.1 code.man in
     ap (λ (man : Man). man.kind) (same_Some c.man legal.man (sym stays ∙ legal.here)) ∙ king.0
 
 -- the code of a pseudo-legal move has a spelling
@@ -100,13 +143,16 @@ code_of_a_move_fits P m c legal code =
     record {
       from = subst IsOnBoard (sym code.from) legal.from;
       to = subst IsOnBoard (sym code.to) legal.to;
-      taken = subst IsOnBoard (sym code.taken) (one_of (is_en_passant P m) (record { file = m.to.file; rank = m.from.rank }) m.to beside legal.to);
+      taken = subst IsOnBoard (sym code.taken)
+          (one_of (is_en_passant P m) (record { file = m.to.file; rank = m.from.rank }) m.to beside
+          legal.to);
       king = king_of_castling P m c c.castle legal code (sym code.castle);
     }
 
 -- ---- what arrives, by its number
 
-below : (side : Side) (kind : Kind) (castle : Option Wing) → man_number (record { side = side; kind = kind }) castle < 16
+below : (side : Side) (kind : Kind) (castle : Option Wing)
+    → man_number (record { side = side; kind = kind }) castle < 16
 below White King None = omega arith
 below White Queen None = omega arith
 below White Rook None = omega arith
@@ -128,7 +174,9 @@ pub man_below : (man : Man) (castle : Option Wing) → man_number man castle < 1
 man_below man castle = below man.side man.kind castle
 
 again : (side : Side) (kind : Kind) (castle : Option Wing) → IfSome castle (λ _. kind ≡ King)
-    → (numbered_man (man_number (record { side = side; kind = kind }) castle) ≡ record { side = side; kind = kind }) × (numbered_castle (man_number (record { side = side; kind = kind }) castle) ≡ castle)
+    → (numbered_man (man_number (record { side = side; kind = kind }) castle)
+    ≡ record { side = side; kind = kind })
+    × (numbered_castle (man_number (record { side = side; kind = kind }) castle) ≡ castle)
 again White King None h = (refl, refl)
 again White Queen None h = (refl, refl)
 again White Rook None h = (refl, refl)
@@ -146,10 +194,13 @@ again Black Pawn None h = (refl, refl)
 again Black other (Some KingSide) h = (rw h refl, refl)
 again Black other (Some QueenSide) h = (rw h refl, refl)
 
-pub man_again : (man : Man) (castle : Option Wing) → IfSome castle (λ _. man.kind ≡ King) → (numbered_man (man_number man castle) ≡ man) × (numbered_castle (man_number man castle) ≡ castle)
+pub man_again : (man : Man) (castle : Option Wing) → IfSome castle (λ _. man.kind ≡ King)
+    → (numbered_man (man_number man castle) ≡ man)
+    × (numbered_castle (man_number man castle) ≡ castle)
 man_again man castle h = again man.side man.kind castle h
 
-king_by : (test : Bool) (wing : Wing) (man king : Man) → king.kind ≡ King → IfSome (cond test None (Some wing)) (λ _. (cond test man king).kind ≡ King)
+king_by : (test : Bool) (wing : Wing) (man king : Man) → king.kind ≡ King
+    → IfSome (cond test None (Some wing)) (λ _. (cond test man king).kind ≡ King)
 king_by true wing man king h = tt
 king_by false wing man king h = h
 
@@ -168,9 +219,15 @@ man_back (suc (suc (suc (suc (suc (suc (suc (suc (suc (suc zero)))))))))) h = re
 man_back (suc (suc (suc (suc (suc (suc (suc (suc (suc (suc (suc zero))))))))))) h = refl
 man_back (suc (suc (suc (suc (suc (suc (suc (suc (suc (suc (suc (suc zero)))))))))))) h = refl
 man_back (suc (suc (suc (suc (suc (suc (suc (suc (suc (suc (suc (suc (suc zero))))))))))))) h = refl
-man_back (suc (suc (suc (suc (suc (suc (suc (suc (suc (suc (suc (suc (suc (suc zero)))))))))))))) h = refl
-man_back (suc (suc (suc (suc (suc (suc (suc (suc (suc (suc (suc (suc (suc (suc (suc zero))))))))))))))) h = refl
-man_back (suc (suc (suc (suc (suc (suc (suc (suc (suc (suc (suc (suc (suc (suc (suc (suc w)))))))))))))))) h = absurd (omega arith)
+man_back (suc (suc (suc (suc (suc (suc (suc (suc (suc (suc (suc (suc (suc (suc zero))))))))))))))
+    h = refl
+man_back
+    (suc (suc (suc (suc (suc (suc (suc (suc (suc (suc (suc (suc (suc (suc (suc zero)))))))))))))))
+    h = refl
+man_back
+    (suc (suc
+    (suc (suc (suc (suc (suc (suc (suc (suc (suc (suc (suc (suc (suc (suc w)))))))))))))))) h =
+    absurd (omega arith)
 
 -- ---- bytes
 
@@ -198,18 +255,31 @@ bits_back a h =
     rw n (pairs (a / 64) below)
 
 -- each three bytes spell the code that they have
-pub code_takes : (a b d : ℕ) → a < 256 → b < 256 → d < 256 → code_bytes (code_of a b d) ≡ a ∷ b ∷ d ∷ []
+pub code_takes : (a b d : ℕ) → a < 256 → b < 256 → d < 256
+    → code_bytes (code_of a b d) ≡ a ∷ b ∷ d ∷ []
 code_takes a b d ha hb hd =
     let w = b / 64 + 4 * (d / 64) in
     let back : man_number (numbered_man w) (numbered_castle w) ≡ w = man_back w (omega arith) in
-    rw (back, at_back a (bit ((a / 64) % 2 == 1) + 2 * bit (a / 128 == 1)) (bits_back a ha), at_back b (w % 4) (omega arith), at_back d (w / 4) (omega arith)) refl
+    rw (
+      back,
+      at_back a (bit ((a / 64) % 2 == 1) + 2 * bit (a / 128 == 1)) (bits_back a ha),
+      at_back b (w % 4) (omega arith),
+      at_back d (w / 4) (omega arith),
+    ) refl
 
 pub code_fits : (a b d : ℕ) → FitsCode (code_of a b d)
 code_fits a b d = record {
   from = on_board-square_at (a % 64) (omega arith);
   to = on_board-square_at (b % 64) (omega arith);
   taken = on_board-square_at (d % 64) (omega arith);
-  king = king_by (ltb (b / 64 + 4 * (d / 64)) 12) (cond ((b / 64 + 4 * (d / 64)) % 2 == 0) KingSide QueenSide) (record { side = cond (ltb (b / 64 + 4 * (d / 64)) 6) White Black; kind = numbered_kind ((b / 64 + 4 * (d / 64)) % 6) }) (king_of (cond (ltb (b / 64 + 4 * (d / 64)) 14) White Black)) refl;
+  king = king_by (ltb (b / 64 + 4 * (d / 64)) 12)
+      (cond ((b / 64 + 4 * (d / 64)) % 2 == 0) KingSide QueenSide)
+      (record {
+        side = cond (ltb (b / 64 + 4 * (d / 64)) 6) White Black;
+        kind =
+            numbered_kind ((b / 64 + 4 * (d / 64)) % 6);
+      })
+      (king_of (cond (ltb (b / 64 + 4 * (d / 64)) 14) White Black)) refl;
 }
 
 pub first_mark : (check stuck : Bool) → ((marks_number check stuck) % 2 == 1) ≡ check
@@ -226,12 +296,30 @@ second_mark false false = refl
 
 -- the code of the bytes that spell a code is that code
 pub code_again : (c : PlyCode) → FitsCode c
-    → code_of (index_of c.from + 64 * (marks_number c.check c.stuck)) (index_of c.to + 64 * (man_number c.man c.castle % 4)) (index_of c.taken + 64 * (man_number c.man c.castle / 4)) ≡ c
+    → code_of (index_of c.from + 64 * (marks_number c.check c.stuck)) (index_of c.to + 64
+    * (man_number c.man c.castle % 4)) (index_of c.taken + 64 * (man_number c.man c.castle / 4))
+    ≡ c
 code_again c fits =
     let low = man_below c.man c.castle in
-    let f = index_of-below c.from fits.from in let t = index_of-below c.to fits.to in let k = index_of-below c.taken fits.taken in
-    let whole : (index_of c.to + 64 * (man_number c.man c.castle % 4)) / 64 + 4 * ((index_of c.taken + 64 * (man_number c.man c.castle / 4)) / 64) ≡ man_number c.man c.castle = omega arith in
-    let marks : (index_of c.from + 64 * (marks_number c.check c.stuck)) / 64 ≡ marks_number c.check c.stuck = omega arith in
-    let upper : (index_of c.from + 64 * (marks_number c.check c.stuck)) / 128 ≡ (marks_number c.check c.stuck) / 2 = omega arith in
+    let f = index_of-below c.from fits.from in let t = index_of-below c.to fits.to in let k =
+    index_of-below c.taken fits.taken in
+    let whole : (index_of c.to + 64 * (man_number c.man c.castle % 4)) / 64 + 4
+    * ((index_of c.taken + 64 * (man_number c.man c.castle / 4)) / 64)
+    ≡ man_number c.man c.castle = omega arith in
+    let marks : (index_of c.from + 64 * (marks_number c.check c.stuck)) / 64
+    ≡ marks_number c.check c.stuck = omega arith in
+    let upper : (index_of c.from + 64 * (marks_number c.check c.stuck)) / 128
+    ≡ (marks_number c.check c.stuck) / 2 = omega arith in
     let w = man_again c.man c.castle fits.king in
-    rw (at_again c.from (marks_number c.check c.stuck) fits.from, at_again c.to (man_number c.man c.castle % 4) fits.to, at_again c.taken (man_number c.man c.castle / 4) fits.taken, whole, w.0, w.1, marks, upper, first_mark c.check c.stuck, second_mark c.check c.stuck) refl
+    rw (
+      at_again c.from (marks_number c.check c.stuck) fits.from,
+      at_again c.to (man_number c.man c.castle % 4) fits.to,
+      at_again c.taken (man_number c.man c.castle / 4) fits.taken,
+      whole,
+      w.0,
+      w.1,
+      marks,
+      upper,
+      first_mark c.check c.stuck,
+      second_mark c.check c.stuck,
+    ) refl

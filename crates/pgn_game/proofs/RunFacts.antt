@@ -1,10 +1,12 @@
 -- What the elements left of a line do, by the line that they spell.
-use Rattle.std.proofs.Common.{◌≡◌, true, List, [], ◌∷◌, ◌++◌, refl, sym, ap, ◌∙◌, subst, inl, inr, append_assoc, append-nil}
+use Rattle.std.proofs.Common.{◌≡◌, true, List, [], ◌∷◌, ◌++◌, refl, sym, ap, ◌∙◌, subst, inl, inr}
+use Rattle.std.proofs.Common.{append_assoc, append-nil}
 use Rattle.std.specs.Prelude.{◌⊎◌}
 use Rattle.chess.specs.Public.Positions.{State}
 use Rattle.pgn_text.specs.Public.Games.{Item, VariationClose}
 use Rattle.pgn_game.specs.Public.Faults.{Fault, IsLineFault, HaveFault}
-use Rattle.pgn_game.specs.Public.AllLines.{Line, LineEnd, ThenMove, ThenGlyph, ThenComment, ThenVariation, spelled, IsPlayed, ArePlayed}
+use Rattle.pgn_game.specs.Public.AllLines.{Line, LineEnd, ThenMove, ThenGlyph, ThenComment}
+use Rattle.pgn_game.specs.Public.AllLines.{ThenVariation, spelled, IsPlayed, ArePlayed}
 use Rattle.pgn_game.specs.Private.LineWalks.{is_inside, gone_on, begun, first_level, Runs, Stops}
 use Rattle.pgn_text.specs.Public.GameTexts.{IsPaired}
 use Rattle.pgn_game.proofs.Spelling.{one_spelt}
@@ -14,19 +16,31 @@ use Rattle.pgn_game.specs.declared.replays.walk.Level.{Level}
 -- a line is played, and what stands after it from some level on
 abbrev pub PlayedThen : Level → List Level → Line → List Item → List LineMove → Type 0
 PlayedThen level outer line rest turns =
-    (own : List LineMove) × (more : List LineMove) × (last : Level) × (turns ≡ own ++ more) × IsPlayed (is_inside outer) level.before level.now line own × Runs rest last outer more
+    (own : List LineMove) × (more : List LineMove) × (last : Level) × (turns ≡ own ++ more)
+    × IsPlayed (is_inside outer) level.before level.now line own × Runs rest last outer more
 
-pub run_line : (line : Line) (rest : List Item) (level : Level) (outer : List Level) (turns : List LineMove)
+pub run_line : (line : Line) (rest : List Item) (level : Level) (outer : List Level)
+    (turns : List LineMove)
     → Runs (spelled line ++ rest) level outer turns → PlayedThen level outer line rest turns
 run_line LineEnd rest level outer turns runs = ([], turns, level, refl, refl, runs)
 run_line (ThenMove word line) rest level outer turns (turn, more, is, says, runs) =
-    let there = run_line line rest (gone_on level turn) outer more runs in
-    (turn ∷ there.0, there.1, there.2, is ∙ ap (λ ts. turn ∷ ts) there.3, (turn, there.0, refl, says, there.4), there.5)
-run_line (ThenGlyph number line) rest level outer turns runs = run_line line rest level outer turns runs
-run_line (ThenComment text line) rest level outer turns runs = run_line line rest level outer turns runs
+    let there = run_line line rest (gone_on level turn) outer more runs in (
+      turn ∷ there.0,
+      there.1,
+      there.2,
+      is ∙ ap (λ ts. turn ∷ ts) there.3,
+      (turn, there.0, refl, says, there.4),
+      there.5,
+    )
+run_line (ThenGlyph number line) rest level outer turns runs =
+    run_line line rest level outer turns runs
+run_line (ThenComment text line) rest level outer turns runs =
+    run_line line rest level outer turns runs
 run_line (ThenVariation inner line) rest level outer turns runs =
-    let inside = run_line inner (VariationClose ∷ (spelled line ++ rest)) (begun level) (level ∷ outer) turns
-    (subst (λ items. Runs items (begun level) (level ∷ outer) turns) (append_assoc (spelled inner) (VariationClose ∷ spelled line) rest) runs) in
+    let inside =
+    run_line inner (VariationClose ∷ (spelled line ++ rest)) (begun level) (level ∷ outer) turns
+    (subst (λ items. Runs items (begun level) (level ∷ outer) turns)
+    (append_assoc (spelled inner) (VariationClose ∷ spelled line) rest) runs) in
     let there = run_line line rest level outer inside.1 inside.5 in (
       inside.0 ++ there.0,
       there.1,
@@ -40,55 +54,87 @@ run_line (ThenVariation inner line) rest level outer turns runs =
 abbrev pub FaultThen : Level → List Level → Line → List Item → Fault → Type 0
 FaultThen level outer line rest fault =
     IsLineFault (is_inside outer) level.before level.now level.plies line fault
-    ⊎ ((own : List LineMove) × (last : Level) × IsPlayed (is_inside outer) level.before level.now line own × Stops rest last outer fault)
+    ⊎ ((own : List LineMove) × (last : Level)
+    × IsPlayed (is_inside outer) level.before level.now line own × Stops rest last outer fault)
 
-pub stop_line : (line : Line) (rest : List Item) (level : Level) (outer : List Level) (fault : Fault)
+pub stop_line : (line : Line) (rest : List Item) (level : Level) (outer : List Level)
+    (fault : Fault)
     → Stops (spelled line ++ rest) level outer fault → FaultThen level outer line rest fault
 stop_line LineEnd rest level outer fault stops = inr ([], level, refl, stops)
 stop_line (ThenMove word line) rest level outer fault (inl refused) = inl (inl refused)
-stop_line (ThenMove word line) rest level outer fault (inr (turn, says, stops)) = turn_then (stop_line line rest (gone_on level turn) outer fault stops)
+stop_line (ThenMove word line) rest level outer fault (inr (turn, says, stops)) =
+    turn_then (stop_line line rest (gone_on level turn) outer fault stops)
   where
-    turn_then : FaultThen (gone_on level turn) outer line rest fault → FaultThen level outer (ThenMove word line) rest fault
+    turn_then : FaultThen (gone_on level turn) outer line rest fault
+        → FaultThen level outer (ThenMove word line) rest fault
     turn_then (inl met) = inl (inr (turn, says, met))
-    turn_then (inr (own, last, played, later)) = inr (turn ∷ own, last, (turn, own, refl, says, played), later)
-stop_line (ThenGlyph number line) rest level outer fault stops = stop_line line rest level outer fault stops
-stop_line (ThenComment text line) rest level outer fault stops = stop_line line rest level outer fault stops
+    turn_then (inr (own, last, played, later)) =
+        inr (turn ∷ own, last, (turn, own, refl, says, played), later)
+stop_line (ThenGlyph number line) rest level outer fault stops =
+    stop_line line rest level outer fault stops
+stop_line (ThenComment text line) rest level outer fault stops =
+    stop_line line rest level outer fault stops
 stop_line (ThenVariation inner line) rest level outer fault stops =
-    varied (stop_line inner (VariationClose ∷ (spelled line ++ rest)) (begun level) (level ∷ outer) fault
-    (subst (λ items. Stops items (begun level) (level ∷ outer) fault) (append_assoc (spelled inner) (VariationClose ∷ spelled line) rest) stops))
+    varied (stop_line inner (VariationClose ∷ (spelled line ++ rest)) (begun level) (level
+    ∷ outer) fault
+    (subst (λ items. Stops items (begun level) (level ∷ outer) fault)
+    (append_assoc (spelled inner) (VariationClose ∷ spelled line) rest) stops))
     (λ stops. stop_line line rest level outer fault stops)
   where
-    out_of : (own : List LineMove) → IsPlayed true level.before level.before inner own → FaultThen level outer line rest fault → FaultThen level outer (ThenVariation inner line) rest fault
+    out_of : (own : List LineMove) → IsPlayed true level.before level.before inner own
+        → FaultThen level outer line rest fault
+        → FaultThen level outer (ThenVariation inner line) rest fault
     out_of own played (inl met) = inl (inr (own, played, met))
-    out_of own played (inr (more, last, there, later)) = inr (own ++ more, last, (own, more, refl, played, there), later)
+    out_of own played (inr (more, last, there, later)) =
+        inr (own ++ more, last, (own, more, refl, played, there), later)
 
-    varied : FaultThen (begun level) (level ∷ outer) inner (VariationClose ∷ (spelled line ++ rest)) fault
-        → (Stops (spelled line ++ rest) level outer fault → FaultThen level outer line rest fault) → FaultThen level outer (ThenVariation inner line) rest fault
+    varied : FaultThen (begun level) (level ∷ outer) inner (VariationClose
+        ∷ (spelled line ++ rest)) fault
+        → (Stops (spelled line ++ rest) level outer fault → FaultThen level outer line rest fault)
+        → FaultThen level outer (ThenVariation inner line) rest fault
     varied (inl met) back = inl (inl met)
     varied (inr (own, last, played, later)) back = out_of own played (back later)
 
 -- the whole
-pub all_run : (line : Line) (level : Level) (outer : List Level) (turns : List LineMove) → Runs (spelled line) level outer turns
+pub all_run : (line : Line) (level : Level) (outer : List Level) (turns : List LineMove)
+    → Runs (spelled line) level outer turns
     → IsPlayed (is_inside outer) level.before level.now line turns
 all_run line level outer turns runs =
-    let there = run_line line [] level outer turns (subst (λ items. Runs items level outer turns) (sym (append-nil (spelled line))) runs) in
-    subst (λ ts. IsPlayed (is_inside outer) level.before level.now line ts) (sym (there.3 ∙ ap (λ ts. there.0 ++ ts) there.5 ∙ append-nil there.0)) there.4
+    let there =
+    run_line line [] level outer turns
+    (subst (λ items. Runs items level outer turns) (sym (append-nil (spelled line))) runs) in
+    subst (λ ts. IsPlayed (is_inside outer) level.before level.now line ts)
+    (sym (there.3 ∙ ap (λ ts. there.0 ++ ts) there.5 ∙ append-nil there.0)) there.4
 
-pub all_stop : (line : Line) (level : Level) (outer : List Level) (fault : Fault) → Stops (spelled line) level outer fault
+pub all_stop : (line : Line) (level : Level) (outer : List Level) (fault : Fault)
+    → Stops (spelled line) level outer fault
     → IsLineFault (is_inside outer) level.before level.now level.plies line fault
-all_stop line level outer fault stops = ends (stop_line line [] level outer fault (subst (λ items. Stops items level outer fault) (sym (append-nil (spelled line))) stops))
+all_stop line level outer fault stops =
+    ends (stop_line line [] level outer fault
+    (subst (λ items. Stops items level outer fault) (sym (append-nil (spelled line))) stops))
   where
-    ends : FaultThen level outer line [] fault → IsLineFault (is_inside outer) level.before level.now level.plies line fault
+    ends : FaultThen level outer line [] fault
+        → IsLineFault (is_inside outer) level.before level.now level.plies line fault
     ends (inl met) = met
     ends (inr (own, last, played, none)) = absurd none
 
 -- from the start
-pub runs_played : (start : State) (items : List Item) (turns : List LineMove) → IsPaired 0 items → Runs items (first_level start) [] turns → ArePlayed start items turns
+pub runs_played : (start : State) (items : List Item) (turns : List LineMove) → IsPaired 0 items
+    → Runs items (first_level start) [] turns → ArePlayed start items turns
 runs_played start items turns paired runs =
-    let line = one_spelt items paired in
-    (line.0, line.1, all_run line.0 (first_level start) [] turns (subst (λ xs. Runs xs (first_level start) [] turns) line.1 runs))
+    let line = one_spelt items paired in (
+      line.0,
+      line.1,
+      all_run line.0 (first_level start) [] turns
+          (subst (λ xs. Runs xs (first_level start) [] turns) line.1 runs),
+    )
 
-pub stops_faulty : (start : State) (items : List Item) (fault : Fault) → IsPaired 0 items → Stops items (first_level start) [] fault → HaveFault start items fault
+pub stops_faulty : (start : State) (items : List Item) (fault : Fault) → IsPaired 0 items
+    → Stops items (first_level start) [] fault → HaveFault start items fault
 stops_faulty start items fault paired stops =
-    let line = one_spelt items paired in
-    (line.0, line.1, all_stop line.0 (first_level start) [] fault (subst (λ xs. Stops xs (first_level start) [] fault) line.1 stops))
+    let line = one_spelt items paired in (
+      line.0,
+      line.1,
+      all_stop line.0 (first_level start) [] fault
+          (subst (λ xs. Stops xs (first_level start) [] fault) line.1 stops),
+    )

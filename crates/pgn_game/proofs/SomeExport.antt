@@ -1,23 +1,29 @@
--- A sound game has an export in each style: each of its tags has a value, its movetext has tokens, and they have a text in lines.
+-- A sound game has an export in each style: each of its tags has a value, its movetext has tokens,
+-- and they have a text in lines.
 use Rattle.std.proofs.Common.{◌≡◌, ℕ, List, [], ◌∷◌, ◌++◌, Option, Some, None, refl, flat_map}
 use Rattle.pgn_text.specs.Public.GameTexts.{HoldStrings, tag_in}
 use Rattle.pgn_text.specs.Public.Strings.{value_of_sign}
 use Rattle.pgn_game.specs.Public.Laws.{GameHasAnExport}
-use Rattle.pgn_game.specs.Public.TagLines.{missing_text, escaped, IsTagText, tag_line, AreLinesOf, written_names}
+use Rattle.pgn_game.specs.Public.TagLines.{missing_text, escaped, IsTagText, tag_line, AreLinesOf}
+use Rattle.pgn_game.specs.Public.TagLines.{written_names}
 use Rattle.pgn_game.proofs.LaidFacts.{some_text}
 use Rattle.pgn_game.proofs.SomeMovetext.{some_movetext}
 
 -- a tag, there or missing, has a text
-some_tag_text : (tags : List (List ℕ × List ℕ)) → HoldStrings tags → (name missing : List ℕ) (tag : Option (List ℕ)) → tag_in name tags ≡ tag
+some_tag_text : (tags : List (List ℕ × List ℕ)) → HoldStrings tags
+    → (name missing : List ℕ) (tag : Option (List ℕ)) → tag_in name tags ≡ tag
     → (text : List ℕ) × IsTagText tag missing text
 some_tag_text tags strings name missing None is = (missing, refl)
 some_tag_text tags strings name missing (Some contents) is =
     let of = strings name contents is in
-    let value = flat_map value_of_sign of.0 in
-    (flat_map escaped value, (value, (of.0, record { spells = of.1; each = of.2; gives = refl }), refl))
+    let value = flat_map value_of_sign of.0 in (
+      flat_map escaped value,
+      (value, (of.0, record { spells = of.1; each = of.2; gives = refl }), refl),
+    )
 
 -- so tags have lines
-some_lines : (tags : List (List ℕ × List ℕ)) → HoldStrings tags → (result : List ℕ) (names : List (List ℕ))
+some_lines : (tags : List (List ℕ × List ℕ)) → HoldStrings tags
+    → (result : List ℕ) (names : List (List ℕ))
     → (lines : List ℕ) × AreLinesOf tags result names lines
 some_lines tags strings result [] = ([], refl)
 some_lines tags strings result (name ∷ names) =

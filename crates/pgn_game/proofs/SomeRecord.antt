@@ -1,5 +1,6 @@
 -- A game whose main line is sound has a record, and one alone.
-use Rattle.std.proofs.Common.{◌≡◌, ◌↔◌, ℕ, Bool, true, false, List, [], ◌∷◌, Option, Some, None, refl, sym, ap, subst, ◌∙◌, inl, inr}
+use Rattle.std.proofs.Common.{◌≡◌, ◌↔◌, ℕ, Bool, true, false, List, [], ◌∷◌, Option, Some, None}
+use Rattle.std.proofs.Common.{refl, sym, ap, subst, ◌∙◌, inl, inr}
 use Rattle.chess.specs.Public.Squares.{Place, IsOnBoard}
 use Rattle.chess.specs.Public.Placements.{AreOnBoard}
 use Rattle.chess.specs.Public.Positions.{State}
@@ -33,11 +34,14 @@ mark_of (inr not) = (false, (λ e. absurd cc, λ a. absurd (not a)))
 
 settled_has_move : (P : State) → AreOnBoard P.men → Settled (HasMove P)
 settled_has_move P on_board =
-    settled_like (λ h. (h.0, h.2.0, h.2.2)) (λ h. (h.0, h.2.2.pseudo_legal.from, (h.1, h.2.2.pseudo_legal.to, h.2)))
-    (search_square (λ s. (t : Place) × IsOnBoard t × CanGo P s t) (λ s. search_square (λ t. CanGo P s t) (λ t. settled_can_go P s t on_board)))
+    settled_like (λ h. (h.0, h.2.0, h.2.2)) (λ h.
+    (h.0, h.2.2.pseudo_legal.from, (h.1, h.2.2.pseudo_legal.to, h.2)))
+    (search_square (λ s. (t : Place) × IsOnBoard t
+    × CanGo P s t) (λ s. search_square (λ t. CanGo P s t) (λ t. settled_can_go P s t on_board)))
 
 -- each position has marks
-some_marks : (P : State) → AreOnBoard P.men → (check : Bool) × (stuck : Bool) × AreMarks P check stuck
+some_marks : (P : State) → AreOnBoard P.men
+    → (check : Bool) × (stuck : Bool) × AreMarks P check stuck
 some_marks P on_board =
     let check = mark_of (settled_check P.men P.turn on_board) in
     let stuck = mark_of (settled_not (settled_has_move P on_board)) in
@@ -45,26 +49,66 @@ some_marks P on_board =
 
 -- ---- codes
 
-some_arriving : (P : State) (m : Move) (promote : Option Kind) → IsPseudoLegal P m → (man : Man) × (arriving P promote m.from ≡ Some man)
+some_arriving : (P : State) (m : Move) (promote : Option Kind) → IsPseudoLegal P m
+    → (man : Man) × (arriving P promote m.from ≡ Some man)
 some_arriving P m None legal = (legal.man, legal.here)
 some_arriving P m (Some kind) legal = (record { side = P.turn; kind = kind }, refl)
 
-some_code : (P : State) (m : Move) → IsPseudoLegal P m → AreOnBoard (after P m).men → (c : PlyCode) × IsCode P m c
+some_code : (P : State) (m : Move) → IsPseudoLegal P m → AreOnBoard (after P m).men
+    → (c : PlyCode) × IsCode P m c
 some_code P m legal on_board =
     let man = some_arriving P m m.promote legal in
     let marks = some_marks (after P m) on_board in
-    let code : PlyCode = record { from = m.from; to = m.to; taken = taken P m; man = man.0; castle = m.castle; check = marks.0; stuck = marks.1 } in
-    (code, record { from = refl; to = refl; taken = refl; man = man.1; castle = refl; marks = marks.2 })
+    let code : PlyCode =
+    record {
+      from = m.from;
+      to = m.to;
+      taken = taken P m;
+      man = man.0;
+      castle =
+          m.castle;
+      check = marks.0;
+      stuck = marks.1;
+    } in (
+      code,
+      record {
+        from = refl;
+        to = refl;
+        taken = refl;
+        man = man.1;
+        castle = refl;
+        marks =
+            marks.2;
+      },
+    )
 
-some_codes : (P : State) (words : List (List ℕ)) (positions : List State) (played : List Move) → AreOnBoard P.men → IsMainLine P words positions played
+some_codes : (P : State) (words : List (List ℕ)) (positions : List State) (played : List Move)
+    → AreOnBoard P.men → IsMainLine P words positions played
     → (codes : List PlyCode) × AreCodes P played codes
-some_codes P [] positions played on_board line = ([], subst (λ moves. AreCodes P moves []) (sym line.1) refl)
-some_codes P (word ∷ words) positions played on_board (m, later, more, positions_is, played_is, named, rest) =
+some_codes P [] positions played on_board line =
+    ([], subst (λ moves. AreCodes P moves []) (sym line.1) refl)
+some_codes P (word ∷ words) positions played on_board (
+  m,
+  later,
+  more,
+  positions_is,
+  played_is,
+  named,
+  rest,
+) =
     let legal = named.named.legal in
     let stay = men_stay_on_board P m on_board legal in
     let own = some_code P m legal.pseudo_legal stay in
-    let others = some_codes (after P m) words later more stay rest in
-    (own.0 ∷ others.0, subst (λ moves. AreCodes P moves (own.0 ∷ others.0)) (sym played_is) (own.0, others.0, refl, own.1, others.1))
+    let others = some_codes (after P m) words later more stay rest in (
+      own.0 ∷ others.0,
+      subst (λ moves. AreCodes P moves (own.0 ∷ others.0)) (sym played_is) (
+        own.0,
+        others.0,
+        refl,
+        own.1,
+        others.1,
+      ),
+    )
 
 -- ---- the record
 
@@ -76,12 +120,29 @@ a_record name number offset game (replay, is) =
     let codes = some_codes is.start words replay.positions replay.played on_board is.line in
     let packed : PackedGame = record_with name number offset game marks.0 marks.1 codes.0 in
     let first = line_head is.start words replay.positions replay.played is.line in
-    let is_packed = is_record_with name number offset game replay is.start marks.0 marks.1 codes.0 first marks.2 codes.1 in
-    (record_bytes packed, record { replay = replay; is_replay = is; packed = packed; is_packed = is_packed; spells = refl })
+    let is_packed =
+    is_record_with name number offset game replay is.start marks.0 marks.1 codes.0 first marks.2
+    codes.1 in (
+      record_bytes packed,
+      record {
+        replay = replay;
+        is_replay = is;
+        packed = packed;
+        is_packed = is_packed;
+        spells =
+            refl;
+      },
+    )
 
 pub one_spelling : GameHasOneSpelling
 one_spelling name number offset game bytes other own also =
-    let replay : also.replay ≡ own.replay = one_replay Main (tag_in fen_tag game.tags) game.elements also.replay own.replay also.is_replay own.is_replay in
-    let is_packed = subst (λ (r : Replay). IsPacked name number offset game r also.packed) replay also.is_packed in
-    let same = one_record_of_a_game name number offset game own.replay own.packed also.packed own.is_packed is_packed in
+    let replay : also.replay ≡ own.replay =
+    one_replay Main (tag_in fen_tag game.tags) game.elements also.replay own.replay
+    also.is_replay own.is_replay in
+    let is_packed =
+    subst (λ (r : Replay). IsPacked name number offset game r also.packed) replay also.is_packed
+    in
+    let same =
+    one_record_of_a_game name number offset game own.replay own.packed also.packed own.is_packed
+    is_packed in
     own.spells ∙ ap record_bytes same ∙ sym also.spells

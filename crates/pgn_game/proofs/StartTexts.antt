@@ -1,17 +1,23 @@
--- The text of the position from which a game starts: there is one, it holds no space, and no other position has it.
-use Rattle.std.proofs.Common.{◌≡◌, ◌≢◌, ℕ, suc, ◌+◌, ◌-◌, ◌*◌, ◌≤◌, Bool, true, false, List, [], ◌∷◌, ◌++◌, length, map, refl, sym, ap, ◌∙◌, subst, arith, length-append}
+-- The text of the position from which a game starts: there is one, it holds no space, and no other
+-- position has it.
+use Rattle.std.proofs.Common.{◌≡◌, ◌≢◌, ℕ, suc, ◌+◌, ◌-◌, ◌*◌, ◌≤◌, Bool, true, false, List, []}
+use Rattle.std.proofs.Common.{◌∷◌, ◌++◌, length, map, refl, sym, ap, ◌∙◌, subst, arith}
+use Rattle.std.proofs.Common.{length-append}
 use Rattle.std.proofs.lemmas.Bool.Decides.{nat_tests}
 use Rattle.std.proofs.lemmas.Bool.{and_parts}
 use Rattle.std.proofs.lemmas.Fmt.{decimal_digit}
 use Rattle.std.proofs.lemmas.Slice.Eq.{bytes_eq-Decides}
-use Rattle.std.specs.Prelude.{◌==◌, if◌then◌else◌, bytes_eq, codes, decimal, Option, Some, None, Result, Ok, Err, OnOk, is_ok}
+use Rattle.std.specs.Prelude.{◌==◌, if◌then◌else◌, bytes_eq, codes, decimal, Option, Some, None}
+use Rattle.std.specs.Prelude.{Result, Ok, Err, OnOk, is_ok}
 use Rattle.std.specs.List.{list_all}
 use Rattle.chess.specs.Public.Squares.{Place}
 use Rattle.chess.specs.Public.Placements.{Placement, man_at}
 use Rattle.chess.specs.Public.Positions.{State, IsSound, FitsEnPassant}
 use Rattle.chess.specs.Public.Start.{initial, initial_man, initial_men}
 use Rattle.chess.specs.Public.Letters.{man_letter}
-use Rattle.chess.specs.Public.Fen.{IsSquares, SpellsRank, SpellRanks, row, side_text, is_digit, number_from, IsCount, GiveCounts, joined, or_dash, rights_letters, en_passant_text, IsFen}
+use Rattle.chess.specs.Public.Fen.{IsSquares, SpellsRank, SpellRanks, row, side_text, is_digit}
+use Rattle.chess.specs.Public.Fen.{number_from, IsCount, GiveCounts, joined, or_dash}
+use Rattle.chess.specs.Public.Fen.{rights_letters, en_passant_text, IsFen}
 use Rattle.chess.specs.Public.Fen.IsSquares.{letter, step}
 use Rattle.chess.specs.declared.board.man.Man.{Man}
 use Rattle.chess.specs.declared.board.man.Kind.{Kind}
@@ -45,7 +51,8 @@ largest bound (d ∷ x) = largest (10 * bound + 9) x
 digit_small : (b : ℕ) → is_digit b ≡ true → b ≤ 57
 digit_small b is = grind (arith, nat_tests)
 
-at_most : (x : List ℕ) (n bound : ℕ) → list_all is_digit x ≡ true → n ≤ bound → number_from n x ≤ largest bound x
+at_most : (x : List ℕ) (n bound : ℕ) → list_all is_digit x ≡ true → n ≤ bound
+    → number_from n x ≤ largest bound x
 at_most [] n bound digits low = low
 at_most (d ∷ x) n bound digits low =
     let both = and_parts (is_digit d) (list_all is_digit x) digits in
@@ -70,30 +77,44 @@ few x n is =
     let value = is.value in
     omega arith
 
-few_both : (fields : List (List ℕ)) (clock number : ℕ) → GiveCounts fields clock number → (clock ≤ 9999999) × (number ≤ 9999999)
+few_both : (fields : List (List ℕ)) (clock number : ℕ) → GiveCounts fields clock number
+    → (clock ≤ 9999999) × (number ≤ 9999999)
 few_both [] clock number given = (let a = given.0 in omega arith, let b = given.1 in omega arith)
 few_both (x ∷ []) clock number given = (few x clock given.0, (let b = given.1 in omega arith))
 few_both (x ∷ y ∷ []) clock number given = (few x clock given.0, few y number given.1)
 few_both (x ∷ y ∷ z ∷ more) clock number given = absurd given
 
 pub start_read_back : (fen : Option (List ℕ)) (P : State) → IsStart fen P → IsReadBack P
-start_read_back None P is = subst IsReadBack (sym is) record { sound = initial_kept.sound; clock = omega arith; number = omega arith }
+start_read_back None P is =
+    subst IsReadBack (sym is) record {
+      sound = initial_kept.sound;
+      clock = omega arith;
+      number =
+          omega arith;
+    }
 start_read_back (Some contents) P (value, given, reads) =
-    let counts = few_both reads.spells.count_fields P.halfmove_clock P.fullmove_number reads.spells.counts in
+    let counts =
+    few_both reads.spells.count_fields P.halfmove_clock P.fullmove_number reads.spells.counts in
     record { sound = read_sound value P reads; clock = counts.0; number = counts.1 }
 
 -- such a position is the only one with its text
-pub same_fen : (P Q : State) (x : List ℕ) → IsReadBack P → IsReadBack Q → IsFen P x → IsFen Q x → P ≡ Q
-same_fen P Q x p q is also = one_spelling x P Q (fen_spells P x p.sound p.clock p.number is) (fen_spells Q x q.sound q.clock q.number also)
+pub same_fen : (P Q : State) (x : List ℕ) → IsReadBack P → IsReadBack Q → IsFen P x → IsFen Q x
+    → P ≡ Q
+same_fen P Q x p q is also =
+    one_spelling x P Q (fen_spells P x p.sound p.clock p.number is)
+    (fen_spells Q x q.sound q.clock q.number also)
 
 initial_read_back : IsReadBack initial
 initial_read_back = start_read_back None initial refl
 
-pub initial_by_fen : (P : State) (x : List ℕ) → IsReadBack P → IsFen P x → x ≡ initial_fen → P ≡ initial
-initial_by_fen P x p is same = same_fen P initial initial_fen p initial_read_back (subst (IsFen P) same is) initial_has_fen
+pub initial_by_fen : (P : State) (x : List ℕ) → IsReadBack P → IsFen P x → x ≡ initial_fen
+    → P ≡ initial
+initial_by_fen P x p is same =
+    same_fen P initial initial_fen p initial_read_back (subst (IsFen P) same is) initial_has_fen
 
 pub not_initial_by_fen : (P : State) (x : List ℕ) → IsFen P x → x ≢ initial_fen → P ≢ initial
-not_initial_by_fen P x is other same = other (one_fen initial x initial_fen (subst (λ s. IsFen s x) same is) initial_has_fen)
+not_initial_by_fen P x is other same =
+    other (one_fen initial x initial_fen (subst (λ s. IsFen s x) same is) initial_has_fen)
 
 -- ---- so a start has one text
 
@@ -102,16 +123,24 @@ some_start_text P p =
     let fen = some_fen P in
     by fen.0 fen.1 (bytes_eq fen.0 initial_fen) refl
   where
-    by : (x : List ℕ) → IsFen P x → (same : Bool) → bytes_eq x initial_fen ≡ same → (text : List ℕ) × IsStartText P text
-    by x is true same = (codes "-", as_initial (initial_by_fen P x p is ((bytes_eq-Decides x initial_fen).0 same)) refl)
-    by x is false other =
-        (map unspaced x, as_fen (not_initial_by_fen P x is (λ same. let no : bytes_eq x initial_fen ≡ true = (bytes_eq-Decides x initial_fen).1 same in absurd (cc))) x is refl)
+    by : (x : List ℕ) → IsFen P x → (same : Bool) → bytes_eq x initial_fen ≡ same
+        → (text : List ℕ) × IsStartText P text
+    by x is true same = (
+      codes "-",
+      as_initial (initial_by_fen P x p is ((bytes_eq-Decides x initial_fen).0 same)) refl,
+    )
+    by x is false other = (
+      map unspaced x,
+      as_fen (not_initial_by_fen P x is (λ same. let no : bytes_eq x initial_fen ≡ true =
+          (bytes_eq-Decides x initial_fen).1 same in absurd (cc))) x is refl,
+    )
 
 pub one_start_text : (P : State) (x y : List ℕ) → IsStartText P x → IsStartText P y → x ≡ y
 one_start_text P x y (as_initial is a) (as_initial also b) = a ∙ sym b
 one_start_text P x y (as_initial is a) (as_fen other fen spells b) = absurd (other is)
 one_start_text P x y (as_fen other fen spells a) (as_initial is b) = absurd (other is)
-one_start_text P x y (as_fen other fen spells a) (as_fen others more also b) = a ∙ ap (map unspaced) (one_fen P fen more spells also) ∙ sym b
+one_start_text P x y (as_fen other fen spells a) (as_fen others more also b) =
+    a ∙ ap (map unspaced) (one_fen P fen more spells also) ∙ sym b
 
 -- ---- no `_` stands in the text of a position
 
@@ -121,10 +150,15 @@ IsLined b = b ≢ 95
 abbrev AreLined : List ℕ → Type 0
 AreLined x = AllOf IsLined x
 
-lined_joined : (separator : ℕ) → IsLined separator → (xs : List (List ℕ)) → AllOf AreLined xs → AreLined (joined separator xs)
+lined_joined : (separator : ℕ) → IsLined separator → (xs : List (List ℕ)) → AllOf AreLined xs
+    → AreLined (joined separator xs)
 lined_joined separator free [] all = record {}
 lined_joined separator free (x ∷ []) all = all.0
-lined_joined separator free (x ∷ y ∷ more) all = all_append IsLined x (separator ∷ joined separator (y ∷ more)) all.0 (free, lined_joined separator free (y ∷ more) all.1)
+lined_joined separator free (x ∷ y ∷ more) all =
+    all_append IsLined x (separator ∷ joined separator (y ∷ more)) all.0 (
+      free,
+      lined_joined separator free (y ∷ more) all.1,
+    )
 
 lined_man : (side : Side) (kind : Kind) → IsLined (man_letter (record { side = side; kind = kind }))
 lined_man White King = omega arith
@@ -146,11 +180,13 @@ lined_byte b squares (step n low high) = omega arith
 
 lined_rank : (x : List ℕ) (squares : List (Option Man)) → SpellsRank x squares → AreLined x
 lined_rank [] squares spells = record {}
-lined_rank (b ∷ x) squares (own, more, parted, is, rest) = (lined_byte b own is, lined_rank x more rest)
+lined_rank (b ∷ x) squares (own, more, parted, is, rest) =
+    (lined_byte b own is, lined_rank x more rest)
 
 lined_ranks : (p : Placement) (n : ℕ) (xs : List (List ℕ)) → SpellRanks p n xs → AllOf AreLined xs
 lined_ranks p n [] spells = record {}
-lined_ranks p n (x ∷ more) spells = (lined_rank x (row p n) spells.1, lined_ranks p (n - 1) more spells.2)
+lined_ranks p n (x ∷ more) spells =
+    (lined_rank x (row p n) spells.1, lined_ranks p (n - 1) more spells.2)
 
 lined_side : (side : Side) → AreLined (side_text side)
 lined_side White = (omega arith, record {})
@@ -167,12 +203,16 @@ lined_or_dash (b ∷ x) all = all
 lined_rights : (r : CastlingRights) → AreLined (or_dash (rights_letters r))
 lined_rights r =
     lined_or_dash (rights_letters r)
-    (all_append IsLined (if r.white_king_side then 75 ∷ [] else []) _ (lined_if r.white_king_side 75 (omega arith))
-    (all_append IsLined (if r.white_queen_side then 81 ∷ [] else []) _ (lined_if r.white_queen_side 81 (omega arith))
-    (all_append IsLined (if r.black_king_side then 107 ∷ [] else []) _ (lined_if r.black_king_side 107 (omega arith))
+    (all_append IsLined (if r.white_king_side then 75 ∷ []
+    else []) _ (lined_if r.white_king_side 75 (omega arith))
+    (all_append IsLined (if r.white_queen_side then 81 ∷ []
+    else []) _ (lined_if r.white_queen_side 81 (omega arith))
+    (all_append IsLined (if r.black_king_side then 107 ∷ []
+    else []) _ (lined_if r.black_king_side 107 (omega arith))
     (lined_if r.black_queen_side 113 (omega arith)))))
 
-lined_passed : (P : State) (passed : Option Place) → (P.en_passant ≡ passed) → IsSound P → AreLined (en_passant_text passed)
+lined_passed : (P : State) (passed : Option Place) → (P.en_passant ≡ passed) → IsSound P
+    → AreLined (en_passant_text passed)
 lined_passed P None is sound = (omega arith, record {})
 lined_passed P (Some s) is sound =
     let fits : FitsEnPassant P.men P.turn s = rw is at sound.en_passant in
@@ -186,7 +226,9 @@ lined_digits (b ∷ x) all = let high = all.0.1 in (omega arith, lined_digits x 
 pub lined_fen : (P : State) (x : List ℕ) → IsSound P → IsFen P x → AreLined x
 lined_fen P x sound is =
     let fields : List (List ℕ) =
-    joined 47 is.ranks ∷ side_text P.turn ∷ or_dash (rights_letters P.rights) ∷ en_passant_text P.en_passant ∷ decimal P.halfmove_clock ∷ decimal P.fullmove_number ∷ [] in
+    joined 47 is.ranks ∷ side_text P.turn ∷ or_dash (rights_letters P.rights)
+    ∷ en_passant_text P.en_passant ∷ decimal P.halfmove_clock ∷ decimal P.fullmove_number ∷ []
+    in
     let all : AllOf AreLined fields = (
       lined_joined 47 (omega arith) is.ranks (lined_ranks P.men 8 is.ranks is.spelled),
       (
@@ -195,7 +237,13 @@ lined_fen P x sound is =
           lined_rights P.rights,
           (
             lined_passed P P.en_passant refl sound,
-            (lined_digits (decimal P.halfmove_clock) (decimal_digits P.halfmove_clock), (lined_digits (decimal P.fullmove_number) (decimal_digits P.fullmove_number), record {})),
+            (
+              lined_digits (decimal P.halfmove_clock) (decimal_digits P.halfmove_clock),
+              (
+                lined_digits (decimal P.fullmove_number) (decimal_digits P.fullmove_number),
+                record {},
+              ),
+            ),
           ),
         ),
       ),
@@ -206,7 +254,8 @@ lined_fen P x sound is =
 unspaced_once : (a b : ℕ) → IsLined a → IsLined b → unspaced a ≡ unspaced b → a ≡ b
 unspaced_once a b free also same = by (a == 32) (b == 32) refl refl same
   where
-    by : (c d : Bool) → (a == 32) ≡ c → (b == 32) ≡ d → (if c then 95 else a) ≡ (if d then 95 else b) → a ≡ b
+    by : (c d : Bool) → (a == 32) ≡ c → (b == 32) ≡ d
+        → (if c then 95 else a) ≡ (if d then 95 else b) → a ≡ b
     by true true x y same = grind (arith, nat_tests)
     by true false x y same = absurd (also (sym same))
     by false true x y same = absurd (free same)
@@ -231,21 +280,29 @@ length_map (b ∷ x) = ap suc (length_map x)
 fen_is_long : (P : State) (x : List ℕ) → IsFen P x → 2 ≤ length x
 fen_is_long P x is =
     let men = joined 47 is.ranks in
-    let later = joined 32 (or_dash (rights_letters P.rights) ∷ en_passant_text P.en_passant ∷ decimal P.halfmove_clock ∷ decimal P.fullmove_number ∷ []) in
+    let later =
+    joined 32 (or_dash (rights_letters P.rights) ∷ en_passant_text P.en_passant
+    ∷ decimal P.halfmove_clock ∷ decimal P.fullmove_number ∷ []) in
     let size = ap length is.text in
     let a = length-append men (32 ∷ (side_text P.turn ++ 32 ∷ later)) in
     let b = length-append (side_text P.turn) (32 ∷ later) in
     omega arith
 
 no_dash : (P : State) (x : List ℕ) → IsFen P x → codes "-" ≡ map unspaced x → ⊥
-no_dash P x is same = let a = ap length same in let b = length_map x in let c = fen_is_long P x is in omega arith
+no_dash P x is same = let a = ap length same in let b = length_map x in let c =
+    fen_is_long P x is in omega arith
 
-pub same_start : (P Q : State) (x : List ℕ) → IsReadBack P → IsReadBack Q → IsStartText P x → IsStartText Q x → P ≡ Q
+pub same_start : (P Q : State) (x : List ℕ) → IsReadBack P → IsReadBack Q → IsStartText P x
+    → IsStartText Q x → P ≡ Q
 same_start P Q x p q (as_initial is a) (as_initial also b) = is ∙ sym also
-same_start P Q x p q (as_initial is a) (as_fen other fen spells b) = absurd (no_dash Q fen spells (sym a ∙ b))
-same_start P Q x p q (as_fen other fen spells a) (as_initial is b) = absurd (no_dash P fen spells (sym b ∙ a))
+same_start P Q x p q (as_initial is a) (as_fen other fen spells b) =
+    absurd (no_dash Q fen spells (sym a ∙ b))
+same_start P Q x p q (as_fen other fen spells a) (as_initial is b) =
+    absurd (no_dash P fen spells (sym b ∙ a))
 same_start P Q x p q (as_fen other fen spells a) (as_fen others more also b) =
-    let same : fen ≡ more = texts_once fen more (lined_fen P fen p.sound spells) (lined_fen Q more q.sound also) (sym a ∙ b) in
+    let same : fen ≡ more =
+    texts_once fen more (lined_fen P fen p.sound spells) (lined_fen Q more q.sound also) (sym a
+    ∙ b) in
     same_fen P Q more p q (subst (IsFen P) same spells) also
 
 -- ---- and no space stands in the text of a start
@@ -270,6 +327,7 @@ start_unspaced P x (as_fen other fen spells a) = subst IsUnspaced (sym a) (unspa
 
 -- ---- bytes that are appended where memory is not refused
 
-pub on_ok_if : {T E : Type 0} (result : Result T E) (x y z : List ℕ) → x ≡ (if is_ok result then y else z) → OnOk result (x ≡ y)
+pub on_ok_if : {T E : Type 0} (result : Result T E) (x y z : List ℕ)
+    → x ≡ (if is_ok result then y else z) → OnOk result (x ≡ y)
 on_ok_if (Ok value) x y z is = is
 on_ok_if (Err error) x y z is = record {}

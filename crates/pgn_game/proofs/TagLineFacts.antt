@@ -1,5 +1,6 @@
 -- The lines of tags, one after another.
-use Rattle.std.proofs.Common.{◌≡◌, ℕ, ◌+◌, ◌<◌, List, [], ◌∷◌, ◌++◌, length, take, get_or, map, refl, sym, ap, ◌∙◌, subst, Bor}
+use Rattle.std.proofs.Common.{◌≡◌, ℕ, ◌+◌, ◌<◌, List, [], ◌∷◌, ◌++◌, length, take, get_or, map}
+use Rattle.std.proofs.Common.{refl, sym, ap, ◌∙◌, subst, Bor}
 use Rattle.std.specs.Prelude.{Bool, true, filter, if◌then◌else◌}
 use Rattle.std.specs.Map.Iter.{deref_pair}
 use Rattle.std.proofs.lemmas.List.{append_assoc, append-nil, take_more, map-append}
@@ -9,35 +10,59 @@ use Rattle.pgn_text.specs.Public.GameTexts.{tag_in, tag_names}
 use Rattle.pgn_game.specs.Public.TagLines.{IsLineOf, AreLinesOf}
 
 -- those of some names and then those of others
-pub lines_join : (tags : List (List ℕ × List ℕ)) (result : List ℕ) (names more : List (List ℕ)) (lines ends : List ℕ)
-    → AreLinesOf tags result names lines → AreLinesOf tags result more ends → AreLinesOf tags result (names ++ more) (lines ++ ends)
-lines_join tags result [] more lines ends are others = subst (λ xs. AreLinesOf tags result more (xs ++ ends)) (sym are) others
-lines_join tags result (name ∷ names) more lines ends (line, rest, is, spells, are) others =
-    (line, rest ++ ends, is, ap (λ xs. xs ++ ends) spells ∙ append_assoc line rest ends, lines_join tags result names more rest ends are others)
+pub lines_join : (tags : List (List ℕ × List ℕ)) (result : List ℕ) (names more : List (List ℕ))
+    (lines ends : List ℕ)
+    → AreLinesOf tags result names lines → AreLinesOf tags result more ends
+    → AreLinesOf tags result (names ++ more) (lines ++ ends)
+lines_join tags result [] more lines ends are others =
+    subst (λ xs. AreLinesOf tags result more (xs ++ ends)) (sym are) others
+lines_join tags result (name ∷ names) more lines ends (line, rest, is, spells, are) others = (
+  line,
+  rest ++ ends,
+  is,
+  ap (λ xs. xs ++ ends) spells ∙ append_assoc line rest ends,
+  lines_join tags result names more rest ends are others,
+)
 
 -- one more line
-pub lines_push : (tags : List (List ℕ × List ℕ)) (result : List ℕ) (names : List (List ℕ)) (lines name line : List ℕ)
-    → AreLinesOf tags result names lines → IsLineOf result name (tag_in name tags) line → AreLinesOf tags result (names ++ name ∷ []) (lines ++ line)
-lines_push tags result names lines name line are is = lines_join tags result names (name ∷ []) lines line are (line, [], is, sym (append-nil line), refl)
+pub lines_push : (tags : List (List ℕ × List ℕ)) (result : List ℕ) (names : List (List ℕ))
+    (lines name line : List ℕ)
+    → AreLinesOf tags result names lines → IsLineOf result name (tag_in name tags) line
+    → AreLinesOf tags result (names ++ name ∷ []) (lines ++ line)
+lines_push tags result names lines name line are is =
+    lines_join tags result names (name ∷ []) lines line are (
+      line,
+      [],
+      is,
+      sym (append-nil line),
+      refl,
+    )
 
 -- the names so far, with the next one
 pub names_more : (names : List (Bor (List ℕ))) (i : ℕ) (d : Bor (List ℕ)) → i < length names
-    → map (λ name. name.now) (take (i + 1) names) ≡ map (λ name. name.now) (take i names) ++ (get_or names i d).now ∷ []
+    → map (λ name. name.now) (take (i + 1) names)
+    ≡ map (λ name. name.now) (take i names) ++ (get_or names i d).now ∷ []
 names_more names i d within =
-    ap (map (λ name. name.now)) (take_more names i d within) ∙ map-append (λ (name : Bor (List ℕ)). name.now) (take i names) (get_or names i d ∷ [])
+    ap (map (λ name. name.now)) (take_more names i d within)
+    ∙ map-append (λ (name : Bor (List ℕ)). name.now) (take i names) (get_or names i d ∷ [])
 
 -- the names of the tags that a walk over their map has shown
 abbrev pub shown_names : List (Bor (Bor (List ℕ)) × Bor (Bor (List ℕ))) → List (List ℕ)
 shown_names shown = tag_names (map tag_of (map deref_pair shown))
 
-shown_more : (shown : List (Bor (Bor (List ℕ)) × Bor (Bor (List ℕ)))) (tag : Bor (Bor (List ℕ)) × Bor (Bor (List ℕ)))
+shown_more : (shown : List (Bor (Bor (List ℕ)) × Bor (Bor (List ℕ)))) (tag : Bor (Bor (List ℕ))
+    × Bor (Bor (List ℕ)))
     → shown_names (shown ++ tag ∷ []) ≡ shown_names shown ++ tag.0.now.now ∷ []
 shown_more [] tag = refl
 shown_more (first ∷ shown) tag = ap (λ names. first.0.now.now ∷ names) (shown_more shown tag)
 
 -- those that pass a test, with one more that passes it
-pub passed_more : (test : List ℕ → Bool) (shown : List (Bor (Bor (List ℕ)) × Bor (Bor (List ℕ)))) (tag : Bor (Bor (List ℕ)) × Bor (Bor (List ℕ)))
-    → test tag.0.now.now ≡ true → filter test (shown_names (shown ++ tag ∷ [])) ≡ filter test (shown_names shown) ++ tag.0.now.now ∷ []
+pub passed_more : (test : List ℕ
+    → Bool) (shown : List (Bor (Bor (List ℕ)) × Bor (Bor (List ℕ)))) (tag : Bor (Bor (List ℕ))
+    × Bor (Bor (List ℕ)))
+    → test tag.0.now.now ≡ true → filter test (shown_names (shown ++ tag ∷ []))
+    ≡ filter test (shown_names shown) ++ tag.0.now.now ∷ []
 passed_more test shown tag passes =
-    ap (filter test) (shown_more shown tag) ∙ filter-append test (shown_names shown) (tag.0.now.now ∷ [])
+    ap (filter test) (shown_more shown tag)
+    ∙ filter-append test (shown_names shown) (tag.0.now.now ∷ [])
     ∙ ap (λ b. filter test (shown_names shown) ++ (if b then tag.0.now.now ∷ [] else [])) passes

@@ -1,4 +1,5 @@
--- Private words: how a replay is stored, and what its walks, its pen, and the writer and the reader of its record keep. No public contract cites them.
+-- Private words: how a replay is stored, and what its walks, its pen, and the writer and the reader
+-- of its record keep. No public contract cites them.
 pub mod Codes
 pub mod Walks
 pub mod LineTexts

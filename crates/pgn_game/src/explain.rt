@@ -1,9 +1,11 @@
 //! At which word of a game its replay ends, and why.
-ghost use Rattle.std.specs.Prelude.{◌≡◌, ◌+◌, ◌<◌, ◌≤◌, ◌↔◌, ℕ, map, None, MatchOption, MatchResult, IfOk, IfSome, IsTrue, OnOk};
+ghost use Rattle.std.specs.Prelude.{◌≡◌, ◌+◌, ◌<◌, ◌≤◌, ◌↔◌, ℕ, map, None, MatchOption};
+ghost use Rattle.std.specs.Prelude.{MatchResult, IfOk, IfSome, IsTrue, OnOk};
 ghost use Rattle.pgn_text.specs.Public.Elements.{item_of};
 ghost use Rattle.pgn_text.specs.Public.GameTexts.{IsPaired, tag_in};
 ghost use Rattle.pgn_game.specs.Public.Starts.{fen_tag, IsBadStart};
-ghost use Rattle.pgn_game.specs.Public.Faults.{Fault, BadStart, NamesSeveral, IsFault, HasLineFault, IsRefusedTurn};
+ghost use Rattle.pgn_game.specs.Public.Faults.{Fault, BadStart, NamesSeveral, IsFault};
+ghost use Rattle.pgn_game.specs.Public.Faults.{HasLineFault, IsRefusedTurn};
 ghost use Rattle.pgn_game.specs.Public.Refusals.{AreNamed, IsWhy, IsRefusedAt, IsRefusedFrom};
 ghost use Rattle.pgn_game.specs.Private.RefusalWalks.{AddsFrom, IsCounted, GoesOn, IsRefusedHere};
 ghost use Rattle.pgn_game.specs.Public.Replays.{fault_of};
@@ -43,9 +45,11 @@ pub struct Refused<'a> {
     pub why: Why,
 }
 
-/// Why the word, which says nothing that can be played in the position, is refused; in a variation or not.
+/// Why the word, which says nothing that can be played in the position, is refused; in a variation
+/// or not.
 fn why_refused(position: &GamePosition, inside: bool, word: &[u8]) -> Why
-    requires { (plies : ℕ) × (fault : Fault) × IsRefusedTurn inside position.now plies word.now fault }
+    requires { (plies : ℕ) × (fault : Fault)
+        × IsRefusedTurn inside position.now plies word.now fault }
     ensures { IsWhy inside position.now word.now result }
 {
     if is_null_move(inside, word) {
@@ -71,7 +75,8 @@ fn is_out_of_memory(fault: GameFault<'_>) -> bool
     matches!(fault, GameFault::OutOfMemory)
 }
 
-/// Whether the element is played, where these lines are replayed and so many variations are open; counts those that are open after it.
+/// Whether the element is played, where these lines are replayed and so many variations are open;
+/// counts those that are open after it.
 fn is_played(lines: Lines, element: Element<'_>, depth: &mut usize) -> bool
     requires { depth.old < usize.MAX }
     ensures counted { IsCounted lines (item_of element.entry) depth.old depth.new result }
@@ -99,7 +104,9 @@ fn go_on<'a>(
     index: usize,
 ) -> Result<Option<Refused<'a>>, AllocError>
     requires { stack.old.line.plies < usize.MAX }
-    ensures { IfOk result (λ found. MatchOption found (GoesOn stack.old (item_of element.entry) stack.new) (IsRefusedHere stack.old (item_of element.entry) index)) }
+    ensures { IfOk result (λ found.
+        MatchOption found (GoesOn stack.old (item_of element.entry) stack.new)
+        (IsRefusedHere stack.old (item_of element.entry) index)) }
 {
     let inside = stack.is_inside();
     let position = stack.line.now.copy();
@@ -145,7 +152,8 @@ fn first_refused<'a>(
     Ok(None)
 }
 
-/// The first word of these lines of the game that is refused, where its start is not: none, where the lines can be replayed. This plays
+/// The first word of these lines of the game that is refused, where its start is not: none, where
+/// the lines can be replayed. This plays
 /// the game once more, and is for a game whose fault is known.
 pub fn refused_word<'a>(
     alloc: Global,
@@ -156,7 +164,8 @@ pub fn refused_word<'a>(
         (λ found. MatchOption found
         ((fault : Fault) → IsFault lines (tag_in fen_tag raw.now.tags) raw.now.elements fault → ⊥)
         (IsRefusedAt lines (tag_in fen_tag raw.now.tags) raw.now.elements))
-        (λ fault. IfSome (fault_of fault) (λ reported. IsBadStart (tag_in fen_tag raw.now.tags) × (reported ≡ BadStart))) }
+        (λ fault. IfSome (fault_of fault) (λ reported. IsBadStart (tag_in fen_tag raw.now.tags)
+        × (reported ≡ BadStart))) }
 {
     let start = starting_position(alloc, raw.tags())?;
     Ok(first_refused(alloc, &start, raw.elements(), lines)?)
@@ -178,7 +187,8 @@ fn push_named(
     Ok(())
 }
 
-/// The legal moves that the word names in the position, in the order of the squares from which they go: a1, b1 to h1, a2 and so on.
+/// The legal moves that the word names in the position, in the order of the squares from which they
+/// go: a1, b1 to h1, a2 and so on.
 pub fn named_moves(
     alloc: Global,
     position: &GamePosition,

@@ -1,17 +1,29 @@
-//! What holds of every game, whatever replays it, and of every pack. Each law is the contract of a function that does nothing.
+//! What holds of every game, whatever replays it, and of every pack. Each law is the contract of a
+//! function that does nothing.
 
 ghost use Rattle.pgn_game.specs.Public.Exports.{MovetextHasOneList};
 ghost use Rattle.pgn_game.specs.Public.Refusals.{OneLineIsReached, RefusedWordIsTheFault};
 ghost use Rattle.pgn_game.specs.Public.TextLines.{TokensHaveAText, TokensHaveOneText};
 ghost use Rattle.pgn_game.specs.Public.GameLines.{SoundGameHasALine, GameHasOneLine, LineIsTheGame};
-ghost use Rattle.pgn_game.specs.Public.Laws.{EachMoveIsNamed, MainLineIsTheLine, EachMoveHasATurn, GameHasOneReplay, GameHasOneOpening, GameHasOneFault, SoundGameHasNoFault, GameHasAnAnswer, MovetextHasTokens, GameHasAnExport, GameHasOneExport, NoLineIsMisread, ExportIsReadAsOne, ThreeBytesAreACode, CodeIsReadBack, MoveHasOneCode, CodeOfAMoveFits, CodeMovesAsItsMove, GameHasOneRecord, GameHasOneSpelling, SoundGameHasARecord, GameOfABlockFits, HeadIsReadBack, RecordHasOneReading, PackHasOneReading};
+ghost use Rattle.pgn_game.specs.Public.Laws.{EachMoveIsNamed, MainLineIsTheLine, EachMoveHasATurn};
+ghost use Rattle.pgn_game.specs.Public.Laws.{GameHasOneReplay, GameHasOneOpening, GameHasOneFault};
+ghost use Rattle.pgn_game.specs.Public.Laws.{SoundGameHasNoFault, GameHasAnAnswer};
+ghost use Rattle.pgn_game.specs.Public.Laws.{MovetextHasTokens, GameHasAnExport, GameHasOneExport};
+ghost use Rattle.pgn_game.specs.Public.Laws.{NoLineIsMisread, ExportIsReadAsOne};
+ghost use Rattle.pgn_game.specs.Public.Laws.{ThreeBytesAreACode, CodeIsReadBack, MoveHasOneCode};
+ghost use Rattle.pgn_game.specs.Public.Laws.{CodeOfAMoveFits, CodeMovesAsItsMove, GameHasOneRecord};
+ghost use Rattle.pgn_game.specs.Public.Laws.{GameHasOneSpelling, SoundGameHasARecord};
+ghost use Rattle.pgn_game.specs.Public.Laws.{GameOfABlockFits, HeadIsReadBack, RecordHasOneReading};
+ghost use Rattle.pgn_game.specs.Public.Laws.{PackHasOneReading};
 
-/// Whichever lines are replayed, each move of the main line is the only legal move that its word names in the position before it.
+/// Whichever lines are replayed, each move of the main line is the only legal move that its word
+/// names in the position before it.
 pub fn one_legal_move()
     ensures { EachMoveIsNamed }
 {}
 
-/// The main line, of which the moves that stand in no variation are, is the line that the elements spell as a tree, without its variations.
+/// The main line, of which the moves that stand in no variation are, is the line that the elements
+/// spell as a tree, without its variations.
 pub fn one_main_line()
     ensures { MainLineIsTheLine }
 {}
@@ -21,7 +33,8 @@ pub fn a_turn_each()
     ensures { EachMoveHasATurn }
 {}
 
-/// Of the main line, and of all lines, a game has at most one replay and at most one fault, and not both.
+/// Of the main line, and of all lines, a game has at most one replay and at most one fault, and not
+/// both.
 pub fn one_answer()
     ensures replay { GameHasOneReplay }
     ensures fault { GameHasOneFault }
@@ -33,13 +46,16 @@ pub fn one_opening()
     ensures { GameHasOneOpening }
 {}
 
-/// Of the main line, and of all lines, a game has a replay or a fault, where its FEN tag holds the contents of a string and its
-/// parentheses stand in pairs, as in each game of a text. Of no other contents is there a value that could be read or refused.
+/// Of the main line, and of all lines, a game has a replay or a fault, where its FEN tag holds the
+/// contents of a string and its
+/// parentheses stand in pairs, as in each game of a text. Of no other contents is there a value
+/// that could be read or refused.
 pub fn an_answer()
     ensures { GameHasAnAnswer }
 {}
 
-/// The elements in front of one lead to one position alone; and whatever word stands there and is refused in that position is the fault of
+/// The elements in front of one lead to one position alone; and whatever word stands there and is
+/// refused in that position is the fault of
 /// the game, whatever stands after it.
 pub fn one_place_reached()
     ensures line { OneLineIsReached }
@@ -57,18 +73,21 @@ pub fn one_movetext()
     ensures { MovetextHasOneList }
 {}
 
-/// In each style the movetext of a game that is replayed has a list of tokens; with variations, where all lines are replayed.
+/// In each style the movetext of a game that is replayed has a list of tokens; with variations,
+/// where all lines are replayed.
 pub fn a_movetext()
     ensures { MovetextHasTokens }
 {}
 
-/// In each style a game that is replayed has an export, and only one; with variations, where all lines are replayed.
+/// In each style a game that is replayed has an export, and only one; with variations, where all
+/// lines are replayed.
 pub fn one_export()
     ensures some { GameHasAnExport }
     ensures one { GameHasOneExport }
 {}
 
-/// In each notation a game whose main line is sound has a line, and only one; and two games have the same line exactly where they start in
+/// In each notation a game whose main line is sound has a line, and only one; and two games have
+/// the same line exactly where they start in
 /// the same position and have the same moves.
 pub fn one_game_line()
     ensures some { SoundGameHasALine }
@@ -76,7 +95,8 @@ pub fn one_game_line()
     ensures same { LineIsTheGame }
 {}
 
-/// No line of a movetext is read as an escape or as an event line, whatever its comments say; and the export of a game begins with an event
+/// No line of a movetext is read as an escape or as an event line, whatever its comments say; and
+/// the export of a game begins with an event
 /// line, no other of its lines is one, and none is an escape.
 pub fn no_line_misread()
     ensures movetext { NoLineIsMisread }
@@ -89,14 +109,16 @@ pub fn one_code()
     ensures one { CodeIsReadBack }
 {}
 
-/// A move that a man may make has one code at most, which has a spelling, and which moves the men as the move does.
+/// A move that a man may make has one code at most, which has a spelling, and which moves the men
+/// as the move does.
 pub fn code_of_a_move()
     ensures one { MoveHasOneCode }
     ensures fits { CodeOfAMoveFits }
     ensures moves { CodeMovesAsItsMove }
 {}
 
-/// A game that is replayed has one record at most under a name, a number and an offset; and a game whose main line is sound has a record,
+/// A game that is replayed has one record at most under a name, a number and an offset; and a game
+/// whose main line is sound has a record,
 /// and only one.
 pub fn one_record()
     ensures replayed { GameHasOneRecord }
@@ -109,7 +131,8 @@ pub fn room_in_a_record()
     ensures { GameOfABlockFits }
 {}
 
-/// The head of a record shows its game; in front of bytes stands the record of one game at most; and bytes are the pack of one list of games
+/// The head of a record shows its game; in front of bytes stands the record of one game at most;
+/// and bytes are the pack of one list of games
 /// at most.
 pub fn one_pack()
     ensures head { HeadIsReadBack }

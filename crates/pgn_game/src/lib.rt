@@ -1,4 +1,5 @@
-//! Games played and written: the lines of a game as they stand in a file, from its start on, and its export.
+//! Games played and written: the lines of a game as they stand in a file, from its start on, and
+//! its export.
 //!
 //! The exports of the games of a block that can be replayed:
 //!

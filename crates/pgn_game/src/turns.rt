@@ -1,4 +1,5 @@
-//! One turn of a game: the position that it begins from, what a word says there, and why it can't be played.
+//! One turn of a game: the position that it begins from, what a word says there, and why it can't
+//! be played.
 
 pub(crate) mod fault;
 pub(crate) mod line_move;

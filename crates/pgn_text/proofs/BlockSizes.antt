@@ -1,5 +1,7 @@
 -- The blocks of a text in memory, call by call.
-use Rattle.std.proofs.Common.{◌≡◌, ◌≢◌, ℕ, ◌+◌, ◌<◌, Bool, true, false, List, [], ◌∷◌, ◌++◌, Some, map, length, refl, sym, ap, subst, ◌∙◌, inl, inr, arith, append_assoc, append-nil, length-append}
+use Rattle.std.proofs.Common.{◌≡◌, ◌≢◌, ℕ, ◌+◌, ◌<◌, Bool, true, false, List, [], ◌∷◌, ◌++◌, Some}
+use Rattle.std.proofs.Common.{map, length, refl, sym, ap, subst, ◌∙◌, inl, inr, arith, append_assoc}
+use Rattle.std.proofs.Common.{append-nil, length-append}
 use Rattle.std.proofs.lemmas.Bool.{cases_Bool, both_ways}
 use Rattle.std.proofs.lemmas.List.{map-append}
 use Rattle.pgn_text.specs.Public.Blocks.{IsFirstBlock, AreBlocks}
@@ -12,68 +14,95 @@ abbrev pub AreLeft : Bool → List (List ℕ) → List ℕ → Type 0
 AreLeft true more text = more ≡ []
 AreLeft false more text = AreBlocks more text
 
--- these sizes are those of the blocks given so far, and the blocks of the bytes ahead and those left to read complete them
+-- these sizes are those of the blocks given so far, and the blocks of the bytes ahead and those
+-- left to read complete them
 pub record Sized (text : List ℕ) (now : Window) (left : List ℕ) (sizes : List ℕ) : Type 0 where
   pub blocks : List (List ℕ)
   pub sized : sizes ≡ map length blocks
-  pub leads : (more : List (List ℕ)) → AreLeft now.ended more (now.ahead ++ left) → AreBlocks (blocks ++ more) text
+  pub leads : (more : List (List ℕ)) → AreLeft now.ended more (now.ahead ++ left)
+      → AreBlocks (blocks ++ more) text
 
 -- one call for each block, and one for the end
 abbrev pub turns : Bool → ℕ
 turns true = 0
 turns false = 1
 
-pub none_sized : (text left : List ℕ) (now : Window) → now ≡ fresh_window 0 → left ≡ text → Sized text now left []
+pub none_sized : (text left : List ℕ) (now : Window) → now ≡ fresh_window 0 → left ≡ text
+    → Sized text now left []
 none_sized text left now fresh same = record {
   blocks = [];
   sized = refl;
-  leads = λ more are. subst (AreBlocks more) same (subst (λ (w : Window). AreLeft w.ended more (w.ahead ++ left)) fresh are);
+  leads = λ more are. subst (AreBlocks more) same
+      (subst (λ (w : Window). AreLeft w.ended more (w.ahead ++ left)) fresh are);
 }
 
 -- the bytes of a block and what follows it are those that were ahead or left
-pub cut_text : (now next : Window) (left left' read block : List ℕ) → IsCutOff now next (Some left') read block → left ≡ read ++ left'
+pub cut_text : (now next : Window) (left left' read block : List ℕ)
+    → IsCutOff now next (Some left') read block → left ≡ read ++ left'
     → now.ahead ++ left ≡ block ++ (next.ahead ++ left')
 cut_text now next left left' read block cut reads =
-    ap (λ t. now.ahead ++ t) reads ∙ sym (append_assoc now.ahead read left') ∙ ap (λ t. t ++ left') cut.parted
+    ap (λ t. now.ahead ++ t) reads ∙ sym (append_assoc now.ahead read left')
+    ∙ ap (λ t. t ++ left') cut.parted
     ∙ append_assoc block next.ahead left'
 
 -- a block before more bytes has some
-pub some_bytes : (ahead block : List ℕ) → ahead ≢ [] → IsFirstBlock block (ahead ++ []) → 0 < length block
-some_bytes ahead [] more first = absurd (more (sym (append-nil ahead) ∙ empty_first (ahead ++ []) first))
+pub some_bytes : (ahead block : List ℕ) → ahead ≢ [] → IsFirstBlock block (ahead ++ [])
+    → 0 < length block
+some_bytes ahead [] more first =
+    absurd (more (sym (append-nil ahead) ∙ empty_first (ahead ++ []) first))
 some_bytes ahead (x ∷ block) more first = omega arith
 
 -- less is left after each block
-pub fewer_left : (now next : Window) (left left' read block : List ℕ) → IsCutOff now next (Some left') read block → left ≡ read ++ left'
-    → length next.ahead + length left' + turns next.ended < length now.ahead + length left + turns now.ended
+pub fewer_left : (now next : Window) (left left' read block : List ℕ)
+    → IsCutOff now next (Some left') read block → left ≡ read ++ left'
+    → length next.ahead + length left' + turns next.ended
+    < length now.ahead + length left + turns now.ended
 fewer_left now next left left' read block cut reads =
     let before : turns now.ended ≡ 1 = ap turns cut.going in
     let size = ap length (cut_text now next left left' read block cut reads) in
     let total : length now.ahead + length left ≡ length block + (length next.ahead + length left') =
-    omega (arith, size, length-append now.ahead left, length-append block (next.ahead ++ left'), length-append next.ahead left') in
+    omega (
+      arith,
+      size,
+      length-append now.ahead left,
+      length-append block (next.ahead ++ left'),
+      length-append next.ahead left',
+    ) in
     elim (cases_Bool next.ended) [
       | inl ended ↦ let after : turns next.ended ≡ 0 = ap turns ended in omega arith
       | inr going ↦
           let after : turns next.ended ≡ 1 = ap turns going in
-          let some : 0 < length block = some_bytes next.ahead block (cut.more going) (cut.first [] (λ _. refl)) in
+          let some : 0 < length block =
+          some_bytes next.ahead block (cut.more going) (cut.first [] (λ _. refl)) in
           omega arith
     ]
 
 -- one block more
-pub one_sized : (text : List ℕ) (now next : Window) (left left' read block sizes : List ℕ) (size : ℕ) → Sized text now left sizes
-    → IsCutOff now next (Some left') read block → left ≡ read ++ left' → size ≡ length block → Sized text next left' (sizes ++ size ∷ [])
+pub one_sized : (text : List ℕ) (now next : Window) (left left' read block sizes : List ℕ)
+    (size : ℕ) → Sized text now left sizes
+    → IsCutOff now next (Some left') read block → left ≡ read ++ left' → size ≡ length block
+    → Sized text next left' (sizes ++ size ∷ [])
 one_sized text now next left left' read block sizes size s cut reads is = record {
   blocks = s.blocks ++ block ∷ [];
-  sized = ap (λ l. l ++ size ∷ []) s.sized ∙ ap (λ n. map length s.blocks ++ n ∷ []) is ∙ sym (simp map-append);
+  sized = ap (λ l. l ++ size ∷ []) s.sized ∙ ap (λ n. map length s.blocks ++ n ∷ []) is
+      ∙ sym (simp map-append);
   leads = λ more are.
       subst (λ l. AreBlocks l text) (sym (append_assoc s.blocks (block ∷ []) more))
-      (s.leads (block ∷ more) (subst (λ e. AreLeft e (block ∷ more) (now.ahead ++ left)) (sym cut.going)
-      (subst (AreBlocks (block ∷ more)) (sym (cut_text now next left left' read block cut reads)) (lead next.ended refl more are))));
+      (s.leads (block
+      ∷ more) (subst (λ e. AreLeft e (block ∷ more) (now.ahead ++ left)) (sym cut.going)
+      (subst (AreBlocks (block ∷ more)) (sym (cut_text now next left left' read block cut reads))
+      (lead next.ended refl more are))));
 }
   where
-    lead : (ended : Bool) → next.ended ≡ ended → (more : List (List ℕ)) → AreLeft ended more (next.ahead ++ left') → AreBlocks (block ∷ more) (block ++ (next.ahead ++ left'))
+    lead : (ended : Bool) → next.ended ≡ ended → (more : List (List ℕ))
+        → AreLeft ended more (next.ahead ++ left')
+        → AreBlocks (block ∷ more) (block ++ (next.ahead ++ left'))
     lead true ended [] none =
-        let nothing : next.ahead ++ left' ≡ [] = ap (λ t. t ++ left') (cut.last ended).0 ∙ (cut.last ended).1 in
-        (ap (λ t. block ++ t) nothing ∙ append-nil block, subst (IsFirstBlock block) nothing (cut.first left' (λ _. (cut.last ended).1)))
+        let nothing : next.ahead ++ left' ≡ [] =
+        ap (λ t. t ++ left') (cut.last ended).0 ∙ (cut.last ended).1 in (
+          ap (λ t. block ++ t) nothing ∙ append-nil block,
+          subst (IsFirstBlock block) nothing (cut.first left' (λ _. (cut.last ended).1)),
+        )
     lead true ended (x ∷ more) none = cc
     lead false going [] are = absurd are
     lead false going (x ∷ more) are = (
@@ -85,7 +114,12 @@ one_sized text now next left left' read block sizes size s cut reads is = record
     )
 
 -- after the last block all are given
-pub all_sized : (text left sizes : List ℕ) (now : Window) → Sized text now left sizes → now.ended ≡ true
+pub all_sized : (text left sizes : List ℕ) (now : Window) → Sized text now left sizes
+    → now.ended ≡ true
     → (blocks : List (List ℕ)) × AreBlocks blocks text × (sizes ≡ map length blocks)
-all_sized text left sizes now s ended =
-    (s.blocks, subst (λ l. AreBlocks l text) (append-nil s.blocks) (s.leads [] (subst (λ e. AreLeft e [] (now.ahead ++ left)) (sym ended) refl)), s.sized)
+all_sized text left sizes now s ended = (
+  s.blocks,
+  subst (λ l. AreBlocks l text) (append-nil s.blocks)
+      (s.leads [] (subst (λ e. AreLeft e [] (now.ahead ++ left)) (sym ended) refl)),
+  s.sized,
+)

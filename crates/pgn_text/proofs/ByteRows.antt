@@ -1,7 +1,11 @@
 -- Worked rows of the classes of bytes, of runs and of strings. A class is held by all its bytes.
-use Rattle.std.proofs.Common.{◌≡◌, ℕ, zero, suc, ◌+◌, Bool, true, false, not, List, [], ◌∷◌, ◌++◌, codes, refl}
+use Rattle.std.proofs.Common.{◌≡◌, ℕ, zero, suc, ◌+◌, Bool, true, false, not, List, [], ◌∷◌, ◌++◌}
+use Rattle.std.proofs.Common.{codes, refl}
 use Rattle.std.specs.List.{filter}
-use Rattle.pgn_text.specs.Public.Bytes.{is_byte, is_white, is_digit, is_letter, is_name_byte, is_word_byte, is_mark, is_check_mark, is_plain, is_not_line_feed, is_not_brace, ends_in_line_feed, is_empty, stops, begins, run_of, after_run}
+use Rattle.pgn_text.specs.Public.Bytes.{is_byte, is_white, is_digit, is_letter, is_name_byte}
+use Rattle.pgn_text.specs.Public.Bytes.{is_word_byte, is_mark, is_check_mark, is_plain}
+use Rattle.pgn_text.specs.Public.Bytes.{is_not_line_feed, is_not_brace, ends_in_line_feed, is_empty}
+use Rattle.pgn_text.specs.Public.Bytes.{stops, begins, run_of, after_run}
 use Rattle.pgn_text.specs.Public.StopPlaces.{is_open_brace, is_open_bracket, is_quote}
 use Rattle.pgn_text.specs.Public.Strings.{Single, Escaped, spelled_sign, is_sign, value_of_sign}
 

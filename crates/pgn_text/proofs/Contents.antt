@@ -1,5 +1,7 @@
 -- The contents of a string, read run by run.
-use Rattle.std.proofs.Common.{◌≡◌, ◌≢◌, ℕ, ◌+◌, ◌-◌, ◌<◌, ◌≤◌, Bool, true, false, List, [], ◌∷◌, ◌++◌, take, drop, length, get_or, refl, sym, ap, ◌∙◌, subst, append_assoc, append-nil, arith, drop-drop, length-drop}
+use Rattle.std.proofs.Common.{◌≡◌, ◌≢◌, ℕ, ◌+◌, ◌-◌, ◌<◌, ◌≤◌, Bool, true, false, List, [], ◌∷◌}
+use Rattle.std.proofs.Common.{◌++◌, take, drop, length, get_or, refl, sym, ap, ◌∙◌, subst}
+use Rattle.std.proofs.Common.{append_assoc, append-nil, arith, drop-drop, length-drop}
 use Rattle.std.specs.Prelude.{Option, Some, None, option_map, IsTrue, ◌==◌, ◌&&◌, ◌||◌, not}
 use Rattle.std.specs.List.{list_all}
 use Rattle.std.proofs.lemmas.Bool.{and_parts, not-true, ne_eqb}
@@ -15,82 +17,109 @@ use Rattle.pgn_text.proofs.Fronts.{run-append-after, list_all-run, stops-after_r
 abbrev pub after_front : List ℕ → Option (List ℕ × List ℕ) → Option (List ℕ × List ℕ)
 after_front front found = option_map (λ f. (front ++ f.0, f.1)) found
 
-with_more : (b : ℕ) (front : List ℕ) (found : Option (List ℕ × List ℕ)) → option_map (with_byte b) (after_front front found) ≡ after_front (b ∷ front) found
+with_more : (b : ℕ) (front : List ℕ) (found : Option (List ℕ × List ℕ))
+    → option_map (with_byte b) (after_front front found) ≡ after_front (b ∷ front) found
 with_more b front None = refl
 with_more b front (Some found) = refl
 
-with_nothing : (b : ℕ) (found : Option (List ℕ × List ℕ)) → option_map (with_byte b) found ≡ after_front (b ∷ []) found
+with_nothing : (b : ℕ) (found : Option (List ℕ × List ℕ))
+    → option_map (with_byte b) found ≡ after_front (b ∷ []) found
 with_nothing b None = refl
 with_nothing b (Some found) = refl
 
-after_both : (first second : List ℕ) (found : Option (List ℕ × List ℕ)) → after_front first (after_front second found) ≡ after_front (first ++ second) found
+after_both : (first second : List ℕ) (found : Option (List ℕ × List ℕ))
+    → after_front first (after_front second found) ≡ after_front (first ++ second) found
 after_both first second None = refl
-after_both first second (Some found) = ap (λ xs. Some (xs, found.1)) (sym (append_assoc first second found.0))
+after_both first second (Some found) =
+    ap (λ xs. Some (xs, found.1)) (sym (append_assoc first second found.0))
 
 -- bytes that stand for themselves are contents
-singles : (xs rest : List ℕ) → IsTrue (list_all is_single xs) → contents_front false (xs ++ rest) ≡ after_front xs (contents_front false rest)
+singles : (xs rest : List ℕ) → IsTrue (list_all is_single xs)
+    → contents_front false (xs ++ rest) ≡ after_front xs (contents_front false rest)
 singles [] rest all =
-    elim (contents_front false rest) as (λ o. o ≡ after_front [] o) [ None ↦ refl | Some found ↦ refl ]
+    elim (contents_front false rest) as (λ o. o
+    ≡ after_front [] o) [ None ↦ refl | Some found ↦ refl ]
 singles (b ∷ xs) rest all =
     let parts : (is_single b ≡ true) × (list_all is_single xs ≡ true) = and_parts _ _ all in
-    let plain : (is_plain b ≡ true) × ((not (b == 34) && not (b == 92)) ≡ true) = and_parts _ _ parts.0 in
+    let plain : (is_plain b ≡ true) × ((not (b == 34) && not (b == 92)) ≡ true) =
+    and_parts _ _ parts.0 in
     let others : (not (b == 34) ≡ true) × (not (b == 92) ≡ true) = and_parts _ _ plain.1 in
     rw (not-true _ others.0, not-true _ others.1, plain.0)
-    (ap (option_map (with_byte b)) (singles xs rest parts.1) ∙ with_more b xs (contents_front false rest))
+    (ap (option_map (with_byte b)) (singles xs rest parts.1)
+    ∙ with_more b xs (contents_front false rest))
 
 -- where the bytes from the place `from` up to the place `end` are contents so far
 abbrev pub ReadsOn : List ℕ → ℕ → ℕ → Type 0
-ReadsOn block from end = contents_front false (drop from block) ≡ after_front (take (end - from) (drop from block)) (contents_front false (drop end block))
+ReadsOn block from end = contents_front false (drop from block)
+    ≡ after_front (take (end - from) (drop from block)) (contents_front false (drop end block))
 
-reads_both : (block : List ℕ) (begin at end : ℕ) → begin ≤ at → at ≤ end → ReadsOn block begin at → ReadsOn block at end → ReadsOn block begin end
+reads_both : (block : List ℕ) (begin at end : ℕ) → begin ≤ at → at ≤ end → ReadsOn block begin at
+    → ReadsOn block at end → ReadsOn block begin end
 reads_both block begin at end low high first second =
-    let there : drop (at - begin) (drop begin block) ≡ drop at block = drop-drop (at - begin) begin block ∙ ap (λ k. drop k block) (omega arith) in
-    let front : take (at - begin) (drop begin block) ++ take (end - at) (drop at block) ≡ take (end - begin) (drop begin block) =
+    let there : drop (at - begin) (drop begin block) ≡ drop at block =
+    drop-drop (at - begin) begin block ∙ ap (λ k. drop k block) (omega arith) in
+    let front : take (at - begin) (drop begin block) ++ take (end - at) (drop at block)
+    ≡ take (end - begin) (drop begin block) =
     ap (λ xs. take (at - begin) (drop begin block) ++ take (end - at) xs) (sym there)
-    ∙ sym (take-add (at - begin) (end - at) (drop begin block)) ∙ ap (λ k. take k (drop begin block)) (omega arith) in
+    ∙ sym (take-add (at - begin) (end - at) (drop begin block))
+    ∙ ap (λ k. take k (drop begin block)) (omega arith) in
     first ∙ ap (after_front (take (at - begin) (drop begin block))) second
-    ∙ after_both (take (at - begin) (drop begin block)) (take (end - at) (drop at block)) (contents_front false (drop end block))
+    ∙ after_both (take (at - begin) (drop begin block)) (take (end - at) (drop at block))
+    (contents_front false (drop end block))
     ∙ ap (λ xs. after_front xs (contents_front false (drop end block))) front
 
 -- a run of bytes that stand for themselves
-reads_run : (block : List ℕ) (from end : ℕ) → RunTo is_single block from end → ReadsOn block from end
+reads_run : (block : List ℕ) (from end : ℕ) → RunTo is_single block from end
+    → ReadsOn block from end
 reads_run block from end to =
     let parted : drop from block ≡ run_of is_single (drop from block) ++ drop end block =
-    run-append-after is_single (drop from block) ∙ ap (λ xs. run_of is_single (drop from block) ++ xs) (sym to.rest) in
-    ap (contents_front false) parted ∙ singles (run_of is_single (drop from block)) (drop end block) (list_all-run is_single (drop from block))
+    run-append-after is_single (drop from block)
+    ∙ ap (λ xs. run_of is_single (drop from block) ++ xs) (sym to.rest) in
+    ap (contents_front false) parted
+    ∙ singles (run_of is_single (drop from block)) (drop end block)
+    (list_all-run is_single (drop from block))
     ∙ ap (λ xs. after_front xs (contents_front false (drop end block))) (sym to.run)
 
 -- a backslash with a plain byte after it
-reads_pair : (block : List ℕ) (at : ℕ) → at + 1 < length block → get_or block at 0 ≡ 92 → is_plain (get_or block (at + 1) 0) ≡ true → ReadsOn block at (at + 2)
+reads_pair : (block : List ℕ) (at : ℕ) → at + 1 < length block → get_or block at 0 ≡ 92
+    → is_plain (get_or block (at + 1) 0) ≡ true → ReadsOn block at (at + 2)
 reads_pair block at below backslash plain =
     let b : ℕ = get_or block (at + 1) 0 in
     let rest : List ℕ = drop (at + 2) block in
     let bytes : drop at block ≡ 92 ∷ b ∷ rest =
     drop_more block at 0 (omega arith) ∙ ap (λ x. x ∷ drop (at + 1) block) backslash
-    ∙ ap (λ (xs : List ℕ). 92 ∷ xs) (drop_more block (at + 1) 0 below ∙ ap (λ k. b ∷ drop k block) (omega arith)) in
+    ∙ ap (λ (xs : List ℕ). 92 ∷ xs) (drop_more block (at + 1) 0 below
+    ∙ ap (λ k. b ∷ drop k block) (omega arith)) in
     let two : (at + 2) - at ≡ 2 = omega arith in
-    let both : contents_front false (92 ∷ b ∷ rest) ≡ after_front (92 ∷ b ∷ []) (contents_front false rest) =
-    rw plain (ap (option_map (with_byte 92)) (with_nothing b (contents_front false rest)) ∙ with_more 92 (b ∷ []) (contents_front false rest)) in
+    let both : contents_front false (92 ∷ b ∷ rest)
+    ≡ after_front (92 ∷ b ∷ []) (contents_front false rest) =
+    rw plain (ap (option_map (with_byte 92)) (with_nothing b (contents_front false rest))
+    ∙ with_more 92 (b ∷ []) (contents_front false rest)) in
     ap (contents_front false) bytes ∙ both
-    ∙ ap (λ xs. after_front xs (contents_front false rest)) (sym (ap (λ k. take k (drop at block)) two ∙ ap (take 2) bytes))
+    ∙ ap (λ xs. after_front xs (contents_front false rest))
+    (sym (ap (λ k. take k (drop at block)) two ∙ ap (take 2) bytes))
 
--- the bytes from one place up to another are contents so far, and no byte that stands for itself follows
+-- the bytes from one place up to another are contents so far, and no byte that stands for itself
+-- follows
 pub record ReadTo (block : List ℕ) (begin at : ℕ) : Type 0 where
   pub reads : ReadsOn block begin at
   pub forward : begin ≤ at
   pub within : at ≤ length block
   pub ends : IsTrue (stops is_single (drop at block))
 
-pub read_run : {block : List ℕ} {begin at : ℕ} → RunTo is_single block begin at → ReadTo block begin at
+pub read_run : {block : List ℕ} {begin at : ℕ} → RunTo is_single block begin at
+    → ReadTo block begin at
 read_run {block} {begin} {at} to = record {
   reads = reads_run block begin at to;
   forward = to.forward;
   within = to.within;
-  ends = subst (λ xs. IsTrue (stops is_single xs)) (sym to.rest) (stops-after_run is_single (drop begin block));
+  ends = subst (λ xs. IsTrue (stops is_single xs)) (sym to.rest)
+      (stops-after_run is_single (drop begin block));
 }
 
 -- after a backslash with a plain byte, and the run after them
-pub read_pair : {block : List ℕ} {begin at next : ℕ} → ReadTo block begin at → at + 1 < length block → get_or block at 0 ≡ 92 → is_plain (get_or block (at + 1) 0) ≡ true
+pub read_pair : {block : List ℕ} {begin at next : ℕ} → ReadTo block begin at → at + 1 < length block
+    → get_or block at 0 ≡ 92 → is_plain (get_or block (at + 1) 0) ≡ true
     → RunTo is_single block (at + 2) next → ReadTo block begin next
 read_pair {block} {begin} {at} {next} read below backslash plain to =
     let after : ReadTo block (at + 2) next = read_run to in
@@ -98,13 +127,15 @@ read_pair {block} {begin} {at} {next} read below backslash plain to =
     let high : at + 2 ≤ next = after.forward in
     record {
       reads = reads_both block begin at next low (omega arith) read.reads
-          (reads_both block at (at + 2) next (omega arith) high (reads_pair block at below backslash plain) after.reads);
+          (reads_both block at (at + 2) next (omega arith) high
+          (reads_pair block at below backslash plain) after.reads);
       forward = omega arith;
       within = after.within;
       ends = after.ends;
     }
 
-quote_or_none : (plain quote backslash : Bool) → not (plain && (not quote && not backslash)) ≡ true → backslash ≡ false → (quote || not plain) ≡ true
+quote_or_none : (plain quote backslash : Bool) → not (plain && (not quote && not backslash)) ≡ true
+    → backslash ≡ false → (quote || not plain) ≡ true
 quote_or_none true true backslash ends is = refl
 quote_or_none true false true ends is = absurd (cc)
 quote_or_none true false false ends is = absurd (cc)
@@ -112,36 +143,47 @@ quote_or_none false true backslash ends is = refl
 quote_or_none false false backslash ends is = refl
 
 -- where no byte that stands for itself follows and no backslash, the contents end
-ended : (xs : List ℕ) → IsTrue (stops is_single xs) → ((b : ℕ) (rest : List ℕ) → xs ≡ b ∷ rest → b ≢ 92) → contents_front false xs ≡ Some ([], xs)
+ended : (xs : List ℕ) → IsTrue (stops is_single xs)
+    → ((b : ℕ) (rest : List ℕ) → xs ≡ b ∷ rest → b ≢ 92) → contents_front false xs ≡ Some ([], xs)
 ended [] ends no_backslash = refl
 ended (b ∷ rest) ends no_backslash =
     let no : (b == 92) ≡ false = ne_eqb b 92 (no_backslash b rest refl) in
     rw (no, quote_or_none (is_plain b) (b == 34) (b == 92) ends no) refl
 
-pub read_end : {block : List ℕ} {begin at : ℕ} → ReadTo block begin at → (at < length block → get_or block at 0 ≢ 92) → ContentsTo block begin at
+pub read_end : {block : List ℕ} {begin at : ℕ} → ReadTo block begin at
+    → (at < length block → get_or block at 0 ≢ 92) → ContentsTo block begin at
 read_end {block} {begin} {at} read no_backslash =
     let first : (b : ℕ) (rest : List ℕ) → drop at block ≡ b ∷ rest → b ≢ 92 = λ b rest is backslash.
     let below : at < length block = omega (arith, length-drop at block, ap length is) in
-    let here : get_or block at 0 ≡ b = ap (λ k. get_or block k 0) (omega arith) ∙ sym (get_or-drop at block 0 0) ∙ ap (λ ys. get_or ys 0 0) is in
+    let here : get_or block at 0 ≡ b = ap (λ k. get_or block k 0) (omega arith)
+    ∙ sym (get_or-drop at block 0 0) ∙ ap (λ ys. get_or ys 0 0) is in
     no_backslash below (here ∙ backslash) in
     record {
-      found = read.reads ∙ ap (after_front (take (at - begin) (drop begin block))) (ended (drop at block) read.ends first)
+      found = read.reads
+          ∙ ap (after_front (take (at - begin) (drop begin block)))
+          (ended (drop at block) read.ends first)
           ∙ ap (λ xs. Some (xs, drop at block)) (append-nil (take (at - begin) (drop begin block)));
       forward = read.forward;
       within = read.within;
     }
 
 -- a backslash that stands by itself, and then the end or a byte that no string has
-pub read_none : {block : List ℕ} {begin at : ℕ} → ReadTo block begin at → at < length block → get_or block at 0 ≡ 92 → (at + 1 < length block → is_plain (get_or block (at + 1) 0) ≡ false)
+pub read_none : {block : List ℕ} {begin at : ℕ} → ReadTo block begin at → at < length block
+    → get_or block at 0 ≡ 92 → (at + 1 < length block → is_plain (get_or block (at + 1) 0) ≡ false)
     → contents_front false (drop begin block) ≡ None
 read_none {block} {begin} {at} read below backslash ends =
-    let alone : (xs : List ℕ) → drop (at + 1) block ≡ xs → contents_front true xs ≡ None = λ xs. elim xs as (λ ys. drop (at + 1) block ≡ ys → contents_front true ys ≡ None) [
+    let alone : (xs : List ℕ) → drop (at + 1) block ≡ xs → contents_front true xs ≡ None =
+    λ xs. elim xs as (λ ys. drop (at + 1) block ≡ ys → contents_front true ys ≡ None) [
       | [] ↦ (λ _. refl)
       | (b ∷ rest) ↦ (λ is.
-          let more : at + 1 < length block = omega (arith, length-drop (at + 1) block, ap length is) in
-          let here : get_or block (at + 1) 0 ≡ b = ap (λ k. get_or block k 0) (omega arith) ∙ sym (get_or-drop (at + 1) block 0 0) ∙ ap (λ ys. get_or ys 0 0) is in
+          let more : at + 1 < length block = omega (arith, length-drop (at + 1) block, ap length is)
+          in
+          let here : get_or block (at + 1) 0 ≡ b =
+          ap (λ k. get_or block k 0) (omega arith) ∙ sym (get_or-drop (at + 1) block 0 0)
+          ∙ ap (λ ys. get_or ys 0 0) is in
           rw (sym (ap is_plain here) ∙ ends more) refl)
     ] in
     read.reads ∙ ap (after_front (take (at - begin) (drop begin block)))
-    (ap (contents_front false) (drop_more block at 0 below ∙ ap (λ x. x ∷ drop (at + 1) block) backslash)
+    (ap (contents_front false) (drop_more block at 0 below
+    ∙ ap (λ x. x ∷ drop (at + 1) block) backslash)
     ∙ ap (option_map (with_byte 92)) (alone (drop (at + 1) block) refl))

@@ -1,11 +1,14 @@
--- What the definitions refuse: of the complete blocks of a text, and of what one call of an iterator over a block gives.
-use Rattle.std.proofs.Common.{◌≡◌, ◌≢◌, ◌≤◌, ◌<◌, ◌∙◌, ℕ, true, false, List, [], ◌∷◌, ◌++◌, length, Option, None, Some, Ok, Err, inl, inr, ap, refl, sym, arith}
+-- What the definitions refuse: of the complete blocks of a text, and of what one call of an
+-- iterator over a block gives.
+use Rattle.std.proofs.Common.{◌≡◌, ◌≢◌, ◌≤◌, ◌<◌, ◌∙◌, ℕ, true, false, List, [], ◌∷◌, ◌++◌, length}
+use Rattle.std.proofs.Common.{Option, None, Some, Ok, Err, inl, inr, ap, refl, sym, arith}
 use Rattle.std.proofs.lemmas.List.{length-append}
 use Rattle.pgn_text.specs.Public.Blocks.{event_line}
 use Rattle.std.specs.declared.alloc.AllocError.{AllocError}
 use Rattle.pgn_text.specs.Public.Complete.{AreCompleteBlocks, AreCompletePieces}
 use Rattle.pgn_text.specs.Public.GameTexts.{GameText}
-use Rattle.pgn_text.specs.Public.Left.{Left, ArePiecesLeft, GivesPiece, IsPiece, TakesPiece, piece_place}
+use Rattle.pgn_text.specs.Public.Left.{Left, ArePiecesLeft, GivesPiece, IsPiece, TakesPiece}
+use Rattle.pgn_text.specs.Public.Left.{piece_place}
 use Rattle.pgn_text.specs.Public.LeftMarks.{GivesMark, IsMark, TakesMark}
 use Rattle.pgn_text.specs.Public.Marks.{AreOfBlocks, MarkedPiece}
 use Rattle.pgn_text.specs.Public.Pieces as spec
@@ -17,7 +20,9 @@ use Rattle.pgn_text.specs.declared.game.pieces.PieceStart.TheVariants as starts
 
 -- a text with two event lines has a complete block
 no_block_left_out : AreCompleteBlocks [] (event_line ++ 10 ∷ event_line) → ⊥
-no_block_left_out are = are.parted.1.whole (event_line ++ 10 ∷ []) event_line (sym are.parted.0) (λ e. cc) (λ e. cc) refl
+no_block_left_out are =
+    are.parted.1.whole (event_line ++ 10 ∷ []) event_line (sym are.parted.0) (λ e. cc) (λ e.
+    cc) refl
 
 -- and the last block is not complete
 no_last_block : (text : List ℕ) → AreCompleteBlocks (text ∷ []) text → ⊥
@@ -26,7 +31,8 @@ no_last_block text are = of_rest are.parted.0 are.parted.1 are.parted.2
     of_rest : (rest : List ℕ) → text ≡ text ++ rest → rest ≢ [] → ⊥
     of_rest [] is some = some refl
     of_rest (byte ∷ rest) is some =
-        let long : length text ≡ length (text ++ byte ∷ rest) = ap length is in omega (arith, long, length-append text (byte ∷ rest))
+        let long : length text ≡ length (text ++ byte ∷ rest) = ap length is in
+        omega (arith, long, length-append text (byte ∷ rest))
 
 -- the pieces are those of the complete blocks
 no_piece_of_another_block : (limit depth offset : ℕ) (text : List ℕ) (marks : List MarkedPiece)
@@ -144,8 +150,10 @@ no_end_before_a_mark : (depth : ℕ) (old new : Left) → (ArePiecesLeft depth o
 no_end_before_a_mark depth old new some gives = some gives.0
 
 -- a piece that is given begins before the place that is reached
-no_piece_ahead : (max_depth place : ℕ) (old new : Left) → new.at ≤ place → TakesPiece max_depth old new (Unreadable place) → ⊥
+no_piece_ahead : (max_depth place : ℕ) (old new : Left) → new.at ≤ place
+    → TakesPiece max_depth old new (Unreadable place) → ⊥
 no_piece_ahead max_depth place old new ahead takes = absurd (omega (arith, ahead, takes.starts))
 
-no_mark_ahead : (max_depth place : ℕ) (old new : Left) → new.at ≤ place → TakesMark max_depth old new (starts.Unreadable place) → ⊥
+no_mark_ahead : (max_depth place : ℕ) (old new : Left) → new.at ≤ place
+    → TakesMark max_depth old new (starts.Unreadable place) → ⊥
 no_mark_ahead max_depth place old new ahead takes = absurd (omega (arith, ahead, takes.starts))

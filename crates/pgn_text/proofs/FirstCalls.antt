@@ -1,5 +1,6 @@
 -- What the first calls over a block give.
-use Rattle.std.proofs.Common.{◌≡◌, ℕ, Bool, false, List, [], ◌∷◌, Some, None, Ok, take, drop, refl, subst}
+use Rattle.std.proofs.Common.{◌≡◌, ℕ, Bool, false, List, [], ◌∷◌, Some, None, Ok, take, drop, refl}
+use Rattle.std.proofs.Common.{subst}
 use Rattle.std.specs.Prelude.{Option, MatchOption}
 use Rattle.pgn_text.specs.Public.Left.{Left, ArePiecesLeft, IsPiece, GivesPiece}
 use Rattle.pgn_text.specs.Public.LeftMarks.{IsMark, GivesMark}
@@ -17,24 +18,31 @@ all_left block f = record { block = block; file_start = f; at = 0; failed = fals
 pub first_piece_of : (max_depth : ℕ) (block : List ℕ) (f : Bool) (old new : Left) (piece : Piece)
     → old ≡ all_left block f → GivesPiece max_depth old (Some (Ok piece)) new
     → (pieces : List spec.Piece) × ArePieces max_depth f [] pieces block
-    × ((shown : spec.Piece) × (more : List spec.Piece) × (pieces ≡ shown ∷ more) × IsPiece piece shown)
+    × ((shown : spec.Piece) × (more : List spec.Piece) × (pieces ≡ shown ∷ more)
+    × IsPiece piece shown)
 first_piece_of max_depth block f old new piece fresh gives =
-    let more = pieces_exist max_depth new.file_start (take new.at new.block) (drop new.at new.block) in (
+    let more = pieces_exist max_depth new.file_start (take new.at new.block) (drop new.at new.block)
+    in (
       gives.shown ∷ more.0,
-      subst (λ left. ArePiecesLeft max_depth left (gives.shown ∷ more.0)) fresh (gives.completes more.0 more.1),
+      subst (λ left. ArePiecesLeft max_depth left (gives.shown ∷ more.0)) fresh
+          (gives.completes more.0 more.1),
       (gives.shown, more.0, refl, gives.is),
     )
 
 -- and so is a mark
-pub first_mark_of : (max_depth : ℕ) (block : List ℕ) (f : Bool) (old new : Left) (answer : Option PieceStart)
+pub first_mark_of : (max_depth : ℕ) (block : List ℕ) (f : Bool) (old new : Left)
+    (answer : Option PieceStart)
     → old ≡ all_left block f → GivesMark max_depth old answer new
     → (pieces : List spec.Piece) × ArePieces max_depth f [] pieces block
-    × MatchOption answer (pieces ≡ []) (λ mark. (shown : spec.Piece) × (more : List spec.Piece) × (pieces ≡ shown ∷ more) × IsMark mark shown)
+    × MatchOption answer (pieces ≡ []) (λ mark. (shown : spec.Piece) × (more : List spec.Piece)
+    × (pieces ≡ shown ∷ more) × IsMark mark shown)
 first_mark_of max_depth block f old new None fresh gives =
     ([], subst (λ left. ArePiecesLeft max_depth left []) fresh gives.0, refl)
 first_mark_of max_depth block f old new (Some mark) fresh gives =
-    let more = pieces_exist max_depth new.file_start (take new.at new.block) (drop new.at new.block) in (
+    let more = pieces_exist max_depth new.file_start (take new.at new.block) (drop new.at new.block)
+    in (
       gives.shown ∷ more.0,
-      subst (λ left. ArePiecesLeft max_depth left (gives.shown ∷ more.0)) fresh (gives.completes more.0 more.1),
+      subst (λ left. ArePiecesLeft max_depth left (gives.shown ∷ more.0)) fresh
+          (gives.completes more.0 more.1),
       (gives.shown, more.0, refl, gives.is),
     )

@@ -1,23 +1,35 @@
--- Parts are a game exactly where each may stand, the first is none of a gap, and they lead from the start to a result.
-use Rattle.std.proofs.Common.{◌≡◌, ◌≢◌, ℕ, ◌+◌, ◌-◌, ◌≤◌, ◌↔◌, Bool, true, false, cond, ◌&&◌, ◌||◌, List, [], ◌∷◌, ◌++◌, Some, None, IsTrue, MatchBool, count_by, refl, sym, subst, ◌∙◌, inl, inr, arith, nat_lt}
+-- Parts are a game exactly where each may stand, the first is none of a gap, and they lead from the
+-- start to a result.
+use Rattle.std.proofs.Common.{◌≡◌, ◌≢◌, ℕ, ◌+◌, ◌-◌, ◌≤◌, ◌↔◌, Bool, true, false, cond, ◌&&◌, ◌||◌}
+use Rattle.std.proofs.Common.{List, [], ◌∷◌, ◌++◌, Some, None, IsTrue, MatchBool, count_by, refl}
+use Rattle.std.proofs.Common.{sym, subst, ◌∙◌, inl, inr, arith, nat_lt}
 use Rattle.std.specs.List.{list_all}
-use Rattle.std.proofs.lemmas.Bool.{false≢true, and_parts, and_from, ltb-true, lt-ltb, cases_Bool, or_left, or_right, MatchBool-at_true, MatchBool-at_false, true_from_ne_false, false_from_ne_true}
+use Rattle.std.proofs.lemmas.Bool.{false≢true, and_parts, and_from, ltb-true, lt-ltb, cases_Bool}
+use Rattle.std.proofs.lemmas.Bool.{or_left, or_right, MatchBool-at_true, MatchBool-at_false}
+use Rattle.std.proofs.lemmas.Bool.{true_from_ne_false, false_from_ne_true}
 use Rattle.std.proofs.lemmas.Option.{cond_some}
-use Rattle.pgn_text.specs.Public.Parts.{Part, ByteOrderMark, White, Brace, Line, EscapeLine, Tag, Word, Star, Dot, Glyph, Marks, Open, Close, AllStand}
-use Rattle.pgn_text.specs.Public.Games.{is_number, is_result_word, is_move_text, is_gap_part, is_tag, is_result, is_meant, is_open, is_close, EachFrom, depth_after, MoveInLine, begins_outside_gap, IsGame}
+use Rattle.pgn_text.specs.Public.Parts.{Part, ByteOrderMark, White, Brace, Line, EscapeLine, Tag}
+use Rattle.pgn_text.specs.Public.Parts.{Word, Star, Dot, Glyph, Marks, Open, Close, AllStand}
+use Rattle.pgn_text.specs.Public.Games.{is_number, is_result_word, is_move_text, is_gap_part}
+use Rattle.pgn_text.specs.Public.Games.{is_tag, is_result, is_meant, is_open, is_close, EachFrom}
+use Rattle.pgn_text.specs.Public.Games.{depth_after, MoveInLine, begins_outside_gap, IsGame}
 use Rattle.pgn_text.specs.Private.Steps.{State, start, in_movetext, step, Leads}
-use Rattle.pgn_text.proofs.Lines.{Shows, shows_start, shows_more, count_push_yes, count_push_not, depth_is}
+use Rattle.pgn_text.proofs.Lines.{Shows, shows_start, shows_more, count_push_yes, count_push_not}
+use Rattle.pgn_text.proofs.Lines.{depth_is}
 
 -- what a game says of its parts after `front`, beside where they stand
 pub record GoesOn (max_depth : ℕ) (front parts : List Part) : Type 0 where
-  pub tags_first : EachFrom (λ front part back. IsTrue (is_tag part) → IsTrue (list_all (λ p. is_tag p || is_gap_part p)
+  pub tags_first : EachFrom (λ front part back. IsTrue (is_tag part)
+      → IsTrue (list_all (λ p. is_tag p || is_gap_part p)
       front)) front parts
   pub result_last : EachFrom (λ front part back. IsTrue (is_result part) ↔ (back ≡ [])) front parts
   pub meant : IsTrue (list_all is_meant parts)
-  pub closed_were_open : EachFrom (λ front part back. count_by is_close front ≤ count_by is_open front) front parts
+  pub closed_were_open : EachFrom (λ front part back. count_by is_close front
+      ≤ count_by is_open front) front parts
   pub depth : EachFrom (λ front part back. depth_after front ≤ max_depth) front parts
   pub all_closed : EachFrom (λ front part back. back ≡ [] → depth_after front ≡ 0) front parts
-  pub variations : EachFrom (λ front part back. IsTrue (is_open part) → MoveInLine front) front parts
+  pub variations : EachFrom (λ front part back. IsTrue (is_open part)
+      → MoveInLine front) front parts
 
 -- ---- from the words to the steps
 
@@ -28,8 +40,10 @@ word_goes false true x y e = (y, refl)
 word_goes false false x y e = cc
 
 -- a part that the words allow, and that is no result, has a step
-step_goes : (max_depth : ℕ) (front : List Part) (s : State) (p : Part) → Shows front s → is_result p ≡ false
-    → (is_tag p ≡ true → s.in_tags ≡ true) → is_meant p ≡ true → (is_open p ≡ true → s.has_move ≡ true)
+step_goes : (max_depth : ℕ) (front : List Part) (s : State) (p : Part) → Shows front s
+    → is_result p ≡ false
+    → (is_tag p ≡ true → s.in_tags ≡ true) → is_meant p ≡ true
+    → (is_open p ≡ true → s.has_move ≡ true)
     → depth_after (front ++ p ∷ []) ≤ max_depth
     → count_by is_close (front ++ p ∷ []) ≤ count_by is_open (front ++ p ∷ [])
     → (t : State) × (step max_depth s p ≡ Some t)
@@ -41,7 +55,8 @@ step_goes max_depth front s (EscapeLine text) h r tag meant move deep closed = (
 step_goes max_depth front s (Tag first name second contents third) h r tag meant move deep closed =
     (s, rw (tag refl) refl)
 step_goes max_depth front s (Word text) h r tag meant move deep closed =
-    word_goes (is_move_text text) (is_number text) (record { in_tags = false; depth = s.depth; has_move = true })
+    word_goes (is_move_text text) (is_number text)
+    (record { in_tags = false; depth = s.depth; has_move = true })
     (in_movetext s) (rw r at meant)
 step_goes max_depth front s Star h r tag meant move deep closed = cc
 step_goes max_depth front s Dot h r tag meant move deep closed = (in_movetext s, refl)
@@ -70,28 +85,36 @@ match_true b P Q e p = rw e p
 match_false : (b : Bool) (P Q : Type 0) → b ≡ false → Q → MatchBool b P Q
 match_false b P Q e q = rw e q
 
-leads_on : (max_depth : ℕ) (front parts : List Part) (s : State) → Shows front s → GoesOn max_depth front parts
+leads_on : (max_depth : ℕ) (front parts : List Part) (s : State) → Shows front s
+    → GoesOn max_depth front parts
     → parts ≢ [] → Leads max_depth s parts
 leads_on max_depth front [] s h g some = absurd (some refl)
 leads_on max_depth front (p ∷ []) s h g some =
-    match_true (is_result p) _ _ (g.result_last.0.1 refl) (sym (depth_is front s h) ∙ g.all_closed.0 refl, refl)
+    match_true (is_result p) _ _ (g.result_last.0.1 refl) (
+      sym (depth_is front s h)
+          ∙ g.all_closed.0 refl,
+      refl,
+    )
 leads_on max_depth front (p ∷ q ∷ more) s h g some =
     let meant = and_parts (is_meant p) (list_all is_meant (q ∷ more)) g.meant in
-    let r : is_result p ≡ false = false_from_ne_true (is_result p) (λ e. let k = g.result_last.0.0 e in cc) in
+    let r : is_result p ≡ false =
+    false_from_ne_true (is_result p) (λ e. let k = g.result_last.0.0 e in cc) in
     let next = step_goes max_depth front s p h r (λ e. h.tags ∙ g.tags_first.0 e) meant.0
-    (λ e. true_from_ne_false s.has_move (λ f. h.unmoved f (g.variations.0 e))) g.depth.1.0 g.closed_were_open.1.0 in
+    (λ e. true_from_ne_false s.has_move (λ f. h.unmoved f (g.variations.0 e))) g.depth.1.0
+    g.closed_were_open.1.0 in
     match_false (is_result p) _ _ r (
       next.0,
       next.1,
-      leads_on max_depth (front ++ p ∷ []) (q ∷ more) next.0 (shows_more max_depth front s next.0 p next.1 h) (record {
-        tags_first = g.tags_first.1;
-        result_last = g.result_last.1;
-        meant = meant.1;
-        closed_were_open = g.closed_were_open.1;
-        depth = g.depth.1;
-        all_closed = g.all_closed.1;
-        variations = g.variations.1;
-      }) (λ e. cc),
+      leads_on max_depth (front ++ p ∷ []) (q
+          ∷ more) next.0 (shows_more max_depth front s next.0 p next.1 h) (record {
+            tags_first = g.tags_first.1;
+            result_last = g.result_last.1;
+            meant = meant.1;
+            closed_were_open = g.closed_were_open.1;
+            depth = g.depth.1;
+            all_closed = g.all_closed.1;
+            variations = g.variations.1;
+          }) (λ e. cc),
     )
 
 some_parts : (parts : List Part) → IsTrue (begins_outside_gap parts) → parts ≢ []
@@ -99,21 +122,24 @@ some_parts [] b e = cc
 some_parts (p ∷ parts) b e = cc
 
 -- a game leads to its result
-pub game_leads : (max_depth : ℕ) (file_start : Bool) (before : List ℕ) (parts : List Part) (after : List ℕ)
+pub game_leads : (max_depth : ℕ) (file_start : Bool) (before : List ℕ) (parts : List Part)
+    (after : List ℕ)
     → IsGame max_depth file_start before parts after → Leads max_depth start parts
-game_leads max_depth file_start before parts after g = leads_on max_depth [] parts start shows_start (record {
-  tags_first = g.tags_first;
-  result_last = g.result_last;
-  meant = g.meant;
-  closed_were_open = g.closed_were_open;
-  depth = g.depth;
-  all_closed = g.all_closed;
-  variations = g.variations;
-}) (some_parts parts g.begins)
+game_leads max_depth file_start before parts after g =
+    leads_on max_depth [] parts start shows_start (record {
+      tags_first = g.tags_first;
+      result_last = g.result_last;
+      meant = g.meant;
+      closed_were_open = g.closed_were_open;
+      depth = g.depth;
+      all_closed = g.all_closed;
+      variations = g.variations;
+    }) (some_parts parts g.begins)
 
 -- ---- from the steps to the words
 
-result_class : (p : Part) → is_result p ≡ true → (is_tag p ≡ false) × (is_meant p ≡ true) × (is_open p ≡ false)
+result_class : (p : Part) → is_result p ≡ true
+    → (is_tag p ≡ false) × (is_meant p ≡ true) × (is_open p ≡ false)
 result_class (Word text) e = (
   refl,
   or_left (is_number text || is_result_word text) (is_move_text text) (or_right (is_number text)
@@ -146,7 +172,8 @@ word_says max_depth s t false result false e = cc
 
 -- what a step says of its part, and that it keeps within the limit
 step_says : (max_depth : ℕ) (s t : State) (p : Part) → step max_depth s p ≡ Some t
-    → (is_tag p ≡ true → s.in_tags ≡ true) × (is_meant p ≡ true) × (is_open p ≡ true → s.has_move ≡ true) ×
+    → (is_tag p ≡ true → s.in_tags ≡ true) × (is_meant p ≡ true)
+    × (is_open p ≡ true → s.has_move ≡ true) ×
     (s.depth ≤ max_depth → t.depth ≤ max_depth)
 step_says max_depth s t (Tag first name second contents third) e =
     let f = cond_some s.in_tags s t e in
@@ -170,7 +197,8 @@ step_says max_depth s t Open e =
       }) t f.1 fits,
     )
 step_says max_depth s t Close e =
-    let f = cond_some (nat_lt 0 s.depth) (record { in_tags = false; depth = s.depth - 1; has_move = true }) t e in (
+    let f = cond_some (nat_lt 0 s.depth)
+    (record { in_tags = false; depth = s.depth - 1; has_move = true }) t e in (
       λ x. cc,
       refl,
       λ x. cc,
@@ -179,15 +207,18 @@ step_says max_depth s t Close e =
     )
 step_says max_depth s t Star e = cc
 step_says max_depth s t Dot e = (λ x. cc, refl, λ x. cc, within max_depth (in_movetext s) t cc)
-step_says max_depth s t (Glyph digits) e = (λ x. cc, refl, λ x. cc, within max_depth (in_movetext s) t cc)
-step_says max_depth s t (Marks marks) e = (λ x. cc, refl, λ x. cc, within max_depth (in_movetext s) t cc)
+step_says max_depth s t (Glyph digits) e =
+    (λ x. cc, refl, λ x. cc, within max_depth (in_movetext s) t cc)
+step_says max_depth s t (Marks marks) e =
+    (λ x. cc, refl, λ x. cc, within max_depth (in_movetext s) t cc)
 step_says max_depth s t ByteOrderMark e = (λ x. cc, refl, λ x. cc, within max_depth s t cc)
 step_says max_depth s t (White b) e = (λ x. cc, refl, λ x. cc, within max_depth s t cc)
 step_says max_depth s t (Brace text) e = (λ x. cc, refl, λ x. cc, within max_depth s t cc)
 step_says max_depth s t (Line text) e = (λ x. cc, refl, λ x. cc, within max_depth s t cc)
 step_says max_depth s t (EscapeLine text) e = (λ x. cc, refl, λ x. cc, within max_depth s t cc)
 
-goes_on : (max_depth : ℕ) (front parts : List Part) (s : State) → Shows front s → s.depth ≤ max_depth
+goes_on : (max_depth : ℕ) (front parts : List Part) (s : State) → Shows front s
+    → s.depth ≤ max_depth
     → Leads max_depth s parts → GoesOn max_depth front parts
 goes_on max_depth front [] s h d l = absurd l
 goes_on max_depth front (p ∷ []) s h d l = elim (cases_Bool (is_result p)) [
@@ -210,7 +241,9 @@ goes_on max_depth front (p ∷ q ∷ more) s h d l = elim (cases_Bool (is_result
   | inr r ↦
       let next = MatchBool-at_false _ _ r l in
       let says = step_says max_depth s next.0 p next.1 in
-      let rest = goes_on max_depth (front ++ p ∷ []) (q ∷ more) next.0 (shows_more max_depth front s next.0 p next.1 h)
+      let rest =
+      goes_on max_depth (front ++ p ∷ []) (q
+      ∷ more) next.0 (shows_more max_depth front s next.0 p next.1 h)
       (says.3 d) next.2 in
       record {
         tags_first = (λ e. sym h.tags ∙ says.0 e, rest.tags_first);
@@ -224,8 +257,10 @@ goes_on max_depth front (p ∷ q ∷ more) s h d l = elim (cases_Bool (is_result
 ]
 
 -- parts that may stand, begin outside a gap and lead to a result are a game
-pub game_from : (max_depth : ℕ) (file_start : Bool) (before : List ℕ) (parts : List Part) (after : List ℕ)
-    → AllStand file_start before parts after → IsTrue (begins_outside_gap parts) → Leads max_depth start parts
+pub game_from : (max_depth : ℕ) (file_start : Bool) (before : List ℕ) (parts : List Part)
+    (after : List ℕ)
+    → AllStand file_start before parts after → IsTrue (begins_outside_gap parts)
+    → Leads max_depth start parts
     → IsGame max_depth file_start before parts after
 game_from max_depth file_start before parts after stand begins leads =
     let g = goes_on max_depth [] parts start shows_start (omega arith) leads in record {

@@ -1,16 +1,26 @@
 -- Worked rows of the parts of games, of how they stand and of what is read off them; and what the
 -- definitions refuse.
-use Rattle.std.proofs.Common.{◌≡◌, ◌≢◌, ℕ, ◌+◌, Bool, true, false, ◌&&◌, ◌||◌, ◌<◌, ◌≤◌, ◌∙◌, List, [], ◌∷◌, ◌++◌, codes, length, refl, ap, sym, take, drop, arith, None, IsTrue}
+use Rattle.std.proofs.Common.{◌≡◌, ◌≢◌, ℕ, ◌+◌, Bool, true, false, ◌&&◌, ◌||◌, ◌<◌, ◌≤◌, ◌∙◌, List}
+use Rattle.std.proofs.Common.{[], ◌∷◌, ◌++◌, codes, length, refl, ap, sym, take, drop, arith, None}
+use Rattle.std.proofs.Common.{IsTrue}
 use Rattle.std.specs.Borrow.{Bor}
 use Rattle.pgn_text.specs.Public.Elements.{tag_of}
 use Rattle.pgn_text.specs.Public.GameTexts.{HaveNames}
-use Rattle.pgn_text.specs.Public.Games.{MoveText, GlyphNumber, CommentText, VariationOpen, VariationClose, is_number, is_result_word, is_zero_castling, is_move_text, is_gap_part, is_tag, is_result, is_move, is_open, is_close, is_meant, Each, EachFrom, MoveInLine, depth_after, begins_outside_gap, single_mark, double_mark, glyphs_of_marks, items_of_part, result_of}
+use Rattle.pgn_text.specs.Public.Games.{MoveText, GlyphNumber, CommentText, VariationOpen}
+use Rattle.pgn_text.specs.Public.Games.{VariationClose, is_number, is_result_word, is_zero_castling}
+use Rattle.pgn_text.specs.Public.Games.{is_move_text, is_gap_part, is_tag, is_result, is_move}
+use Rattle.pgn_text.specs.Public.Games.{is_open, is_close, is_meant, Each, EachFrom, MoveInLine}
+use Rattle.pgn_text.specs.Public.Games.{depth_after, begins_outside_gap, single_mark, double_mark}
+use Rattle.pgn_text.specs.Public.Games.{glyphs_of_marks, items_of_part, result_of}
 use Rattle.pgn_text.specs.Public.Left.{Left, IsPiece}
 use Rattle.pgn_text.specs.Public.LeftMarks.{IsMark, GivesMark, mark_place}
 use Rattle.pgn_text.specs.Public.Limits.{largest_offset}
-use Rattle.pgn_text.specs.Public.Marks.{MarkedPiece, ReadableGame, UnreadableRest, TooLongBlock, AreOfBlocks, is_readable_kind, marked}
+use Rattle.pgn_text.specs.Public.Marks.{MarkedPiece, ReadableGame, UnreadableRest, TooLongBlock}
+use Rattle.pgn_text.specs.Public.Marks.{AreOfBlocks, is_readable_kind, marked}
 use Rattle.pgn_text.specs.Public.PartPlaces.{IsPlaceOf, GivesElement, IsFirstTag}
-use Rattle.pgn_text.specs.Public.Parts.{Part, ByteOrderMark, White, Brace, Line, EscapeLine, Tag, Word, Star, Dot, Glyph, Marks, Open, Close, Standing, Stands, number_from, number_of, spelled, spelled_part}
+use Rattle.pgn_text.specs.Public.Parts.{Part, ByteOrderMark, White, Brace, Line, EscapeLine, Tag}
+use Rattle.pgn_text.specs.Public.Parts.{Word, Star, Dot, Glyph, Marks, Open, Close, Standing}
+use Rattle.pgn_text.specs.Public.Parts.{Stands, number_from, number_of, spelled, spelled_part}
 use Rattle.pgn_text.specs.Public.Pieces as spec
 use Rattle.pgn_text.specs.Public.StopPlaces.{PartsThen, PartsThenOther, is_before_movetext}
 use Rattle.pgn_text.specs.Public.Windows.{IsCutShort, IsPastEnd}

@@ -1,5 +1,6 @@
 -- What a call of `next` gives of the places of a block's pieces.
-use Rattle.std.proofs.Common.{◌≡◌, ◌≢◌, ℕ, ◌<◌, ◌≤◌, Bool, false, List, length, take, drop, refl, subst, arith}
+use Rattle.std.proofs.Common.{◌≡◌, ◌≢◌, ℕ, ◌<◌, ◌≤◌, Bool, false, List, length, take, drop, refl}
+use Rattle.std.proofs.Common.{subst, arith}
 use Rattle.std.specs.Prelude.{Some}
 use Rattle.pgn_text.specs.Public.Parts.{Part}
 use Rattle.pgn_text.specs.Public.Pieces.{Game as GameOf, Unreadable as UnreadableOf, NoGame}
@@ -10,11 +11,14 @@ use Rattle.pgn_text.specs.declared.game.pieces.PieceStart.TheVariants.{Game, Unr
 use Rattle.pgn_text.proofs.Cuts.{piece_game, piece_unreadable}
 use Rattle.pgn_text.proofs.Gives.{left_at}
 
-pub marks_game : (max_depth : ℕ) (f : Bool) (block : List ℕ) (at begin end : ℕ) (parts : List Part) (old : Left)
-    → left_at f block at false ≡ old → LongestGapTo f block at begin → GameTo max_depth f block begin parts end
+pub marks_game : (max_depth : ℕ) (f : Bool) (block : List ℕ) (at begin end : ℕ) (parts : List Part)
+    (old : Left)
+    → left_at f block at false ≡ old → LongestGapTo f block at begin
+    → GameTo max_depth f block begin parts end
     → GivesMark max_depth old (Some (Game begin)) (left_at f block end false)
 marks_game max_depth f block at begin end parts old is gap to =
-    let forward : at < end = (let a : at ≤ begin = gap.to.forward in let b : begin < end = to.forward in omega arith) in
+    let forward : at < end =
+    (let a : at ≤ begin = gap.to.forward in let b : begin < end = to.forward in omega arith) in
     subst (λ o. GivesMark max_depth o (Some (Game begin)) (left_at f block end false)) is
     (record {
       shown = GameOf begin parts;
@@ -27,11 +31,15 @@ marks_game max_depth f block at begin end parts old is gap to =
     })
 
 pub marks_unreadable : (max_depth : ℕ) (f : Bool) (block : List ℕ) (at begin : ℕ) (old : Left)
-    → left_at f block at false ≡ old → LongestGapTo f block at begin → begin ≢ length block → NoGame max_depth f (take begin block) (drop begin block)
+    → left_at f block at false ≡ old → LongestGapTo f block at begin → begin ≢ length block
+    → NoGame max_depth f (take begin block) (drop begin block)
     → GivesMark max_depth old (Some (Unreadable begin)) (left_at f block (length block) false)
 marks_unreadable max_depth f block at begin old is gap not_end none =
-    let forward : at < length block = (let a : at ≤ begin = gap.to.forward in let b : begin ≤ length block = gap.to.within in omega arith) in
-    subst (λ o. GivesMark max_depth o (Some (Unreadable begin)) (left_at f block (length block) false)) is
+    let forward : at < length block =
+    (let a : at ≤ begin = gap.to.forward in let b : begin ≤ length block = gap.to.within in
+    omega arith) in
+    subst (λ o.
+    GivesMark max_depth o (Some (Unreadable begin)) (left_at f block (length block) false)) is
     (record {
       shown = UnreadableOf begin (drop begin block);
       is = refl;

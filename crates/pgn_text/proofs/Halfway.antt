@@ -1,5 +1,8 @@
--- A reading of a text part by part, from a state: what is read so far, and that there is no other reading.
-use Rattle.std.proofs.Common.{◌≡◌, ◌≢◌, ℕ, Bool, true, false, List, [], ◌∷◌, ◌++◌, Some, None, IsTrue, MatchBool, refl, sym, ap, subst, ◌∙◌, inl, inr, append_assoc, append-nil}
+-- A reading of a text part by part, from a state: what is read so far, and that there is no other
+-- reading.
+use Rattle.std.proofs.Common.{◌≡◌, ◌≢◌, ℕ, Bool, true, false, List, [], ◌∷◌, ◌++◌, Some, None}
+use Rattle.std.proofs.Common.{IsTrue, MatchBool, refl, sym, ap, subst, ◌∙◌, inl, inr, append_assoc}
+use Rattle.std.proofs.Common.{append-nil}
 use Rattle.std.proofs.lemmas.List.Concat.{flat_map-append}
 use Rattle.std.proofs.lemmas.Bool.{MatchBool-at_true, MatchBool-at_false, cases_Bool}
 use Rattle.pgn_text.specs.Public.Parts.{Part, standing_of, Stands, AllStand, spelled, spelled_part}
@@ -19,7 +22,8 @@ pub before_more : (before : List ℕ) (xs : List Part) (p : Part)
 before_more before xs p = rw (spelled-append, append-nil, append_assoc) refl
 
 pub stands_join : (file_start : Bool) (before : List ℕ) (xs ys : List Part) (after : List ℕ)
-    → AllStand file_start before xs (spelled ys ++ after) → AllStand file_start (before ++ spelled xs) ys after
+    → AllStand file_start before xs (spelled ys ++ after)
+    → AllStand file_start (before ++ spelled xs) ys after
     → AllStand file_start before (xs ++ ys) after
 stands_join file_start before [] ys after h k = rw append-nil at k
 stands_join file_start before (x ∷ xs) ys after h k = (
@@ -30,7 +34,8 @@ stands_join file_start before (x ∷ xs) ys after h k = (
 
 pub stands_cut : (file_start : Bool) (before : List ℕ) (xs ys : List Part) (after : List ℕ)
     → AllStand file_start before (xs ++ ys) after
-    → AllStand file_start before xs (spelled ys ++ after) × AllStand file_start (before ++ spelled xs) ys after
+    → AllStand file_start before xs (spelled ys ++ after)
+    × AllStand file_start (before ++ spelled xs) ys after
 stands_cut file_start before [] ys after h = (tt, rw append-nil h)
 stands_cut file_start before (x ∷ xs) ys after h =
     let back = stands_cut file_start (before ++ spelled_part x) xs ys after h.1 in (
@@ -44,29 +49,35 @@ leads_more : (max_depth : ℕ) (s t : State) (p : Part) (parts : List Part) → 
     → step max_depth s p ≡ Some t → Leads max_depth t parts → Leads max_depth s (p ∷ parts)
 leads_more max_depth s t p parts r steps l = rw r (t, steps, l)
 
-leads_end : (max_depth : ℕ) (s : State) (p : Part) → is_result p ≡ true → s.depth ≡ 0 → Leads max_depth s (p ∷ [])
+leads_end : (max_depth : ℕ) (s : State) (p : Part) → is_result p ≡ true → s.depth ≡ 0
+    → Leads max_depth s (p ∷ [])
 leads_end max_depth s p r zero = rw r (zero, refl)
 
 module _ (max_depth : ℕ) (file_start : Bool) where
   -- the text begins with these parts, each stands, and they lead from the state to a result
-  pub record Reads (before text : List ℕ) (s : State) (parts : List Part) (after : List ℕ) : Type 0 where
-    pub parted : text ≡ spelled parts ++ after
-    pub stand : AllStand file_start before parts after
-    pub leads : Leads max_depth s parts
+  pub record Reads (before text : List ℕ) (s : State) (parts : List Part) (after : List ℕ) : Type 0
+    where
+      pub parted : text ≡ spelled parts ++ after
+      pub stand : AllStand file_start before parts after
+      pub leads : Leads max_depth s parts
 
-  pub reads_more : (before text : List ℕ) (s t : State) (p : Part) (rest : List ℕ) (parts : List Part) (after : List ℕ)
-      → text ≡ spelled_part p ++ rest → Stands (standing_of file_start before) p rest → is_result p ≡ false
+  pub reads_more : (before text : List ℕ) (s t : State) (p : Part) (rest : List ℕ)
+      (parts : List Part) (after : List ℕ)
+      → text ≡ spelled_part p ++ rest → Stands (standing_of file_start before) p rest
+      → is_result p ≡ false
       → step max_depth s p ≡ Some t → Reads (before ++ spelled_part p) rest t parts after
       → Reads before text s (p ∷ parts) after
   reads_more before text s t p rest parts after parted stands r steps h = record {
-    parted = parted ∙ ap (λ l. spelled_part p ++ l) h.parted ∙ sym (append_assoc (spelled_part p) (spelled parts) after);
+    parted = parted ∙ ap (λ l. spelled_part p ++ l) h.parted
+        ∙ sym (append_assoc (spelled_part p) (spelled parts) after);
     stand = (rw h.parted at stands, h.stand);
     leads = leads_more max_depth s t p parts r steps h.leads;
   }
 
   -- a result outside all variations is a reading by itself
   pub reads_end : (before text : List ℕ) (s : State) (p : Part) (rest : List ℕ)
-      → text ≡ spelled_part p ++ rest → Stands (standing_of file_start before) p rest → is_result p ≡ true → s.depth ≡ 0
+      → text ≡ spelled_part p ++ rest → Stands (standing_of file_start before) p rest
+      → is_result p ≡ true → s.depth ≡ 0
       → Reads before text s (p ∷ []) rest
   reads_end before text s p rest parted stands r zero = record {
     parted = parted ∙ ap (λ l. l ++ rest) (sym (append-nil (spelled_part p)));
@@ -81,22 +92,27 @@ module _ (max_depth : ℕ) (file_start : Bool) where
     pub is : parts ≡ p ∷ more
     pub ends : is_result p ≡ true → (s.depth ≡ 0) × (more ≡ []) × (after ≡ rest)
     pub goes_on : is_result p ≡ false
-        → (t : State) × (step max_depth s p ≡ Some t) × Reads (before ++ spelled_part p) rest t more after
+        → (t : State) × (step max_depth s p ≡ Some t)
+        × Reads (before ++ spelled_part p) rest t more after
 
   -- the part that stands at the place is a reading's first
-  pub reads_first : (before text : List ℕ) (s : State) (p : Part) (rest : List ℕ) (parts : List Part) (after : List ℕ)
+  pub reads_first : (before text : List ℕ) (s : State) (p : Part) (rest : List ℕ)
+      (parts : List Part) (after : List ℕ)
       → text ≡ spelled_part p ++ rest → Stands (standing_of file_start before) p rest
       → Reads before text s parts after → BeginsWith before s p rest parts after
   reads_first before text s p rest [] after parted stands h = absurd h.leads
   reads_first before text s p rest (q ∷ more) after parted stands h =
-      let one = one_part (standing_of file_start before) q p (spelled more ++ after) rest h.stand.0 stands
+      let one =
+      one_part (standing_of file_start before) q p (spelled more ++ after) rest h.stand.0 stands
       (sym (append_assoc (spelled_part q) (spelled more) after) ∙ sym h.parted ∙ parted) in
       let leads = subst (λ r. MatchBool (is_result r) ((s.depth ≡ 0) × (more ≡ []))
-      ((next : State) × (step max_depth s r ≡ Some next) × Leads max_depth next more)) one.0 h.leads in
+      ((next : State) × (step max_depth s r ≡ Some next) × Leads max_depth next more)) one.0 h.leads
+      in
       record {
         more = more;
         is = ap (λ r. r ∷ more) one.0;
-        ends = λ r. let l = MatchBool-at_true _ _ r leads in (l.0, l.1, ap (λ xs. spelled xs ++ after) (sym l.1) ∙ one.1);
+        ends = λ r. let l = MatchBool-at_true _ _ r leads in
+            (l.0, l.1, ap (λ xs. spelled xs ++ after) (sym l.1) ∙ one.1);
         goes_on = λ r. let l = MatchBool-at_false _ _ r leads in (
           l.0,
           l.1,
@@ -119,8 +135,10 @@ module _ (max_depth : ℕ) (file_start : Bool) where
       elim (cases_Bool (is_result x)) [
         | inl r ↦
             let none = (MatchBool-at_true _ _ r h.leads).1 in
-            let ends = v.ends r in
-            (ap (λ l. x ∷ l) (none ∙ sym ends.1) ∙ sym v.is, ap (λ l. spelled l ++ a) (sym none) ∙ sym ends.2)
+            let ends = v.ends r in (
+              ap (λ l. x ∷ l) (none ∙ sym ends.1) ∙ sym v.is,
+              ap (λ l. spelled l ++ a) (sym none) ∙ sym ends.2,
+            )
         | inr r ↦
             let next = MatchBool-at_false _ _ r h.leads in
             let other = v.goes_on r in
@@ -134,7 +152,12 @@ module _ (max_depth : ℕ) (file_start : Bool) where
       → text ≡ spelled parts ++ after → IsGame max_depth file_start before parts after
       → Reads before text start parts after
   game_reads before text parts after parted g =
-      record { parted = parted; stand = g.stand; leads = game_leads max_depth file_start before parts after g }
+      record {
+        parted = parted;
+        stand = g.stand;
+        leads =
+            game_leads max_depth file_start before parts after g;
+      }
 
   pub reads_game : (before text : List ℕ) (parts : List Part) (after : List ℕ)
       → IsTrue (begins_outside_gap parts) → Reads before text start parts after
@@ -147,18 +170,22 @@ module _ (max_depth : ℕ) (file_start : Bool) where
       → text ≡ spelled xs ++ a → text ≡ spelled ys ++ b → IsGame max_depth file_start before xs a
       → IsGame max_depth file_start before ys b → (xs ≡ ys) × (a ≡ b)
   one_game before text xs ys a b e f g h =
-      one_reading before text start xs ys a b (game_reads before text xs a e g) (game_reads before text ys b f h)
+      one_reading before text start xs ys a b (game_reads before text xs a e g)
+      (game_reads before text ys b f h)
 
   -- ---- halfway through a text
 
-  -- `done` is read, and s is the state after it: what reads on from here reads from the start with `done` in front, and each reading
+  -- `done` is read, and s is the state after it: what reads on from here reads from the start with
+  -- `done` in front, and each reading
   -- from the start begins with `done`
-  pub record Halfway (before text : List ℕ) (done : List Part) (s : State) (rest : List ℕ) : Type 0 where
-    pub sound : (parts : List Part) (after : List ℕ)
-        → Reads (before ++ spelled done) rest s parts after
-        → Reads before text start (done ++ parts) after
-    pub complete : (parts : List Part) (after : List ℕ) → Reads before text start parts after
-        → (more : List Part) × (parts ≡ done ++ more) × Reads (before ++ spelled done) rest s more after
+  pub record Halfway (before text : List ℕ) (done : List Part) (s : State) (rest : List ℕ) : Type 0
+    where
+      pub sound : (parts : List Part) (after : List ℕ)
+          → Reads (before ++ spelled done) rest s parts after
+          → Reads before text start (done ++ parts) after
+      pub complete : (parts : List Part) (after : List ℕ) → Reads before text start parts after
+          → (more : List Part) × (parts ≡ done ++ more)
+          × Reads (before ++ spelled done) rest s more after
 
   pub halfway_start : (before text : List ℕ)
       → Halfway before text [] start text
@@ -168,17 +195,22 @@ module _ (max_depth : ℕ) (file_start : Bool) where
   }
 
   -- after one part more
-  pub halfway_more : (before text : List ℕ) (done : List Part) (s t : State) (p : Part) (tail rest : List ℕ)
+  pub halfway_more : (before text : List ℕ) (done : List Part) (s t : State) (p : Part)
+      (tail rest : List ℕ)
       → Halfway before text done s tail → tail ≡ spelled_part p ++ rest
-      → Stands (standing_of file_start (before ++ spelled done)) p rest → is_result p ≡ false → step max_depth s p ≡ Some t
+      → Stands (standing_of file_start (before ++ spelled done)) p rest → is_result p ≡ false
+      → step max_depth s p ≡ Some t
       → Halfway before text (done ++ p ∷ []) t rest
   halfway_more before text done s t p tail rest h parted stands r steps =
       let place = before_more before done p in record {
         sound = λ parts after k. rw (append_assoc done (p ∷ []) parts) (h.sound (p ∷ parts) after
-            (reads_more (before ++ spelled done) tail s t p rest parts after parted stands r steps (rw place at k)));
+            (reads_more (before ++ spelled done) tail s t p rest parts after parted stands r steps
+            (rw place at k)));
         complete = λ parts after k.
             let all = h.complete parts after k in
-            let first = reads_first (before ++ spelled done) tail s p rest all.0 after parted stands all.2 in
+            let first =
+            reads_first (before ++ spelled done) tail s p rest all.0 after parted stands all.2
+            in
             let next = first.goes_on r in
             let same : t ≡ next.0 = cc in (
               first.more,
@@ -188,22 +220,27 @@ module _ (max_depth : ℕ) (file_start : Bool) where
       }
 
   -- at a result outside all variations the reading ends
-  pub halfway_end : (before text : List ℕ) (done : List Part) (s : State) (p : Part) (after rest : List ℕ)
+  pub halfway_end : (before text : List ℕ) (done : List Part) (s : State) (p : Part)
+      (after rest : List ℕ)
       → Halfway before text done s after → after ≡ spelled_part p ++ rest
-      → Stands (standing_of file_start (before ++ spelled done)) p rest → is_result p ≡ true → s.depth ≡ 0
+      → Stands (standing_of file_start (before ++ spelled done)) p rest → is_result p ≡ true
+      → s.depth ≡ 0
       → Reads before text start (done ++ p ∷ []) rest
   halfway_end before text done s p after rest h parted stands r zero =
       h.sound (p ∷ []) rest (reads_end (before ++ spelled done) after s p rest parted stands r zero)
 
   -- at a part that may not follow there is no reading
-  pub halfway_stuck : (before text : List ℕ) (done : List Part) (s : State) (p : Part) (tail rest : List ℕ)
+  pub halfway_stuck : (before text : List ℕ) (done : List Part) (s : State) (p : Part)
+      (tail rest : List ℕ)
       → Halfway before text done s tail → tail ≡ spelled_part p ++ rest
-      → Stands (standing_of file_start (before ++ spelled done)) p rest → (is_result p ≡ true → s.depth ≢ 0)
+      → Stands (standing_of file_start (before ++ spelled done)) p rest
+      → (is_result p ≡ true → s.depth ≢ 0)
       → (is_result p ≡ false → step max_depth s p ≡ None) → (parts : List Part) (after : List ℕ)
       → Reads before text start parts after → ⊥
   halfway_stuck before text done s p tail rest h parted stands deep stuck parts after k =
       let all = h.complete parts after k in
-      let first = reads_first (before ++ spelled done) tail s p rest all.0 after parted stands all.2 in
+      let first = reads_first (before ++ spelled done) tail s p rest all.0 after parted stands all.2
+      in
       elim (cases_Bool (is_result p)) [
         | inl r ↦ deep r (first.ends r).0
         | inr r ↦ let next = first.goes_on r in let none = stuck r in cc
@@ -221,4 +258,5 @@ module _ (max_depth : ℕ) (file_start : Bool) where
       nothing : (more : List Part) → Reads (before ++ spelled done) tail s more after → ⊥
       nothing [] g = g.leads
       nothing (q ∷ more) g =
-          none q (spelled more ++ after) (g.parted ∙ append_assoc (spelled_part q) (spelled more) after) g.stand.0
+          none q (spelled more ++ after) (g.parted
+          ∙ append_assoc (spelled_part q) (spelled more) after) g.stand.0

@@ -1,10 +1,14 @@
--- Tags byte by byte: where in a tag a place is, how each place goes on to the tag's end, and how far a text can be the front of a tag.
-use Rattle.std.proofs.Common.{◌≡◌, ℕ, suc, Bool, true, false, List, [], ◌∷◌, ◌++◌, Option, Some, None, IsTrue, codes, refl, sym, ap, subst, ◌∙◌, inl, inr, arith, get_or, drop, length, ◌<◌, ◌≤◌}
+-- Tags byte by byte: where in a tag a place is, how each place goes on to the tag's end, and how
+-- far a text can be the front of a tag.
+use Rattle.std.proofs.Common.{◌≡◌, ℕ, suc, Bool, true, false, List, [], ◌∷◌, ◌++◌, Option, Some}
+use Rattle.std.proofs.Common.{None, IsTrue, codes, refl, sym, ap, subst, ◌∙◌, inl, inr, arith}
+use Rattle.std.proofs.Common.{get_or, drop, length, ◌<◌, ◌≤◌}
 use Rattle.std.specs.Prelude.{◌==◌, ◌&&◌, not, flat_map}
 use Rattle.std.specs.List.{list_all}
 use Rattle.std.proofs.Math.Seq.{drop-cons}
 use Rattle.std.proofs.Math.ListN.{drop_of_length-le}
-use Rattle.std.proofs.lemmas.Bool.{and_parts, and_from, cases_Bool, eqb-true, not_from_false, not-true}
+use Rattle.std.proofs.lemmas.Bool.{and_parts, and_from, cases_Bool, eqb-true, not_from_false}
+use Rattle.std.proofs.lemmas.Bool.{not-true}
 use Rattle.pgn_text.specs.Public.Bytes.{is_byte, is_white, is_name_byte, is_plain, is_empty}
 use Rattle.pgn_text.specs.Public.Strings.{Sign, Single, Escaped, spelled_sign, is_sign, IsContents}
 use Rattle.pgn_text.specs.Public.Parts.{Part, Tag, Standing, Stands, spelled_part}
@@ -12,16 +16,21 @@ use Rattle.pgn_text.specs.Public.Games.{is_tag}
 use Rattle.pgn_text.proofs.Classes.{is_name_byte-white, is_white-name}
 use Rattle.pgn_text.specs.Private.PartFronts.{Longest, next_in, Ends, IsTagFront}
 use Rattle.pgn_text.specs.declared.error.error_position.InTag.{InTag}
-use Rattle.pgn_text.specs.declared.error.error_position.InTag.TheVariants.{BeforeName, Name, AfterName, Contents, AfterBackslash, AfterString, Closed}
+use Rattle.pgn_text.specs.declared.error.error_position.InTag.TheVariants.{BeforeName, Name}
+use Rattle.pgn_text.specs.declared.error.error_position.InTag.TheVariants.{AfterName, Contents}
+use Rattle.pgn_text.specs.declared.error.error_position.InTag.TheVariants.{AfterBackslash}
+use Rattle.pgn_text.specs.declared.error.error_position.InTag.TheVariants.{AfterString, Closed}
 use Rattle.pgn_text.proofs.Furthest.{longest_after, longest_nothing}
 
 -- each place goes on to the tag's end
 pub each_ends : (s : InTag) → IsTagFront s []
-each_ends BeforeName = (codes "A\"\"]", (Name, refl, (Contents, refl, (AfterString, refl, (Closed, refl, refl)))))
+each_ends BeforeName =
+    (codes "A\"\"]", (Name, refl, (Contents, refl, (AfterString, refl, (Closed, refl, refl)))))
 each_ends Name = (codes "\"\"]", (Contents, refl, (AfterString, refl, (Closed, refl, refl))))
 each_ends AfterName = (codes "\"\"]", (Contents, refl, (AfterString, refl, (Closed, refl, refl))))
 each_ends Contents = (codes "\"]", (AfterString, refl, (Closed, refl, refl)))
-each_ends AfterBackslash = (codes " \"]", (Contents, refl, (AfterString, refl, (Closed, refl, refl))))
+each_ends AfterBackslash =
+    (codes " \"]", (Contents, refl, (AfterString, refl, (Closed, refl, refl))))
 each_ends AfterString = (codes "]", (Closed, refl, refl))
 each_ends Closed = ([], refl)
 
@@ -37,7 +46,8 @@ ends_in_bytes AfterString = refl
 ends_in_bytes Closed = refl
 
 -- so each front of a tag does
-pub tag_bytes : (s : InTag) (x more : List ℕ) → Ends s (x ++ more) → (y : List ℕ) × Ends s (x ++ y) × IsTrue (list_all is_byte y)
+pub tag_bytes : (s : InTag) (x more : List ℕ) → Ends s (x ++ more)
+    → (y : List ℕ) × Ends s (x ++ y) × IsTrue (list_all is_byte y)
 tag_bytes s [] more h = let end = each_ends s in (end.0, end.1, ends_in_bytes s)
 tag_bytes s (b ∷ x) more h = let r = tag_bytes h.0 x more h.2 in (r.0, (h.0, h.1, r.1), r.2)
 
@@ -54,16 +64,28 @@ pub tag_longest : (s : InTag) (text : List ℕ) → Longest (IsTagFront s) text 
 tag_longest s [] = record { within = omega arith; here = each_ends s; most = λ k low p. low }
 tag_longest s (b ∷ rest) = go (next_in s b) refl (λ t. tag_longest t rest)
   where
-    go : (o : Option InTag) → next_in s b ≡ o → ((t : InTag) → Longest (IsTagFront t) rest (tag_far t rest))
+    go : (o : Option InTag) → next_in s b ≡ o
+        → ((t : InTag) → Longest (IsTagFront t) rest (tag_far t rest))
         → Longest (IsTagFront s) (b ∷ rest) (tag_far s (b ∷ rest))
-    go None e again = subst (Longest (IsTagFront s) (b ∷ rest)) (ap (λ o. one_more o (λ t. tag_far t rest)) (sym e)) (longest_nothing (IsTagFront s) b rest (each_ends s) (λ x p. let f = p.1.1 in cc))
-    go (Some t) e again = subst (Longest (IsTagFront s) (b ∷ rest)) (ap (λ o. one_more o (λ t. tag_far t rest)) (sym e)) (longest_after (IsTagFront s) (IsTagFront t) b rest (tag_far t rest)
+    go None e again =
+        subst (Longest (IsTagFront s) (b ∷ rest))
+        (ap (λ o. one_more o (λ t. tag_far t rest)) (sym e))
+        (longest_nothing (IsTagFront s) b rest (each_ends s) (λ x p. let f = p.1.1 in cc))
+    go (Some t) e again =
+        subst (Longest (IsTagFront s) (b ∷ rest))
+        (ap (λ o. one_more o (λ t. tag_far t rest)) (sym e))
+        (longest_after (IsTagFront s) (IsTagFront t) b rest (tag_far t rest)
         (λ x q. (q.0, (t, e, q.1)))
-        (λ x p. (p.0, (let same : p.1.0 ≡ t = (let f = p.1.1 in cc) in subst (λ u. Ends u (x ++ p.0)) same p.1.2)))
+        (λ x p. (
+          p.0,
+          (let same : p.1.0 ≡ t = (let f = p.1.1 in cc) in
+              subst (λ u. Ends u (x ++ p.0)) same p.1.2),
+        ))
         (again t))
 
 -- a byte that none may have
-pub tag_stuck : (s : InTag) (text : List ℕ) (i : ℕ) → i < length text → next_in s (get_or text i 0) ≡ None
+pub tag_stuck : (s : InTag) (text : List ℕ) (i : ℕ) → i < length text
+    → next_in s (get_or text i 0) ≡ None
     → tag_far s (drop i text) ≡ 0
 tag_stuck s text i inside e = rw (drop-cons text i 0 inside, e) refl
 
@@ -77,13 +99,17 @@ end_is : (z : List ℕ) → Ends Closed z → z ≡ []
 end_is [] h = refl
 end_is (b ∷ z) (t, e, h) = cc
 
-third_is : (z : List ℕ) → Ends AfterString z → (third : List ℕ) × (z ≡ third ++ 93 ∷ []) × IsTrue (list_all is_white third)
+third_is : (z : List ℕ) → Ends AfterString z
+    → (third : List ℕ) × (z ≡ third ++ 93 ∷ []) × IsTrue (list_all is_white third)
 third_is [] h = cc
 third_is (b ∷ z) (t, e, h) = elim (cases_Bool (is_white b)) [
   | inl w ↦
       let same : AfterString ≡ t = (let f = rw w at e in cc) in
-      let more = third_is z (rw same h) in
-      (b ∷ more.0, ap (λ l. b ∷ l) more.1, and_from (is_white b) (list_all is_white more.0) w more.2)
+      let more = third_is z (rw same h) in (
+        b ∷ more.0,
+        ap (λ l. b ∷ l) more.1,
+        and_from (is_white b) (list_all is_white more.0) w more.2,
+      )
   | inr w ↦ elim (cases_Bool (b == 93)) [
     | inl q ↦
         let same : Closed ≡ t = (let f = rw (w, q) at e in cc) in
@@ -103,23 +129,29 @@ in_contents false = Contents
 
 -- one sign more
 escaped_in : (b : ℕ) (y : List ℕ) → is_plain b ≡ true → IsContents y → IsContents (92 ∷ b ∷ y)
-escaped_in b y plain (signs, spelt, all) =
-    (Escaped b ∷ signs, ap (λ l. 92 ∷ b ∷ l) spelt, and_from (is_plain b) (list_all is_sign signs) plain all)
+escaped_in b y plain (signs, spelt, all) = (
+  Escaped b ∷ signs,
+  ap (λ l. 92 ∷ b ∷ l) spelt,
+  and_from (is_plain b) (list_all is_sign signs) plain all,
+)
 
-single_in : (b : ℕ) (y : List ℕ) → is_plain b ≡ true → (b == 34) ≡ false → (b == 92) ≡ false → IsContents y → IsContents (b ∷ y)
+single_in : (b : ℕ) (y : List ℕ) → is_plain b ≡ true → (b == 34) ≡ false → (b == 92) ≡ false
+    → IsContents y → IsContents (b ∷ y)
 single_in b y plain quote backslash (signs, spelt, all) = (
   Single b ∷ signs,
   ap (λ l. b ∷ l) spelt,
   and_from (is_sign (Single b)) (list_all is_sign signs)
       (and_from (is_plain b) (not (b == 34) && not (b == 92)) plain
-      (and_from (not (b == 34)) (not (b == 92)) (not_from_false (b == 34) quote) (not_from_false (b == 92) backslash))) all,
+      (and_from (not (b == 34)) (not (b == 92)) (not_from_false (b == 34) quote)
+      (not_from_false (b == 92) backslash))) all,
 )
 
 one_byte : (b : ℕ) (z y after : List ℕ) → z ≡ y ++ 34 ∷ after → b ∷ z ≡ (b ∷ y) ++ 34 ∷ after
 one_byte b z y after e = ap (λ l. b ∷ l) e
 
 contents_is : (escaped : Bool) (z : List ℕ) → Ends (in_contents escaped) z
-    → (y : List ℕ) × (after : List ℕ) × (z ≡ y ++ 34 ∷ after) × SpelledIn escaped y × Ends AfterString after
+    → (y : List ℕ) × (after : List ℕ) × (z ≡ y ++ 34 ∷ after) × SpelledIn escaped y
+    × Ends AfterString after
 contents_is true [] h = cc
 contents_is false [] h = cc
 contents_is true (b ∷ z) (t, e, h) = elim (cases_Bool (is_plain b)) [
@@ -164,13 +196,19 @@ contents_is false (b ∷ z) (t, e, h) = elim (cases_Bool (b == 92)) [
 ]
 
 second_is : (z : List ℕ) → Ends AfterName z
-    → (second : List ℕ) × (after : List ℕ) × (z ≡ second ++ 34 ∷ after) × IsTrue (list_all is_white second) × Ends Contents after
+    → (second : List ℕ) × (after : List ℕ) × (z ≡ second ++ 34 ∷ after)
+    × IsTrue (list_all is_white second) × Ends Contents after
 second_is [] h = cc
 second_is (b ∷ z) (t, e, h) = elim (cases_Bool (is_white b)) [
   | inl w ↦
       let same : AfterName ≡ t = (let f = rw w at e in cc) in
-      let more = second_is z (rw same h) in
-      (b ∷ more.0, more.1, ap (λ l. b ∷ l) more.2, and_from (is_white b) (list_all is_white more.0) w more.3, more.4)
+      let more = second_is z (rw same h) in (
+        b ∷ more.0,
+        more.1,
+        ap (λ l. b ∷ l) more.2,
+        and_from (is_white b) (list_all is_white more.0) w more.3,
+        more.4,
+      )
   | inr w ↦ elim (cases_Bool (b == 34)) [
     | inl q ↦
         let same : Contents ≡ t = (let f = rw (w, q) at e in cc) in
@@ -257,13 +295,23 @@ first_is (b ∷ z) (t, e, h) = elim (cases_Bool (is_white b)) [
   | inr w ↦ elim (cases_Bool (is_name_byte b)) [
     | inl n ↦
         let same : Name ≡ t = (let f = rw (w, n) at e in cc) in
-        record { first = []; head = b; back = z; is = refl; whites = refl; named = n; ends = rw same h }
+        record {
+          first = [];
+          head = b;
+          back = z;
+          is = refl;
+          whites = refl;
+          named = n;
+          ends =
+              rw same h;
+        }
     | inr n ↦ let f = rw (w, n) at e in cc
   ]
 ]
 
 -- what goes on from the bracket to the end
-pub tag_is : (place : Standing) (z : List ℕ) → Ends BeforeName z → (p : Part) × (spelled_part p ≡ 91 ∷ z) × (is_tag p ≡ true) × Stands place p []
+pub tag_is : (place : Standing) (z : List ℕ) → Ends BeforeName z
+    → (p : Part) × (spelled_part p ≡ 91 ∷ z) × (is_tag p ≡ true) × Stands place p []
 tag_is place z h =
     let a = first_is z h in
     let n = name_is a.back a.ends in
@@ -274,25 +322,37 @@ tag_is place z h =
       sym (ap (λ l. 91 ∷ l) (a.is ∙ ap (λ l. a.first ++ a.head ∷ l)
           (n.is ∙ ap (λ l. n.name ++ (n.second ++ 34 ∷ l)) after))),
       refl,
-      (a.whites, refl, and_from (is_name_byte a.head) (list_all is_name_byte n.name) a.named n.names, n.whites, c.3, d.2),
+      (
+        a.whites,
+        refl,
+        and_from (is_name_byte a.head) (list_all is_name_byte n.name) a.named n.names,
+        n.whites,
+        c.3,
+        d.2,
+      ),
     )
 
 -- ---- and a tag goes on to its end
 
-third_ends : (third : List ℕ) → IsTrue (list_all is_white third) → Ends AfterString (third ++ 93 ∷ [])
+third_ends : (third : List ℕ) → IsTrue (list_all is_white third)
+    → Ends AfterString (third ++ 93 ∷ [])
 third_ends [] all = (Closed, refl, refl)
 third_ends (b ∷ third) all =
     let both = and_parts (is_white b) (list_all is_white third) all in
     (AfterString, rw both.0 refl, third_ends third both.1)
 
-signs_end : (signs : List Sign) (after : List ℕ) → IsTrue (list_all is_sign signs) → Ends AfterString after
+signs_end : (signs : List Sign) (after : List ℕ) → IsTrue (list_all is_sign signs)
+    → Ends AfterString after
     → Ends Contents (flat_map spelled_sign signs ++ 34 ∷ after)
 signs_end [] after all h = (AfterString, refl, h)
 signs_end (Single b ∷ signs) after all h =
     let both = and_parts (is_sign (Single b)) (list_all is_sign signs) all in
     let plain = and_parts (is_plain b) (not (b == 34) && not (b == 92)) both.0 in
-    let others = and_parts (not (b == 34)) (not (b == 92)) plain.1 in
-    (Contents, rw (not-true _ others.1, not-true _ others.0, plain.0) refl, signs_end signs after both.1 h)
+    let others = and_parts (not (b == 34)) (not (b == 92)) plain.1 in (
+      Contents,
+      rw (not-true _ others.1, not-true _ others.0, plain.0) refl,
+      signs_end signs after both.1 h,
+    )
 signs_end (Escaped b ∷ signs) after all h =
     let both = and_parts (is_plain b) (list_all is_sign signs) all in
     (AfterBackslash, refl, (Contents, rw both.0 refl, signs_end signs after both.1 h))
@@ -312,14 +372,17 @@ after_ends (b ∷ second) after all h =
     let both = and_parts (is_white b) (list_all is_white second) all in
     (AfterName, rw (is_name_byte-white b both.0, both.0) refl, second_ends second after both.1 h)
 
-name_ends : (name rest : List ℕ) → IsTrue (list_all is_name_byte name) → Ends Name rest → Ends Name (name ++ rest)
+name_ends : (name rest : List ℕ) → IsTrue (list_all is_name_byte name) → Ends Name rest
+    → Ends Name (name ++ rest)
 name_ends [] rest all h = h
 name_ends (b ∷ name) rest all h =
     let both = and_parts (is_name_byte b) (list_all is_name_byte name) all in
     (Name, rw both.0 refl, name_ends name rest both.1 h)
 
-first_ends : (first name rest : List ℕ) → IsTrue (list_all is_white first) → IsTrue (not (is_empty name))
-    → IsTrue (list_all is_name_byte name) → Ends Name rest → Ends BeforeName (first ++ (name ++ rest))
+first_ends : (first name rest : List ℕ) → IsTrue (list_all is_white first)
+    → IsTrue (not (is_empty name))
+    → IsTrue (list_all is_name_byte name) → Ends Name rest
+    → Ends BeforeName (first ++ (name ++ rest))
 first_ends [] [] rest all some names h = cc
 first_ends [] (b ∷ name) rest all some names h =
     let both = and_parts (is_name_byte b) (list_all is_name_byte name) names in
@@ -330,8 +393,16 @@ first_ends (b ∷ first) name rest all some names h =
 
 pub tag_ends : (place : Standing) (first name second contents third after : List ℕ)
     → Stands place (Tag first name second contents third) after
-    → Ends BeforeName (first ++ (name ++ (second ++ (34 ∷ (contents ++ (34 ∷ (third ++ 93 ∷ [])))))))
-tag_ends place first name second contents third after (whites, some, names, more_whites, (signs, spelt, all), last_whites) =
+    → Ends BeforeName (first
+    ++ (name ++ (second ++ (34 ∷ (contents ++ (34 ∷ (third ++ 93 ∷ [])))))))
+tag_ends place first name second contents third after (
+  whites,
+  some,
+  names,
+  more_whites,
+  (signs, spelt, all),
+  last_whites,
+) =
     first_ends first name _ whites some names
     (after_ends second _ more_whites
     (subst (λ l. Ends Contents (l ++ (34 ∷ (third ++ 93 ∷ [])))) (sym spelt)

@@ -1,5 +1,6 @@
 -- The pieces of a block end where none is left, or after an error.
-use Rattle.std.proofs.Common.{◌≡◌, ℕ, List, [], ◌∷◌, Some, None, Ok, Err, take, drop, refl, sym, ◌∙◌, inl, inr}
+use Rattle.std.proofs.Common.{◌≡◌, ℕ, List, [], ◌∷◌, Some, None, Ok, Err, take, drop, refl, sym}
+use Rattle.std.proofs.Common.{◌∙◌, inl, inr}
 use Rattle.std.proofs.lemmas.Bool.{false≢true}
 use Rattle.pgn_text.specs.Public.AnswerLaws.{EndsWhereNothingIsLeft, EndsAfterAnError}
 use Rattle.pgn_text.specs.Public.Left.{Left, ArePiecesLeft}
@@ -10,7 +11,8 @@ use Rattle.pgn_text.proofs.OneList.{one_list}
 one_left : (max_depth : ℕ) (left : Left) (pieces others : List spec.Piece)
     → ArePiecesLeft max_depth left pieces → ArePiecesLeft max_depth left others → pieces ≡ others
 one_left max_depth left pieces others are own =
-    one_list max_depth left.file_start (take left.at left.block) pieces others (drop left.at left.block) are own
+    one_list max_depth left.file_start (take left.at left.block) pieces others
+    (drop left.at left.block) are own
 
 pub ends_where_nothing_is_left : EndsWhereNothingIsLeft
 ends_where_nothing_is_left max_depth old new None pieces gives going are = (
@@ -21,8 +23,10 @@ ends_where_nothing_is_left max_depth old new None pieces gives going are = (
   λ _. refl,
 )
 ends_where_nothing_is_left max_depth old new (Some (Ok piece)) pieces gives going are =
-    let more = pieces_exist max_depth new.file_start (take new.at new.block) (drop new.at new.block) in
-    let all = one_left max_depth old pieces (gives.shown ∷ more.0) are (gives.completes more.0 more.1) in
+    let more = pieces_exist max_depth new.file_start (take new.at new.block) (drop new.at new.block)
+    in
+    let all =
+    one_left max_depth old pieces (gives.shown ∷ more.0) are (gives.completes more.0 more.1) in
     (λ e. cc, λ e. cc)
 ends_where_nothing_is_left max_depth old new (Some (Err error)) pieces gives going are =
     let same = one_left max_depth old pieces gives.2.0 are gives.2.2 in

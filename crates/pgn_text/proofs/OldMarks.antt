@@ -1,23 +1,28 @@
 -- Under larger limits a text without faulty pieces keeps its pieces.
-use Rattle.std.proofs.Common.{ℕ, ◌+◌, ◌≤◌, ◌==◌, Bool, List, [], ◌∷◌, ◌++◌, map, length, IsTrue, sym, ap, ◌∙◌, arith}
+use Rattle.std.proofs.Common.{ℕ, ◌+◌, ◌≤◌, ◌==◌, Bool, List, [], ◌∷◌, ◌++◌, map, length, IsTrue}
+use Rattle.std.proofs.Common.{sym, ap, ◌∙◌, arith}
 use Rattle.std.specs.List.{list_all}
 use Rattle.std.proofs.lemmas.Bool.{false≢true, and_parts}
 use Rattle.std.proofs.lemmas.List.Folds.{list_all-append}
 use Rattle.pgn_text.specs.Public.Parts.{Part, spelled}
 use Rattle.pgn_text.specs.Public.Games.{EachFrom, depth_after, IsGame}
 use Rattle.pgn_text.specs.Public.Pieces.{Piece, Game, Unreadable, ArePieces}
-use Rattle.pgn_text.specs.Public.Marks.{MarkedPiece, marked, is_readable, AreOfBlock, over, within, AreOfBlocks, AreMarkedPieces}
+use Rattle.pgn_text.specs.Public.Marks.{MarkedPiece, marked, is_readable, AreOfBlock, over, within}
+use Rattle.pgn_text.specs.Public.Marks.{AreOfBlocks, AreMarkedPieces}
 
 each_within : (low high : ℕ) (front parts : List Part)
     → low ≤ high
     → EachFrom (λ front part back. depth_after front ≤ low) front parts
     → EachFrom (λ front part back. depth_after front ≤ high) front parts
 each_within low high front [] le h = tt
-each_within low high front (p ∷ parts) le h = (omega (arith, h.0), each_within low high (front ++ p ∷ []) parts le h.1)
+each_within low high front (p ∷ parts) le h =
+    (omega (arith, h.0), each_within low high (front ++ p ∷ []) parts le h.1)
 
 -- a game within the old depth is one within the new
-pub deeper_game : (low high : ℕ) (file_start : Bool) (before : List ℕ) (parts : List Part) (after : List ℕ)
-    → low ≤ high → IsGame low file_start before parts after → IsGame high file_start before parts after
+pub deeper_game : (low high : ℕ) (file_start : Bool) (before : List ℕ) (parts : List Part)
+    (after : List ℕ)
+    → low ≤ high → IsGame low file_start before parts after
+    → IsGame high file_start before parts after
 deeper_game low high file_start before parts after le g = record {
   stand = g.stand;
   begins = g.begins;
@@ -30,7 +35,8 @@ deeper_game low high file_start before parts after le g = record {
   variations = g.variations;
 }
 
-pub same_pieces : (low high : ℕ) (file_start : Bool) (before : List ℕ) (pieces : List Piece) (text : List ℕ) (offset : ℕ)
+pub same_pieces : (low high : ℕ) (file_start : Bool) (before : List ℕ) (pieces : List Piece)
+    (text : List ℕ) (offset : ℕ)
     → low ≤ high → IsTrue (list_all is_readable (map (marked offset) pieces))
     → ArePieces low file_start before pieces text → ArePieces high file_start before pieces text
 same_pieces low high file_start before [] text offset le all h = h
@@ -41,20 +47,27 @@ same_pieces low high file_start before (Game at parts ∷ more) text offset le a
   h.3,
   h.4,
   deeper_game low high file_start (before ++ spelled h.0) parts h.1 le h.5,
-  same_pieces low high file_start ((before ++ spelled h.0) ++ spelled parts) more h.1 offset le all h.6,
+  same_pieces low high file_start ((before ++ spelled h.0)
+      ++ spelled parts) more h.1 offset le all h.6,
 )
-same_pieces low high file_start before (Unreadable at bytes ∷ more) text offset le all h = absurd (false≢true all)
+same_pieces low high file_start before (Unreadable at bytes ∷ more) text offset le all h =
+    absurd (false≢true all)
 
-pub same_of_block : (limit larger_limit low high offset : ℕ) (block : List ℕ) (own : List MarkedPiece)
+pub same_of_block : (limit larger_limit low high offset : ℕ) (block : List ℕ)
+    (own : List MarkedPiece)
     → limit ≤ larger_limit → low ≤ high → IsTrue (list_all is_readable own)
     → AreOfBlock limit low offset block own → AreOfBlock larger_limit high offset block own
-same_of_block limit larger_limit low high offset block own le deep all (over l e) = absurd (false≢true (rw e at all))
+same_of_block limit larger_limit low high offset block own le deep all (over l e) =
+    absurd (false≢true (rw e at all))
 same_of_block limit larger_limit low high offset block own le deep all (within l pieces h e) =
-    within (omega arith) pieces (same_pieces low high (offset == 0) [] pieces block offset deep (rw e at all) h) e
+    within (omega arith) pieces
+    (same_pieces low high (offset == 0) [] pieces block offset deep (rw e at all) h) e
 
-pub same_of_blocks : (limit larger_limit low high offset : ℕ) (blocks : List (List ℕ)) (pieces : List MarkedPiece)
+pub same_of_blocks : (limit larger_limit low high offset : ℕ) (blocks : List (List ℕ))
+    (pieces : List MarkedPiece)
     → limit ≤ larger_limit → low ≤ high → IsTrue (list_all is_readable pieces)
-    → AreOfBlocks limit low offset blocks pieces → AreOfBlocks larger_limit high offset blocks pieces
+    → AreOfBlocks limit low offset blocks pieces
+    → AreOfBlocks larger_limit high offset blocks pieces
 same_of_blocks limit larger_limit low high offset [] pieces le deep all h = h
 same_of_blocks limit larger_limit low high offset (block ∷ more) pieces le deep all h =
     let parts = and_parts (list_all is_readable h.0) (list_all is_readable h.1)
@@ -63,12 +76,15 @@ same_of_blocks limit larger_limit low high offset (block ∷ more) pieces le dee
       h.1,
       h.2,
       same_of_block limit larger_limit low high offset block h.0 le deep parts.0 h.3,
-      same_of_blocks limit larger_limit low high (offset + length block) more h.1 le deep parts.1 h.4,
+      same_of_blocks limit larger_limit low high (offset
+          + length block) more h.1 le deep parts.1 h.4,
     )
 
-pub same_marked_pieces : (limit larger_limit low high offset : ℕ) (text : List ℕ) (pieces : List MarkedPiece)
+pub same_marked_pieces : (limit larger_limit low high offset : ℕ) (text : List ℕ)
+    (pieces : List MarkedPiece)
     → limit ≤ larger_limit → low ≤ high → IsTrue (list_all is_readable pieces)
-    → AreMarkedPieces limit low offset text pieces → AreMarkedPieces larger_limit high offset text pieces
+    → AreMarkedPieces limit low offset text pieces
+    → AreMarkedPieces larger_limit high offset text pieces
 same_marked_pieces limit larger_limit low high offset text pieces le deep all h = record {
   blocks = h.blocks;
   parted = h.parted;

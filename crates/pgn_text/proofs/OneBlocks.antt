@@ -1,5 +1,6 @@
 -- Each text has a list of blocks, and only one.
-use Rattle.std.proofs.Common.{◌≡◌, ℕ, suc, ◌-◌, true, false, List, [], ◌∷◌, ◌++◌, length, get_or, refl, sym, ap, ◌∙◌, arith, inl, inr}
+use Rattle.std.proofs.Common.{◌≡◌, ℕ, suc, ◌-◌, true, false, List, [], ◌∷◌, ◌++◌, length, get_or}
+use Rattle.std.proofs.Common.{refl, sym, ap, ◌∙◌, arith, inl, inr}
 use Rattle.std.specs.Prelude.{◌≢◌, ◌⊎◌, ◌&&◌, ◌==◌, nat_eq, IsTrue}
 use Rattle.std.specs.List.{starts_with}
 use Rattle.std.proofs.lemmas.Bool.{cases_Bool, both_ways, false≢true, and_right}
@@ -9,7 +10,8 @@ use Rattle.pgn_text.proofs.OneList.{no_bytes}
 
 -- two cuts of one text: one of the fronts begins the other
 cuts : (a b rest rest' : List ℕ) → a ++ rest ≡ b ++ rest'
-    → ((y : List ℕ) × (b ≡ a ++ y) × (rest ≡ y ++ rest')) ⊎ ((y : List ℕ) × (a ≡ b ++ y) × (rest' ≡ y ++ rest))
+    → ((y : List ℕ) × (b ≡ a ++ y) × (rest ≡ y ++ rest'))
+    ⊎ ((y : List ℕ) × (a ≡ b ++ y) × (rest' ≡ y ++ rest))
 cuts [] b rest rest' e = inl (b, refl, e)
 cuts (x ∷ a) [] rest rest' e = inr (x ∷ a, refl, sym e)
 cuts (x ∷ a) (z ∷ b) rest rest' e =
@@ -21,7 +23,8 @@ cuts (x ∷ a) (z ∷ b) rest rest' e =
     ]
 
 -- after a byte an event line does not depend on the bytes before it
-event_line_after : (x y : ℕ) (ys after : List ℕ) → is_event_line (x ∷ y ∷ ys) after ≡ is_event_line (y ∷ ys) after
+event_line_after : (x y : ℕ) (ys after : List ℕ)
+    → is_event_line (x ∷ y ∷ ys) after ≡ is_event_line (y ∷ ys) after
 event_line_after x y ys after =
     let place : length (x ∷ y ∷ ys) - 1 ≡ suc (length (y ∷ ys) - 1) = omega arith in
     ap (λ k. (get_or (x ∷ y ∷ ys) k 0 == 10) && starts_with nat_eq after event_line) place
@@ -39,19 +42,23 @@ no_further (x ∷ a) (b ∷ y) rest short long =
     absurd (long.whole (x ∷ a) (b ∷ y) refl (λ e. cc) (λ e. cc) (short.ends (λ e. cc)))
 
 -- a text has one first block
-pub one_first_block : (a b rest rest' : List ℕ) → a ++ rest ≡ b ++ rest' → IsFirstBlock a rest → IsFirstBlock b rest' → (a ≡ b) × (rest ≡ rest')
+pub one_first_block : (a b rest rest' : List ℕ) → a ++ rest ≡ b ++ rest' → IsFirstBlock a rest
+    → IsFirstBlock b rest' → (a ≡ b) × (rest ≡ rest')
 one_first_block a b rest rest' e first other =
     elim (cuts a b rest rest' e) [
       | inl h ↦
-          let none = no_further a h.0 rest' (rw h.2 at first) (rw h.1 at other) in
-          (sym (append-nil a) ∙ ap (λ t. a ++ t) (sym none) ∙ sym h.1, h.2 ∙ ap (λ t. t ++ rest') none)
+          let none = no_further a h.0 rest' (rw h.2 at first) (rw h.1 at other) in (
+            sym (append-nil a) ∙ ap (λ t. a ++ t) (sym none) ∙ sym h.1,
+            h.2 ∙ ap (λ t. t ++ rest') none,
+          )
       | inr h ↦
           let none = no_further b h.0 rest (rw h.2 at other) (rw h.1 at first) in
           (h.1 ∙ ap (λ t. b ++ t) none ∙ append-nil b, sym (h.2 ∙ ap (λ t. t ++ rest) none))
     ]
 
 -- a text has one list of blocks
-pub one_blocks : (xs ys : List (List ℕ)) (text : List ℕ) → AreBlocks xs text → AreBlocks ys text → xs ≡ ys
+pub one_blocks : (xs ys : List (List ℕ)) (text : List ℕ) → AreBlocks xs text → AreBlocks ys text
+    → xs ≡ ys
 one_blocks [] ys text h k = absurd h
 one_blocks (a ∷ []) [] text h k = absurd k
 one_blocks (a ∷ []) (b ∷ []) text h k = ap (λ t. t ∷ []) (sym h.0 ∙ k.0)
@@ -68,51 +75,81 @@ one_blocks (a ∷ d ∷ xs) (b ∷ c ∷ ys) text h k =
     cc
 
 -- a byte before a first block joins it, unless the block begins with an event line
-joined : (x : ℕ) (block rest : List ℕ) → is_event_line (x ∷ []) (block ++ rest) ≡ false → IsFirstBlock block rest → IsFirstBlock (x ∷ block) rest
+joined : (x : ℕ) (block rest : List ℕ) → is_event_line (x ∷ []) (block ++ rest) ≡ false
+    → IsFirstBlock block rest → IsFirstBlock (x ∷ block) rest
 joined x block rest none first = record { ends = ends block first; whole = whole }
   where
     ends : (b : List ℕ) → IsFirstBlock b rest → rest ≢ [] → IsTrue (is_event_line (x ∷ b) rest)
     ends [] f some = absurd (some (empty_first rest f))
     ends (y ∷ ys) f some = event_line_after x y ys rest ∙ f.ends some
 
-    whole : (p q : List ℕ) → x ∷ block ≡ p ++ q → p ≢ [] → q ≢ [] → IsTrue (is_event_line p (q ++ rest)) → ⊥
+    whole : (p q : List ℕ) → x ∷ block ≡ p ++ q → p ≢ [] → q ≢ []
+        → IsTrue (is_event_line p (q ++ rest)) → ⊥
     whole [] q e some other here = some refl
     whole (z ∷ []) q e some other here =
         let same : x ≡ z = cc in
         let after : block ≡ q = cc in
-        both_ways (is_event_line (x ∷ []) (block ++ rest)) none (ap (λ b. is_event_line (b ∷ []) (block ++ rest)) same ∙ ap (λ t. is_event_line (z ∷ []) (t ++ rest)) after ∙ here)
+        both_ways (is_event_line (x ∷ []) (block ++ rest)) none
+        (ap (λ b. is_event_line (b ∷ []) (block ++ rest)) same
+        ∙ ap (λ t. is_event_line (z ∷ []) (t ++ rest)) after ∙ here)
     whole (z ∷ y ∷ p) q e some other here =
         let after : block ≡ (y ∷ p) ++ q = cc in
-        first.whole (y ∷ p) q after (λ n. cc) other (sym (event_line_after z y p (q ++ rest)) ∙ here)
+        first.whole (y ∷ p) q after (λ n. cc) other (sym (event_line_after z y p (q ++ rest))
+        ∙ here)
 
 -- a byte before a text joins its first block
-more_blocks : (x : ℕ) (text : List ℕ) (blocks : List (List ℕ)) → is_event_line (x ∷ []) text ≡ false → AreBlocks blocks text
+more_blocks : (x : ℕ) (text : List ℕ) (blocks : List (List ℕ)) → is_event_line (x ∷ []) text ≡ false
+    → AreBlocks blocks text
     → (all : List (List ℕ)) × AreBlocks all (x ∷ text)
 more_blocks x text [] none h = absurd h
-more_blocks x text (b ∷ []) none h =
-    ((x ∷ b) ∷ [], (ap (λ t. x ∷ t) h.0, joined x b [] (ap (is_event_line (x ∷ [])) (append-nil b ∙ sym h.0) ∙ none) h.1))
-more_blocks x text (b ∷ c ∷ more) none h =
-    ((x ∷ b) ∷ c ∷ more, (h.0, ap (λ t. x ∷ t) h.1, h.2, joined x b h.0 (ap (is_event_line (x ∷ [])) (sym h.1) ∙ none) h.3, h.4))
+more_blocks x text (b ∷ []) none h = (
+  (x ∷ b) ∷ [],
+  (
+    ap (λ t. x ∷ t) h.0,
+    joined x b [] (ap (is_event_line (x ∷ [])) (append-nil b ∙ sym h.0) ∙ none) h.1,
+  ),
+)
+more_blocks x text (b ∷ c ∷ more) none h = (
+  (x ∷ b) ∷ c ∷ more,
+  (
+    h.0,
+    ap (λ t. x ∷ t) h.1,
+    h.2,
+    joined x b h.0 (ap (is_event_line (x ∷ [])) (sym h.1) ∙ none) h.3,
+    h.4,
+  ),
+)
 
 -- a byte before a text that begins with an event line is a block of its own
-own_block : (x : ℕ) (text : List ℕ) (blocks : List (List ℕ)) → is_event_line (x ∷ []) text ≡ true → AreBlocks blocks text
+own_block : (x : ℕ) (text : List ℕ) (blocks : List (List ℕ)) → is_event_line (x ∷ []) text ≡ true
+    → AreBlocks blocks text
     → (all : List (List ℕ)) × AreBlocks all (x ∷ text)
 own_block x text [] here h = absurd h
-own_block x text (b ∷ more) here h =
-    ((x ∷ []) ∷ b ∷ more, (text, refl, some text here, record { ends = λ _. here; whole = alone }, h))
+own_block x text (b ∷ more) here h = (
+  (x ∷ []) ∷ b ∷ more,
+  (text, refl, some text here, record { ends = λ _. here; whole = alone }, h),
+)
   where
     some : (t : List ℕ) → is_event_line (x ∷ []) t ≡ true → t ≢ []
     some t seen none =
-        both_ways (is_event_line (x ∷ []) []) (and_right (x == 10) (starts_with nat_eq [] event_line) refl) (ap (is_event_line (x ∷ [])) (sym none) ∙ seen)
+        both_ways (is_event_line (x ∷ []) [])
+        (and_right (x == 10) (starts_with nat_eq [] event_line) refl)
+        (ap (is_event_line (x ∷ [])) (sym none) ∙ seen)
 
-    alone : (p q : List ℕ) → x ∷ [] ≡ p ++ q → p ≢ [] → q ≢ [] → IsTrue (is_event_line p (q ++ text)) → ⊥
+    alone : (p q : List ℕ) → x ∷ [] ≡ p ++ q → p ≢ [] → q ≢ []
+        → IsTrue (is_event_line p (q ++ text)) → ⊥
     alone [] q e p_some q_some line = p_some refl
     alone (z ∷ []) q e p_some q_some line = q_some (let k : [] ≡ q = cc in sym k)
     alone (z ∷ y ∷ p) q e p_some q_some line = cc
 
 -- the one block of no text
 pub empty_block : IsFirstBlock [] []
-empty_block = record { ends = λ some. absurd (some refl); whole = λ x y e some other here. some (no_bytes x y (sym e)) }
+empty_block =
+    record {
+      ends = λ some. absurd (some refl);
+      whole =
+          λ x y e some other here. some (no_bytes x y (sym e));
+    }
 
 -- each text has a list of blocks
 pub blocks_exist : (text : List ℕ) → (blocks : List (List ℕ)) × AreBlocks blocks text

@@ -1,6 +1,7 @@
 -- Worked rows of the definitions.
 use Rattle.std.proofs.Common.{◌≡◌, true, false, List, [], ◌∷◌, codes, refl, sym, ap, ◌∙◌}
-use Rattle.pgn_text.specs.Public.Parts.{Part, White, Word, Star, Dot, Open, Close, spelled, standing_of}
+use Rattle.pgn_text.specs.Public.Parts.{Part, White, Word, Star, Dot, Open, Close, spelled}
+use Rattle.pgn_text.specs.Public.Parts.{standing_of}
 use Rattle.pgn_text.specs.Public.Games.{IsGame}
 use Rattle.pgn_text.specs.Public.Pieces.{NoGame}
 use Rattle.pgn_text.specs.Private.Steps.{start}
@@ -35,9 +36,11 @@ second_game = game_from 64 true [] second_row []
 
 -- no front of `(1. e4) *` is one
 third_none : NoGame 64 false [] (codes "(1. e4) *")
-third_none parts after e g = halfway_stuck 64 false [] (codes "(1. e4) *") [] start Open (codes "(1. e4) *")
+third_none parts after e g =
+    halfway_stuck 64 false [] (codes "(1. e4) *") [] start Open (codes "(1. e4) *")
     (codes "1. e4) *")
-    (halfway_start 64 false [] (codes "(1. e4) *")) refl tt (λ e. cc) (λ _. refl) parts after (game_reads 64 false []
+    (halfway_start 64 false [] (codes "(1. e4) *")) refl tt (λ e. cc) (λ _.
+    refl) parts after (game_reads 64 false []
     (codes "(1. e4) *") parts after e g)
 
 -- after a space a percent sign begins nothing

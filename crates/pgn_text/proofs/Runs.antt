@@ -1,6 +1,8 @@
 -- Longest fronts of bytes that pass a test.
-use Rattle.std.proofs.Common.{◌≡◌, ℕ, zero, suc, ◌+◌, ◌<◌, ◌≤◌, Bool, true, false, not, List, [], ◌∷◌, ◌++◌, length, take, drop, get_or, refl, sym, ap, ◌∙◌, arith}
-use Rattle.std.proofs.lemmas.Bool.{eqb-true, not_from_true, not_from_false, false_from_ne_true, ne_eqb}
+use Rattle.std.proofs.Common.{◌≡◌, ℕ, zero, suc, ◌+◌, ◌<◌, ◌≤◌, Bool, true, false, not, List, []}
+use Rattle.std.proofs.Common.{◌∷◌, ◌++◌, length, take, drop, get_or, refl, sym, ap, ◌∙◌, arith}
+use Rattle.std.proofs.lemmas.Bool.{eqb-true, not_from_true, not_from_false, false_from_ne_true}
+use Rattle.std.proofs.lemmas.Bool.{ne_eqb}
 use Rattle.std.proofs.lemmas.List.{drop_more, drop_all}
 use Rattle.memchr.specs.Find.{IsFirstByte, is_byte}
 use Rattle.std.specs.Prelude.{if◌then◌else◌, Some, None, ◌==◌}
@@ -9,15 +11,18 @@ use Rattle.pgn_text.specs.Public.Bytes.{is_empty, run_of, after_run}
 pub take_run : (test : ℕ → Bool) (xs : List ℕ) → take (length (run_of test xs)) xs ≡ run_of test xs
 take_run test [] = refl
 take_run test (b ∷ rest) =
-    elim (test b) as (λ v. take (length (if v then b ∷ run_of test rest else [])) (b ∷ rest) ≡ (if v then b ∷ run_of test rest else [])) [
+    elim (test b) as (λ v. take (length (if v then b ∷ run_of test rest else [])) (b ∷ rest)
+    ≡ (if v then b ∷ run_of test rest else [])) [
       | true ↦ ap (λ (xs : List ℕ). b ∷ xs) (take_run test rest)
       | false ↦ refl
     ]
 
-pub drop_run : (test : ℕ → Bool) (xs : List ℕ) → drop (length (run_of test xs)) xs ≡ after_run test xs
+pub drop_run : (test : ℕ → Bool) (xs : List ℕ)
+    → drop (length (run_of test xs)) xs ≡ after_run test xs
 drop_run test [] = refl
 drop_run test (b ∷ rest) =
-    elim (test b) as (λ v. drop (length (if v then b ∷ run_of test rest else [])) (b ∷ rest) ≡ (if v then after_run test rest else b ∷ rest)) [
+    elim (test b) as (λ v. drop (length (if v then b ∷ run_of test rest else [])) (b ∷ rest)
+    ≡ (if v then after_run test rest else b ∷ rest)) [
       | true ↦ drop_run test rest
       | false ↦ refl
     ]
@@ -26,23 +31,30 @@ pub length-run : (test : ℕ → Bool) (xs : List ℕ) → length (run_of test x
 length-run test [] = omega arith
 length-run test (b ∷ rest) =
     elim (test b) as (λ v. length (if v then b ∷ run_of test rest else []) ≤ length (b ∷ rest)) [
-      | true ↦ (let h : length (run_of test rest) ≤ length rest = length-run test rest in omega arith)
+      | true ↦ (let h : length (run_of test rest) ≤ length rest = length-run test rest in
+          omega arith)
       | false ↦ omega arith
     ]
 
 -- a place before which all bytes pass, and at which one fails or the text ends, is the run's length
-pub run_length_is : (test : ℕ → Bool) (xs : List ℕ) (n : ℕ) → ((k : ℕ) → k < n → test (get_or xs k 0) ≡ true) → n ≤ length xs → (n < length xs → test (get_or xs n 0) ≡ false) → n ≡ length (run_of test xs)
+pub run_length_is : (test : ℕ → Bool) (xs : List ℕ) (n : ℕ)
+    → ((k : ℕ) → k < n → test (get_or xs k 0) ≡ true) → n ≤ length xs
+    → (n < length xs → test (get_or xs n 0) ≡ false) → n ≡ length (run_of test xs)
 run_length_is test [] zero below within at = refl
 run_length_is test [] (suc n) below within at = absurd (omega arith)
 run_length_is test (b ∷ rest) zero below within at =
     let fails : test b ≡ false = at (omega arith) in rw fails refl
 run_length_is test (b ∷ rest) (suc n) below within at =
     let passes : test b ≡ true = below 0 (omega arith) in
-    rw passes (ap suc (run_length_is test rest n (λ k h. below (suc k) (omega arith)) (omega arith) (λ h. at (omega arith))))
+    rw passes
+    (ap suc (run_length_is test rest n (λ k h. below (suc k) (omega arith)) (omega arith) (λ h.
+    at (omega arith))))
 
 -- where so many bytes pass, the run is these and the run of what follows them
-pub run_on : (test : ℕ → Bool) (xs : List ℕ) (n : ℕ) → ((k : ℕ) → k < n → test (get_or xs k 0) ≡ true) → n ≤ length xs
-    → (run_of test xs ≡ take n xs ++ run_of test (drop n xs)) × (after_run test xs ≡ after_run test (drop n xs))
+pub run_on : (test : ℕ → Bool) (xs : List ℕ) (n : ℕ)
+    → ((k : ℕ) → k < n → test (get_or xs k 0) ≡ true) → n ≤ length xs
+    → (run_of test xs ≡ take n xs ++ run_of test (drop n xs))
+    × (after_run test xs ≡ after_run test (drop n xs))
 run_on test xs zero passes within = (refl, refl)
 run_on test [] (suc n) passes within = absurd (omega arith)
 run_on test (b ∷ rest) (suc n) passes within =
@@ -51,15 +63,18 @@ run_on test (b ∷ rest) (suc n) passes within =
     (rw here (ap (λ (ys : List ℕ). b ∷ ys) more.0), rw here more.1)
 
 -- the first place of a byte is the length of the run of other bytes
-pub first_byte-run : (b : ℕ) (xs : List ℕ) (n : ℕ) → IsFirstByte (is_byte b) xs (Some n) → n ≡ length (run_of (λ x. not (x == b)) xs)
+pub first_byte-run : (b : ℕ) (xs : List ℕ) (n : ℕ) → IsFirstByte (is_byte b) xs (Some n)
+    → n ≡ length (run_of (λ x. not (x == b)) xs)
 first_byte-run b xs n (first, here) =
     run_length_is (λ x. not (x == b)) xs n
-    (λ k below. not_from_false _ (false_from_ne_true _ (λ is. first.before k (omega arith) below is)))
+    (λ k below.
+    not_from_false _ (false_from_ne_true _ (λ is. first.before k (omega arith) below is)))
     (let h : n < length xs = first.high in omega arith)
     (λ _. not_from_true _ here)
 
 -- where a byte stands nowhere, the run of other bytes is the whole text
-pub first_byte-none : (b : ℕ) (xs : List ℕ) → IsFirstByte (is_byte b) xs None → length xs ≡ length (run_of (λ x. not (x == b)) xs)
+pub first_byte-none : (b : ℕ) (xs : List ℕ) → IsFirstByte (is_byte b) xs None
+    → length xs ≡ length (run_of (λ x. not (x == b)) xs)
 first_byte-none b xs nowhere =
     run_length_is (λ x. not (x == b)) xs (length xs)
     (λ k below. not_from_false _ (false_from_ne_true _ (λ is. nowhere k (omega arith) below is)))
@@ -67,7 +82,8 @@ first_byte-none b xs nowhere =
     (λ below. absurd (omega arith))
 
 -- what follows the run before a byte begins with the byte
-pub after-first_byte : (b : ℕ) (xs : List ℕ) (n : ℕ) → IsFirstByte (is_byte b) xs (Some n) → after_run (λ x. not (x == b)) xs ≡ b ∷ drop (n + 1) xs
+pub after-first_byte : (b : ℕ) (xs : List ℕ) (n : ℕ) → IsFirstByte (is_byte b) xs (Some n)
+    → after_run (λ x. not (x == b)) xs ≡ b ∷ drop (n + 1) xs
 after-first_byte b xs n (first, here) =
     let is : n ≡ length (run_of (λ x. not (x == b)) xs) = first_byte-run b xs n (first, here) in
     let below : n < length xs = first.high in
@@ -75,7 +91,8 @@ after-first_byte b xs n (first, here) =
     ∙ ap (λ x. x ∷ drop (n + 1) xs) (eqb-true _ _ here)
 
 -- where a byte stands nowhere, nothing follows the run of other bytes
-pub after-first_byte-none : (b : ℕ) (xs : List ℕ) → IsFirstByte (is_byte b) xs None → after_run (λ x. not (x == b)) xs ≡ []
+pub after-first_byte-none : (b : ℕ) (xs : List ℕ) → IsFirstByte (is_byte b) xs None
+    → after_run (λ x. not (x == b)) xs ≡ []
 after-first_byte-none b xs nowhere =
     let is : length xs ≡ length (run_of (λ x. not (x == b)) xs) = first_byte-none b xs nowhere in
     sym (drop_run (λ x. not (x == b)) xs) ∙ drop_all _ xs (omega arith)

@@ -1,5 +1,6 @@
 -- Tags whose names ascend are the entries of a map in the order of their bytes.
-use Rattle.std.proofs.Common.{◌≡◌, ℕ, Bool, true, false, cond, List, [], ◌∷◌, refl, sym, ap, ◌∙◌, subst}
+use Rattle.std.proofs.Common.{◌≡◌, ℕ, Bool, true, false, cond, List, [], ◌∷◌, refl, sym, ap, ◌∙◌}
+use Rattle.std.proofs.Common.{subst}
 use Rattle.std.specs.Prelude.{Some, T, ◌&&◌, if◌then◌else◌}
 use Rattle.std.specs.Cmp.Lexicographic.{slice_cmp}
 use Rattle.std.specs.FinMap.{find, is_sorted}
@@ -30,24 +31,33 @@ is_less Equal holds = absurd holds
 is_less Greater holds = absurd holds
 
 -- a name below each name of the tags
-below_tags : (name : List ℕ) (tags : List (List ℕ × List ℕ)) → AllByRecursion (λ other. name_cmp name other ≡ Less) (tag_names tags) → T (below_all name_cmp name tags)
+below_tags : (name : List ℕ) (tags : List (List ℕ × List ℕ))
+    → AllByRecursion (λ other. name_cmp name other ≡ Less) (tag_names tags)
+    → T (below_all name_cmp name tags)
 below_tags name [] below = tt
-below_tags name (tag ∷ tags) below = subst (λ o. T (is_lt o && below_all name_cmp name tags)) (sym below.0) (below_tags name tags below.1)
+below_tags name (tag ∷ tags) below =
+    subst (λ o. T (is_lt o && below_all name_cmp name tags)) (sym below.0)
+    (below_tags name tags below.1)
 
-below_names : (name : List ℕ) (tags : List (List ℕ × List ℕ)) → T (below_all name_cmp name tags) → AllByRecursion (λ other. name_cmp name other ≡ Less) (tag_names tags)
+below_names : (name : List ℕ) (tags : List (List ℕ × List ℕ)) → T (below_all name_cmp name tags)
+    → AllByRecursion (λ other. name_cmp name other ≡ Less) (tag_names tags)
 below_names name [] below = tt
 below_names name (tag ∷ tags) below =
     let parts = both_held (is_lt (name_cmp name tag.0)) (below_all name_cmp name tags) below in
     (is_less (name_cmp name tag.0) parts.0, below_names name tags parts.1)
 
 -- what ascends by names is in a map's order
-pub sorted_tags : (tags : List (List ℕ × List ℕ)) → IsStrictlySortedBy name_cmp (tag_names tags) → T (is_sorted name_cmp tags)
+pub sorted_tags : (tags : List (List ℕ × List ℕ)) → IsStrictlySortedBy name_cmp (tag_names tags)
+    → T (is_sorted name_cmp tags)
 unfolding IsStrictlySortedBy
 sorted_tags [] ascends = tt
-sorted_tags (tag ∷ tags) ascends = both_hold (below_all name_cmp tag.0 tags) (is_sorted name_cmp tags) (below_tags tag.0 tags ascends.0) (sorted_tags tags ascends.1)
+sorted_tags (tag ∷ tags) ascends =
+    both_hold (below_all name_cmp tag.0 tags) (is_sorted name_cmp tags)
+    (below_tags tag.0 tags ascends.0) (sorted_tags tags ascends.1)
 
 -- and the other way
-pub names_of_sorted : (tags : List (List ℕ × List ℕ)) → T (is_sorted name_cmp tags) → IsStrictlySortedBy name_cmp (tag_names tags)
+pub names_of_sorted : (tags : List (List ℕ × List ℕ)) → T (is_sorted name_cmp tags)
+    → IsStrictlySortedBy name_cmp (tag_names tags)
 unfolding IsStrictlySortedBy
 names_of_sorted [] sorted = tt
 names_of_sorted (tag ∷ tags) sorted =
@@ -55,7 +65,8 @@ names_of_sorted (tag ∷ tags) sorted =
     (below_names tag.0 tags parts.0, names_of_sorted tags parts.1)
 
 -- a look-up in a map finds the tag of a name
-pub find-tag_in : (wanted : List ℕ) (tags : List (List ℕ × List ℕ)) → find name_cmp wanted tags ≡ tag_in wanted tags
+pub find-tag_in : (wanted : List ℕ) (tags : List (List ℕ × List ℕ))
+    → find name_cmp wanted tags ≡ tag_in wanted tags
 find-tag_in wanted [] = refl
 find-tag_in wanted (tag ∷ tags) =
     ap (cond (is_eq (name_cmp wanted tag.0)) (Some tag.1)) (find-tag_in wanted tags)

@@ -1,5 +1,6 @@
 -- Worked rows of the place where a text stops agreeing with games, which the checker computes.
-use Rattle.std.proofs.Common.{ℕ, ◌+◌, true, false, List, [], ◌∷◌, ◌++◌, codes, length, refl, sym, ap, ◌∙◌}
+use Rattle.std.proofs.Common.{ℕ, ◌+◌, true, false, List, [], ◌∷◌, ◌++◌, codes, length, refl, sym}
+use Rattle.std.proofs.Common.{ap, ◌∙◌}
 use Rattle.pgn_text.specs.Private.ErrorPosition.{Walks}
 use Rattle.pgn_text.specs.Public.Limits.{depth_limit}
 use Rattle.pgn_text.specs.Private.PartFronts.{Longest, IsPartFront, NoneFollows}
@@ -15,12 +16,14 @@ use Rattle.pgn_text.proofs.InTag.{tag_far, tag_longest}
 use Rattle.pgn_text.proofs.PartLemmas.{stands-read}
 use Rattle.pgn_text.proofs.Stuck.{word_longest}
 
-row : (s : State) (done : List Part) (text : List ℕ) (n : ℕ) → Walks depth_limit start done s → AllStand true [] done text
+row : (s : State) (done : List Part) (text : List ℕ) (n : ℕ) → Walks depth_limit start done s
+    → AllStand true [] done text
     → NoneFollows depth_limit (standing_of true (spelled done)) s text
     → Longest (IsPartFront depth_limit (standing_of true (spelled done)) s) text n
     → IsLongestViablePrefix depth_limit true [] (spelled done ++ text) (length (spelled done) + n)
 row s done text n w h nothing l =
-    stops_in_part depth_limit true [] s done text n w h nothing l.within (λ _. l.here) (λ k _ low p. l.most k low p)
+    stops_in_part depth_limit true [] s done text n w h nothing l.within (λ _. l.here) (λ k _ low p.
+    l.most k low p)
 
 -- after `1. e4 `
 front : List Part
@@ -31,16 +34,25 @@ after = record { in_tags = false; depth = 0; has_move = true }
 
 walked : Walks depth_limit start front after
 unfolding front after
-walked = (refl, (_, refl, (refl, (_, refl, (refl, (_, refl, (refl, (_, refl, (refl, (_, refl, refl))))))))))
+walked = (
+  refl,
+  (
+    _,
+    refl,
+    (refl, (_, refl, (refl, (_, refl, (refl, (_, refl, (refl, (_, refl, refl)))))))),
+  ),
+)
 
 -- `1. e4 = *` stops at the equals sign
 equals : IsLongestViablePrefix depth_limit true [] (codes "1. e4 = *") 6
 unfolding front after
 equals = row after front (codes "= *") 0 walked
     ((refl, refl, refl), (tt, (refl, ((refl, refl, refl), (refl, tt)))))
-    (wrong_part depth_limit true (codes "1. e4 ") after (codes "= *") (Word (codes "=")) (codes " *") refl (refl, refl, refl)
+    (wrong_part depth_limit true (codes "1. e4 ") after (codes "= *") (Word (codes "="))
+    (codes " *") refl (refl, refl, refl)
     (λ k. let next = k.goes_on refl in let e = next.1 in cc))
-    (stray_word depth_limit (standing_of true (codes "1. e4 ")) after true 61 (codes " *") 0 refl refl (λ e. refl) (λ e. refl)
+    (stray_word depth_limit (standing_of true (codes "1. e4 ")) after true 61 (codes " *") 0 refl
+    refl (λ e. refl) (λ e. refl)
     (word_longest true (codes "= *")))
 
 -- `1. e4 1/2 *` stops at the blank after the word
@@ -48,16 +60,20 @@ half : IsLongestViablePrefix depth_limit true [] (codes "1. e4 1/2 *") 9
 unfolding front after
 half = row after front (codes "1/2 *") 3 walked
     ((refl, refl, refl), (tt, (refl, ((refl, refl, refl), (refl, tt)))))
-    (wrong_part depth_limit true (codes "1. e4 ") after (codes "1/2 *") (Word (codes "1/2")) (codes " *") refl (refl, refl, refl)
+    (wrong_part depth_limit true (codes "1. e4 ") after (codes "1/2 *") (Word (codes "1/2"))
+    (codes " *") refl (refl, refl, refl)
     (λ k. let next = k.goes_on refl in let e = next.1 in cc))
-    (stray_word depth_limit (standing_of true (codes "1. e4 ")) after true 49 (codes "/2 *") 3 refl refl (λ e. refl) (λ e. refl)
+    (stray_word depth_limit (standing_of true (codes "1. e4 ")) after true 49 (codes "/2 *") 3 refl
+    refl (λ e. refl) (λ e. refl)
     (word_longest true (codes "1/2 *")))
 
 -- `[White "A "B""]` stops at the B
 quotes : IsLongestViablePrefix depth_limit true [] (codes "[White \"A \"B\"\"]") 11
 quotes = row start [] (codes "[White \"A \"B\"\"]") 11 refl tt
-    (λ p rest e h _. let k = sym (stands-read (standing_of true []) p rest h) ∙ ap (part_front (standing_of true [])) (sym e) in cc)
-    (open_tag depth_limit (standing_of true []) start (codes "White \"A \"B\"\"]") (tag_far BeforeName (codes "White \"A \"B\"\"]")) refl
+    (λ p rest e h _. let k = sym (stands-read (standing_of true []) p rest h)
+    ∙ ap (part_front (standing_of true [])) (sym e) in cc)
+    (open_tag depth_limit (standing_of true []) start (codes "White \"A \"B\"\"]")
+    (tag_far BeforeName (codes "White \"A \"B\"\"]")) refl
     (tag_longest BeforeName (codes "White \"A \"B\"\"]")))
 
 -- `1. e4 {oops` stops at its end
@@ -65,5 +81,6 @@ oops : IsLongestViablePrefix depth_limit true [] (codes "1. e4 {oops") 11
 unfolding front after
 oops = row after front (codes "{oops") 5 walked
     ((refl, refl, refl), (tt, (refl, ((refl, refl, refl), (refl, tt)))))
-    (λ p rest e h _. let k = sym (stands-read (standing_of true (codes "1. e4 ")) p rest h) ∙ ap (part_front (standing_of true (codes "1. e4 "))) (sym e) in cc)
+    (λ p rest e h _. let k = sym (stands-read (standing_of true (codes "1. e4 ")) p rest h)
+    ∙ ap (part_front (standing_of true (codes "1. e4 "))) (sym e) in cc)
     (open_brace depth_limit (standing_of true (codes "1. e4 ")) after (codes "oops") refl)

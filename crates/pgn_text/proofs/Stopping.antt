@@ -1,10 +1,17 @@
--- Texts that agree with some game so far: what can be said of them where a reader has come some way.
-use Rattle.std.proofs.Common.{◌≡◌, ◌≢◌, ℕ, zero, suc, ◌-◌, Bool, true, false, List, [], ◌∷◌, ◌++◌, Some, IsTrue, refl, sym, ap, subst, ◌∙◌, inl, inr, arith, append_assoc, append-nil}
+-- Texts that agree with some game so far: what can be said of them where a reader has come some
+-- way.
+use Rattle.std.proofs.Common.{◌≡◌, ◌≢◌, ℕ, zero, suc, ◌-◌, Bool, true, false, List, [], ◌∷◌, ◌++◌}
+use Rattle.std.proofs.Common.{Some, IsTrue, refl, sym, ap, subst, ◌∙◌, inl, inr, arith}
+use Rattle.std.proofs.Common.{append_assoc, append-nil}
 use Rattle.std.specs.List.{list_all}
-use Rattle.std.proofs.lemmas.Bool.{lt-ltb, MatchBool-at_true, MatchBool-at_false, and_from, cases_Bool, not_from_false}
+use Rattle.std.proofs.lemmas.Bool.{lt-ltb, MatchBool-at_true, MatchBool-at_false, and_from}
+use Rattle.std.proofs.lemmas.Bool.{cases_Bool, not_from_false}
 use Rattle.std.proofs.lemmas.List.Folds.{list_all-append}
-use Rattle.pgn_text.specs.Public.Bytes.{is_byte, is_digit, is_word_byte, is_mark, is_not_line_feed, stops}
-use Rattle.pgn_text.specs.Public.Parts.{Part, ByteOrderMark, White, Brace, Line, EscapeLine, Tag, Word, Star, Dot, Glyph, Marks, Open, Close, Standing, standing_of, Stands, AllStand, spelled, spelled_part}
+use Rattle.pgn_text.specs.Public.Bytes.{is_byte, is_digit, is_word_byte, is_mark, is_not_line_feed}
+use Rattle.pgn_text.specs.Public.Bytes.{stops}
+use Rattle.pgn_text.specs.Public.Parts.{Part, ByteOrderMark, White, Brace, Line, EscapeLine, Tag}
+use Rattle.pgn_text.specs.Public.Parts.{Word, Star, Dot, Glyph, Marks, Open, Close, Standing}
+use Rattle.pgn_text.specs.Public.Parts.{standing_of, Stands, AllStand, spelled, spelled_part}
 use Rattle.pgn_text.specs.Public.Games.{is_result}
 use Rattle.pgn_text.specs.Private.Steps.{State, step, Leads}
 use Rattle.pgn_text.specs.Public.Stops.{IsLongestViablePrefix}
@@ -17,7 +24,8 @@ use Rattle.pgn_text.proofs.Lines.{cut_append}
 -- ---- laws
 
 -- a text stops at one place
-pub one_stop : (max_depth : ℕ) (f : Bool) (before text : List ℕ) (a b : ℕ) → IsLongestViablePrefix max_depth f before text a
+pub one_stop : (max_depth : ℕ) (f : Bool) (before text : List ℕ) (a b : ℕ)
+    → IsLongestViablePrefix max_depth f before text a
     → IsLongestViablePrefix max_depth f before text b → a ≡ b
 one_stop max_depth f before text a b h k =
     omega (arith, h.furthest b k.within k.agrees, k.furthest a h.within h.agrees)
@@ -41,7 +49,8 @@ instead_front : (x a b : List ℕ) → Instead a b → Instead (x ++ a) (x ++ b)
 instead_front [] a b i = i
 instead_front (c ∷ x) a b i = instead_same c (x ++ a) (x ++ b)
 
-stands_instead : (place : Standing) (p : Part) (a b : List ℕ) → Instead a b → Stands place p a → Stands place p b
+stands_instead : (place : Standing) (p : Part) (a b : List ℕ) → Instead a b → Stands place p a
+    → Stands place p b
 stands_instead place ByteOrderMark a b i h = h
 stands_instead place (White c) a b i h = h
 stands_instead place (Brace text) a b i h = h
@@ -52,7 +61,8 @@ stands_instead place (Tag first name second contents third) a b i h = h
 stands_instead place (Word text) a b i (some, words, ends) = (some, words, i is_word_byte refl ends)
 stands_instead place Star a b i h = h
 stands_instead place Dot a b i h = h
-stands_instead place (Glyph digits) a b i (some, all, few, small, ends) = (some, all, few, small, i is_digit refl ends)
+stands_instead place (Glyph digits) a b i (some, all, few, small, ends) =
+    (some, all, few, small, i is_digit refl ends)
 stands_instead place (Marks marks) a b i (some, all, ends) = (some, all, i is_mark refl ends)
 stands_instead place Open a b i h = h
 stands_instead place Close a b i h = h
@@ -61,13 +71,15 @@ pub all_instead : (f : Bool) (before : List ℕ) (done : List Part) (a b : List 
     → AllStand f before done a → AllStand f before done b
 all_instead f before [] a b i h = tt
 all_instead f before (p ∷ back) a b i h = (
-  stands_instead (standing_of f before) p (spelled back ++ a) (spelled back ++ b) (instead_front (spelled back) a b i) h.0,
+  stands_instead (standing_of f before) p (spelled back ++ a) (spelled back
+      ++ b) (instead_front (spelled back) a b i) h.0,
   all_instead f (before ++ spelled_part p) back a b i h.1,
 )
 
 -- ---- parts that lead on
 
-pub walks_more : (max_depth : ℕ) (s t u : State) (done : List Part) (p : Part) → Walks max_depth s done t
+pub walks_more : (max_depth : ℕ) (s t u : State) (done : List Part) (p : Part)
+    → Walks max_depth s done t
     → is_result p ≡ false → step max_depth t p ≡ Some u → Walks max_depth s (done ++ p ∷ []) u
 walks_more max_depth s t u [] p w r e = (r, (u, ap (λ v. step max_depth v p) w ∙ e, refl))
 walks_more max_depth s t u (q ∷ done) p w r e =
@@ -96,11 +108,13 @@ closes_lead max_depth s zero e = (e, refl)
 closes_lead max_depth s (suc d) e = (
   record { in_tags = false; depth = s.depth - 1; has_move = true },
   rw (lt-ltb 0 s.depth (omega (arith, e))) refl,
-  closes_lead max_depth (record { in_tags = false; depth = s.depth - 1; has_move = true }) d (omega (arith, e)),
+  closes_lead max_depth (record { in_tags = false; depth = s.depth - 1; has_move = true }) d
+      (omega (arith, e)),
 )
 
 module _ (max_depth : ℕ) (f : Bool) where
-  -- from each state a line feed, the ends of the open variations and an asterisk lead to the end of a game
+  -- from each state a line feed, the ends of the open variations and an asterisk lead to the end of
+  -- a game
   pub closing : (before : List ℕ) (s : State) → (text : List ℕ) × (parts : List Part)
       × Reads max_depth f before (10 ∷ text) s parts [] × IsTrue (list_all is_byte text)
   closing before s = (
@@ -126,24 +140,29 @@ module _ (max_depth : ℕ) (f : Bool) where
   abbrev pub ByteFront : List ℕ → State → List ℕ → Type 0
   ByteFront before s front = (k : Front before s front) × IsTrue (list_all is_byte k.more)
 
-  pub walk_reads : (before : List ℕ) (s t : State) (done : List Part) (rest : List ℕ) (parts : List Part) (after : List ℕ)
+  pub walk_reads : (before : List ℕ) (s t : State) (done : List Part) (rest : List ℕ)
+      (parts : List Part) (after : List ℕ)
       → Walks max_depth s done t → AllStand f before done rest
       → Reads max_depth f (before ++ spelled done) rest t parts after
       → Reads max_depth f before (spelled done ++ rest) s (done ++ parts) after
   walk_reads before s t [] rest parts after w h r = rw (w, ← (append-nil before)) r
   walk_reads before s t (p ∷ back) rest parts after w h r =
-      reads_more max_depth f before (spelled (p ∷ back) ++ rest) s w.1.0 p (spelled back ++ rest) (back ++ parts) after
+      reads_more max_depth f before (spelled (p ∷ back) ++ rest) s w.1.0 p (spelled back
+      ++ rest) (back ++ parts) after
       (append_assoc (spelled_part p) (spelled back) rest) h.0 w.0 w.1.1
       (walk_reads (before ++ spelled_part p) w.1.0 t back rest parts after w.1.2 h.1
       (rw (← (append_assoc before (spelled_part p) (spelled back))) at r))
 
-  read_walks : (before : List ℕ) (s t : State) (done : List Part) (rest : List ℕ) (parts : List Part) (after : List ℕ)
+  read_walks : (before : List ℕ) (s t : State) (done : List Part) (rest : List ℕ)
+      (parts : List Part) (after : List ℕ)
       → Walks max_depth s done t → AllStand f before done rest
       → Reads max_depth f before (spelled done ++ rest) s parts after
       → (more : List Part) × Reads max_depth f (before ++ spelled done) rest t more after
   read_walks before s t [] rest parts after w h r = (parts, rw (← w, append-nil before) r)
   read_walks before s t (p ∷ back) rest parts after w h r =
-      let first = reads_first max_depth f before (spelled (p ∷ back) ++ rest) s p (spelled back ++ rest) parts after
+      let first =
+      reads_first max_depth f before (spelled (p ∷ back) ++ rest) s p (spelled back
+      ++ rest) parts after
       (append_assoc (spelled_part p) (spelled back) rest) h.0 r in
       let next = first.goes_on w.0 in
       let same : next.0 ≡ w.1.0 = let e = w.1.1 in let g = next.1 in cc in
@@ -173,9 +192,11 @@ module _ (max_depth : ℕ) (f : Bool) where
     record {
       more = k.more;
       parts = done ++ k.parts;
-      reads = subst (λ l. Reads max_depth f before l s (done ++ k.parts) []) (sym (append_assoc (spelled done) (c ∷ x) k.more))
+      reads = subst (λ l. Reads max_depth f before l s (done ++ k.parts) [])
+          (sym (append_assoc (spelled done) (c ∷ x) k.more))
           (walk_reads before s t done ((c ∷ x) ++ k.more) k.parts [] w
-          (all_instead f before done (c ∷ rest) ((c ∷ x) ++ k.more) (instead_same c rest (x ++ k.more)) h) k.reads);
+          (all_instead f before done (c ∷ rest) ((c ∷ x)
+          ++ k.more) (instead_same c rest (x ++ k.more)) h) k.reads);
     },
     bytes,
   )
@@ -185,20 +206,24 @@ module _ (max_depth : ℕ) (f : Bool) where
       → Front before s (spelled done ++ c ∷ x) → Front (before ++ spelled done) t (c ∷ x)
   front_on before s t done c x rest w h k =
       let found = read_walks before s t done ((c ∷ x) ++ k.more) k.parts [] w
-      (all_instead f before done (c ∷ rest) ((c ∷ x) ++ k.more) (instead_same c rest (x ++ k.more)) h)
-      (subst (λ l. Reads max_depth f before l s k.parts []) (append_assoc (spelled done) (c ∷ x) k.more) k.reads) in
+      (all_instead f before done (c ∷ rest) ((c ∷ x)
+      ++ k.more) (instead_same c rest (x ++ k.more)) h)
+      (subst (λ l. Reads max_depth f before l s k.parts [])
+      (append_assoc (spelled done) (c ∷ x) k.more) k.reads) in
       record { more = k.more; parts = found.0; reads = found.1 }
 
   -- ---- within a part
 
-  follows_first : (s : State) (p : Part) (back : List Part) → Leads max_depth s (p ∷ back) → Follows max_depth s p
+  follows_first : (s : State) (p : Part) (back : List Part) → Leads max_depth s (p ∷ back)
+      → Follows max_depth s p
   follows_first s p back l = record {
     ends = λ r. (MatchBool-at_true _ _ r l).0;
     goes_on = λ r. let n = MatchBool-at_false _ _ r l in (n.0, n.1);
   }
 
   -- the front of a part that may follow is the front of a reading
-  pub part_front_goes : (before : List ℕ) (s : State) (x : List ℕ) → IsPartFront max_depth (standing_of f before) s x → ByteFront before s x
+  pub part_front_goes : (before : List ℕ) (s : State) (x : List ℕ)
+      → IsPartFront max_depth (standing_of f before) s x → ByteFront before s x
   part_front_goes before s x any = goes (part_bytes max_depth (standing_of f before) s x any)
     where
       goes : InBytes max_depth (standing_of f before) s x → ByteFront before s x
@@ -207,7 +232,8 @@ module _ (max_depth : ℕ) (f : Bool) where
           record {
             more = k.more;
             parts = k.part ∷ [];
-            reads = reads_end max_depth f before (x ++ k.more) s k.part [] (sym k.spelt ∙ sym (append-nil (spelled_part k.part)))
+            reads = reads_end max_depth f before (x ++ k.more) s k.part [] (sym k.spelt
+                ∙ sym (append-nil (spelled_part k.part)))
                 k.stands r (k.follows.ends r);
           },
           bytes,
@@ -218,21 +244,27 @@ module _ (max_depth : ℕ) (f : Bool) where
               record {
                 more = k.more ++ 10 ∷ end.0;
                 parts = k.part ∷ end.1;
-                reads = reads_more max_depth f before (x ++ (k.more ++ 10 ∷ end.0)) s next.0 k.part (10 ∷ end.0) end.1 []
-                    (sym (append_assoc x k.more (10 ∷ end.0)) ∙ ap (λ l. l ++ 10 ∷ end.0) (sym k.spelt))
-                    (stands_instead (standing_of f before) k.part [] (10 ∷ end.0) (instead_line_feed [] end.0) k.stands)
+                reads = reads_more max_depth f before (x
+                    ++ (k.more ++ 10 ∷ end.0)) s next.0 k.part (10 ∷ end.0) end.1 []
+                    (sym (append_assoc x k.more (10 ∷ end.0))
+                    ∙ ap (λ l. l ++ 10 ∷ end.0) (sym k.spelt))
+                    (stands_instead (standing_of f before) k.part [] (10
+                    ∷ end.0) (instead_line_feed [] end.0) k.stands)
                     r next.1 end.2;
               },
-              list_all-append is_byte k.more (10 ∷ end.0) ∙ and_from (list_all is_byte k.more) (list_all is_byte end.0) bytes end.3,
+              list_all-append is_byte k.more (10 ∷ end.0)
+                  ∙ and_from (list_all is_byte k.more) (list_all is_byte end.0) bytes end.3,
             )
       ]
 
   -- where no part may follow, the front of a reading is the front of a part
   pub front_in_part : (before : List ℕ) (s : State) (x after : List ℕ) → x ≢ []
-      → NoneFollows max_depth (standing_of f before) s (x ++ after) → Front before s x → IsPartFront max_depth (standing_of f before) s x
+      → NoneFollows max_depth (standing_of f before) s (x ++ after) → Front before s x
+      → IsPartFront max_depth (standing_of f before) s x
   front_in_part before s x after some none k = first k.parts k.reads
     where
-      first : (parts : List Part) → Reads max_depth f before (x ++ k.more) s parts [] → IsPartFront max_depth (standing_of f before) s x
+      first : (parts : List Part) → Reads max_depth f before (x ++ k.more) s parts []
+          → IsPartFront max_depth (standing_of f before) s x
       first [] r = absurd r.leads
       first (p ∷ back) r =
           elim (cut_append x k.more (spelled_part p) (spelled back ++ [])
@@ -242,23 +274,28 @@ module _ (max_depth : ℕ) (f : Bool) where
               part = p;
               more = t.0;
               spelt = t.1;
-              stands = stands_instead (standing_of f before) p (spelled back ++ []) [] (instead_nothing _) r.stand.0;
+              stands = stands_instead (standing_of f before) p (spelled back
+                  ++ []) [] (instead_nothing _) r.stand.0;
               follows = follows_first s p back r.leads;
             }
           ]
         where
-          past : (p : Part) (back : List Part) → Reads max_depth f before (x ++ k.more) s (p ∷ back) [] → (m : List ℕ)
-              → x ≡ spelled_part p ++ m → spelled back ++ [] ≡ m ++ k.more → IsPartFront max_depth (standing_of f before) s x
+          past : (p : Part) (back : List Part)
+              → Reads max_depth f before (x ++ k.more) s (p ∷ back) [] → (m : List ℕ)
+              → x ≡ spelled_part p ++ m → spelled back ++ [] ≡ m ++ k.more
+              → IsPartFront max_depth (standing_of f before) s x
           past p back r [] e g = record {
             part = p;
             more = [];
             spelt = sym (append-nil (spelled_part p)) ∙ sym e ∙ sym (append-nil x);
-            stands = stands_instead (standing_of f before) p (spelled back ++ []) [] (instead_nothing _) r.stand.0;
+            stands = stands_instead (standing_of f before) p (spelled back
+                ++ []) [] (instead_nothing _) r.stand.0;
             follows = follows_first s p back r.leads;
           }
           past p back r (c ∷ m) e g =
               absurd (none p ((c ∷ m) ++ after)
               (ap (λ l. l ++ after) e ∙ append_assoc (spelled_part p) (c ∷ m) after)
-              (stands_instead (standing_of f before) p ((c ∷ m) ++ k.more) ((c ∷ m) ++ after) (instead_same c (m ++ k.more) (m ++ after))
+              (stands_instead (standing_of f before) p ((c ∷ m) ++ k.more) ((c ∷ m)
+              ++ after) (instead_same c (m ++ k.more) (m ++ after))
               (subst (λ l. Stands (standing_of f before) p l) g r.stand.0))
               (follows_first s p back r.leads))

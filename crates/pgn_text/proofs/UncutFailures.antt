@@ -1,5 +1,6 @@
 -- A failed read and the largest offset end no block that is held whole.
-use Rattle.std.proofs.Common.{◌≢◌, ℕ, List, [], ◌++◌, sym, subst, append_assoc, append-nil, inl, inr, IsTrue}
+use Rattle.std.proofs.Common.{◌≢◌, ℕ, List, [], ◌++◌, sym, subst, append_assoc, append-nil, inl}
+use Rattle.std.proofs.Common.{inr, IsTrue}
 use Rattle.std.proofs.lemmas.Bool.{and_parts, false≢true}
 use Rattle.pgn_text.specs.Public.Bytes.{ends_in_line_feed}
 use Rattle.pgn_text.specs.Public.Blocks.{is_event_line, IsFirstBlock}
@@ -13,19 +14,26 @@ use Rattle.pgn_text.proofs.OneList.{no_bytes}
 -- before the place of an event line stand bytes
 line_follows_byte : (before after : List ℕ) → IsTrue (is_event_line before after) → before ≢ []
 line_follows_byte before after line none =
-    false≢true (subst (λ l. IsTrue (ends_in_line_feed l)) none (and_parts (ends_in_line_feed before) (begins_line after) line).0)
+    false≢true
+    (subst (λ l. IsTrue (ends_in_line_feed l)) none
+    (and_parts (ends_in_line_feed before) (begins_line after) line).0)
 
 -- bytes with an event line among them are no single block
-line_cuts : (block ahead more : List ℕ) → IsTrue (is_event_line block ahead) → IsFirstBlock ((block ++ ahead) ++ more) [] → ⊥
+line_cuts : (block ahead more : List ℕ) → IsTrue (is_event_line block ahead)
+    → IsFirstBlock ((block ++ ahead) ++ more) [] → ⊥
 line_cuts block ahead more line first =
-    first.whole block (ahead ++ more) (append_assoc block ahead more) (line_follows_byte block ahead line)
+    first.whole block (ahead ++ more) (append_assoc block ahead more)
+    (line_follows_byte block ahead line)
     (λ none. line_has_byte block ahead line (no_bytes ahead more none))
-    (subst (λ l. IsTrue (is_event_line block l)) (sym (append-nil (ahead ++ more))) (event_front block ahead more line))
+    (subst (λ l. IsTrue (is_event_line block l)) (sym (append-nil (ahead ++ more)))
+    (event_front block ahead more line))
 
 pub fails_before_no_event_line : FailsBeforeNoEventLine
 fails_before_no_event_line place block ahead read error line (inl e) h =
-    let short : IsCutShort place ((block ++ ahead) ++ read) = subst (FailsAfter place (block ++ ahead) read) e h in
+    let short : IsCutShort place ((block ++ ahead) ++ read) =
+    subst (FailsAfter place (block ++ ahead) read) e h in
     line_cuts block ahead read line short.uncut
 fails_before_no_event_line place block ahead read error line (inr e) h =
-    let past : IsPastEnd place (block ++ ahead) read = subst (FailsAfter place (block ++ ahead) read) e h in
+    let past : IsPastEnd place (block ++ ahead) read =
+    subst (FailsAfter place (block ++ ahead) read) e h in
     line_cuts block ahead past.kept line past.uncut

@@ -1,4 +1,5 @@
--- Definitions: those that a reader must believe, what proofs of other crates may cite, and private words.
+-- Definitions: those that a reader must believe, what proofs of other crates may cite, and private
+-- words.
 pub mod Public
 pub mod Shared
 pub mod Private

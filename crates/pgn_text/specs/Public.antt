@@ -1,4 +1,5 @@
--- What a reader must believe: the standard's rules, and what contracts say of values. In the order in which they are best read.
+-- What a reader must believe: the standard's rules, and what contracts say of values. In the order
+-- in which they are best read.
 pub mod Limits
 pub mod Bytes
 pub mod Strings

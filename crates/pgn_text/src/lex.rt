@@ -1,4 +1,5 @@
-//! The parts of a text: classes of bytes, parts as tokens and by their places, tags and their strings.
+//! The parts of a text: classes of bytes, parts as tokens and by their places, tags and their
+//! strings.
 
 pub(crate) mod class;
 pub(crate) mod movetext;

@@ -1,6 +1,8 @@
-//! Texts in memory: what the calls of this crate say where all bytes are known. Each function is an example of one call.
+//! Texts in memory: what the calls of this crate say where all bytes are known. Each function is an
+//! example of one call.
 
-ghost use Rattle.std.specs.Prelude.{◌≡◌, ◌≤◌, ℕ, List, [], ◌∷◌, ◌++◌, length, take, map, IfOk, MatchResult, MatchOption};
+ghost use Rattle.std.specs.Prelude.{◌≡◌, ◌≤◌, ℕ, List, [], ◌∷◌, ◌++◌, length, take, map, IfOk};
+ghost use Rattle.std.specs.Prelude.{MatchResult, MatchOption};
 ghost use Rattle.pgn_text.specs.Public.Blocks.{AreBlocks};
 ghost use Rattle.pgn_text.specs.Public.Left.{IsPiece};
 ghost use Rattle.pgn_text.specs.Public.LeftMarks.{IsMark};
@@ -28,7 +30,8 @@ fn size_of(body: Body<'_>) -> u64
 
 /// How many bytes each block of the text has.
 pub fn block_sizes(alloc: Global, text: &[u8]) -> Result<Vec<u64>, ReadError>
-    ensures { IfOk result (λ sizes. (blocks : List (List ℕ)) × AreBlocks blocks text.now × (sizes.items ≡ map length blocks)) }
+    ensures { IfOk result (λ sizes. (blocks : List (List ℕ)) × AreBlocks blocks text.now
+        × (sizes.items ≡ map length blocks)) }
 {
     let mut input = Tally::new(text);
     let mut blocks = Blocks::new(alloc, 0);
@@ -60,7 +63,8 @@ pub fn read_front(input: &mut Tally<&[u8]>, buf: &mut [u8]) -> io::Result<usize>
 /// Passes over bytes at the front of those that are left.
 pub fn skip_front(input: &mut Tally<&[u8]>, most: u64) -> io::Result<u64>
     ensures passed { MatchResult result
-        (λ count. (front : List ℕ) × (input.old.inner.now ≡ front ++ input.new.inner.now) × (length front ≡ count))
+        (λ count. (front : List ℕ) × (input.old.inner.now ≡ front ++ input.new.inner.now)
+        × (length front ≡ count))
         (λ error. input.new.inner.now ≡ input.old.inner.now) }
     ensures bound { IfOk result (λ count. count ≤ most) }
 {
@@ -89,7 +93,8 @@ pub fn first_piece<'a>(
     block: &'a [u8],
     file_start: bool,
 ) -> Result<Option<Piece<'a>>, AllocError>
-    ensures { IfOk result (λ first. (pieces : List spec.Piece) × ArePieces depth_limit file_start [] pieces block.now
+    ensures { IfOk result (λ first. (pieces : List spec.Piece)
+        × ArePieces depth_limit file_start [] pieces block.now
         × MatchOption first (pieces ≡ []) (λ piece. (shown : spec.Piece) × (more : List spec.Piece)
         × (pieces ≡ shown ∷ more) × IsPiece piece shown)) }
 {

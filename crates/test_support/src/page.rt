@@ -8,7 +8,8 @@ use std::io::{ErrorKind, Write};
 /// How many bytes a `Page` can hold.
 const PAGE: usize = 8192;
 
-/// A writer over a fixed array that takes at most `piece` bytes a call, and fails once it holds `room` bytes, by an error or by taking nothing, or at a flush.
+/// A writer over a fixed array that takes at most `piece` bytes a call, and fails once it holds
+/// `room` bytes, by an error or by taking nothing, or at a flush.
 #[derive(Drop)]
 pub struct Page {
     bytes: [u8; 8192],

@@ -4,7 +4,8 @@ use pgn_text::Skip;
 use std::io;
 use std::io::{ErrorKind, Read};
 
-/// A reader over a text that gives at most `piece` bytes a call, and fails once it has given `sound` bytes. It passes over at most `passes` bytes a skip, or fails at it.
+/// A reader over a text that gives at most `piece` bytes a call, and fails once it has given
+/// `sound` bytes. It passes over at most `passes` bytes a skip, or fails at it.
 #[derive(Drop)]
 pub struct Pieces<'a> {
     text: &'a [u8],

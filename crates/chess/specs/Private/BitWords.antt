@@ -1,11 +1,15 @@
 -- Words of 64 bits as squares of the board, and twelve of them as a board.
-use Rattle.std.specs.Prelude.{◌≡◌, ◌↔◌, ◌⊎◌, ◌<◌, ◌+◌, ◌*◌, ◌/◌, ◌%◌, ◌^◌, ◌||◌, ◌&&◌, ◌==◌, ltb, ℕ, zero, suc, Bool, true, false, not, if◌then◌else◌, List, get_or, Option, Some, None, bit_or, bit_xor, bit_and}
+use Rattle.std.specs.Prelude.{◌≡◌, ◌↔◌, ◌⊎◌, ◌<◌, ◌+◌, ◌*◌, ◌/◌, ◌%◌, ◌^◌, ◌||◌, ◌&&◌, ◌==◌, ltb, ℕ}
+use Rattle.std.specs.Prelude.{zero, suc, Bool, true, false, not, if◌then◌else◌, List, get_or}
+use Rattle.std.specs.Prelude.{Option, Some, None, bit_or, bit_xor, bit_and}
 use Rattle.chess.specs.Public.Squares.{Place, IsOnBoard, IsStraight, IsAhead, index_of}
 use Rattle.chess.specs.Public.Placements.{Placement, man_at, men_of, AreOnBoard}
 use Rattle.chess.specs.Public.Attacks.{IsOnRay, Reaches}
 use Rattle.chess.specs.Shared.SetWords.{has_bit}
 use Rattle.chess.specs.declared.board.direction.Direction.{Direction}
-use Rattle.chess.specs.declared.board.direction.Direction.TheVariants.{North, South, East, West, NorthEast, NorthWest, SouthEast, SouthWest}
+use Rattle.chess.specs.declared.board.direction.Direction.TheVariants.{North, South, East, West}
+use Rattle.chess.specs.declared.board.direction.Direction.TheVariants.{NorthEast, NorthWest}
+use Rattle.chess.specs.declared.board.direction.Direction.TheVariants.{SouthEast, SouthWest}
 use Rattle.chess.specs.declared.board.man.Man.{Man}
 use Rattle.chess.specs.declared.board.man.Side.{Side}
 use Rattle.chess.specs.declared.board.man.Side.TheVariants.{White, Black}
@@ -49,7 +53,8 @@ side_of_row n = if ltb n 6 then White else Black
 
 abbrev pub kind_of_number : ℕ → Kind
 kind_of_number n =
-    if n == 0 then King else if n == 1 then Queen else if n == 2 then Rook else if n == 3 then Bishop else if n == 4 then Knight else Pawn
+    if n == 0 then King else if n == 1 then Queen else if n == 2 then Rook else if n == 3
+    then Bishop else if n == 4 then Knight else Pawn
 
 -- the man of the nth word
 abbrev pub man_of_row : ℕ → Man
@@ -60,12 +65,14 @@ word_at words n = get_or words n 0
 
 -- no square has two men
 abbrev pub AreApart : List ℕ → Type 0
-AreApart words = (j k i : ℕ) → j < 12 → k < 12 → i < 64 → has_bit (word_at words j) i ≡ true → has_bit (word_at words k) i ≡ true → j ≡ k
+AreApart words = (j k i : ℕ) → j < 12 → k < 12 → i < 64 → has_bit (word_at words j) i ≡ true
+    → has_bit (word_at words k) i ≡ true → j ≡ k
 
 -- the man whose word, of the first n, has the square
 unfoldable pub man_below : List ℕ → ℕ → ℕ → Option Man
 man_below words zero i = None
-man_below words (suc n) i = if has_bit (word_at words n) i then Some (man_of_row n) else man_below words n i
+man_below words (suc n) i = if has_bit (word_at words n) i then Some (man_of_row n)
+    else man_below words n i
 
 abbrev pub man_in : List ℕ → ℕ → Option Man
 man_in words i = man_below words 12 i
@@ -74,17 +81,22 @@ man_in words i = man_below words 12 i
 abbrev pub words_men : List ℕ → Placement
 words_men words = men_of (man_in words)
 
--- the squares of a word are taken from each of the twelve, or one square is set in one of them, and all else is as it was
+-- the squares of a word are taken from each of the twelve, or one square is set in one of them, and
+-- all else is as it was
 abbrev pub IsCleared : List ℕ → List ℕ → ℕ → Type 0
-IsCleared old new squares = (k i : ℕ) → k < 12 → i < 64 → has_bit (word_at new k) i ≡ (has_bit (word_at old k) i && not (has_bit squares i))
+IsCleared old new squares = (k i : ℕ) → k < 12 → i < 64
+    → has_bit (word_at new k) i ≡ (has_bit (word_at old k) i && not (has_bit squares i))
 
 abbrev pub IsBitSet : List ℕ → List ℕ → ℕ → ℕ → Type 0
-IsBitSet old new row at = (k i : ℕ) → k < 12 → i < 64 → has_bit (word_at new k) i ≡ ((k == row && i == at) || has_bit (word_at old k) i)
+IsBitSet old new row at = (k i : ℕ) → k < 12 → i < 64
+    → has_bit (word_at new k) i ≡ ((k == row && i == at) || has_bit (word_at old k) i)
 
 -- two squares of one of them are turned over, and all else is as it was
 abbrev pub IsSlid : List ℕ → List ℕ → ℕ → ℕ → ℕ → Type 0
 IsSlid old new row from to = (k i : ℕ) → k < 12 → i < 64
-    → has_bit (word_at new k) i ≡ (if k == row && (i == from || i == to) then not (has_bit (word_at old k) i) else has_bit (word_at old k) i)
+    → has_bit (word_at new k) i
+    ≡ (if k == row && (i == from || i == to) then not (has_bit (word_at old k) i)
+    else has_bit (word_at old k) i)
 
 -- it is the man's word, if there is one
 abbrev pub is_row : Option Man → ℕ → Bool
@@ -95,7 +107,8 @@ is_row (Some man) k = k == row_of man
 abbrev pub IsMan : Placement → Side → Kind → Place → Type 0
 IsMan p side other s = man_at p s ≡ Some (record { side = side; kind = other })
 
--- of the side's men those on the squares of a word are left, each where it stood, and no other man of the side is there
+-- of the side's men those on the squares of a word are left, each where it stood, and no other man
+-- of the side is there
 pub record AreLeft (old new : Placement) (side : Side) (left : ℕ) : Type 0 where
   pub on_board : AreOnBoard new
   pub same : (other : Kind) (s : Place) → IsOnBoard s
@@ -143,11 +156,13 @@ abbrev pub upright_word : ℕ → ℕ
 upright_word w = bit_or (step_word North w) (step_word South w)
 
 abbrev pub near_word : ℕ → ℕ
-near_word w = bit_xor (bit_or (bit_or w (beside_word w)) (upright_word (bit_or w (beside_word w)))) w
+near_word w =
+    bit_xor (bit_or (bit_or w (beside_word w)) (upright_word (bit_or w (beside_word w)))) w
 
 abbrev pub jumps_word : ℕ → ℕ
 jumps_word w =
-    bit_or (beside_word (bit_or (two_steps_word North w) (two_steps_word South w))) (upright_word (bit_or (two_steps_word East w) (two_steps_word West w)))
+    bit_or (beside_word (bit_or (two_steps_word North w) (two_steps_word South w)))
+    (upright_word (bit_or (two_steps_word East w) (two_steps_word West w)))
 
 abbrev pub forward_way : Side → Direction
 forward_way White = North
@@ -165,7 +180,8 @@ IsDiagonalRun p s t = (way : Direction) × (¬ IsStraight way) × IsOnRay p way 
 
 -- the two words have a square in common
 abbrev pub DoMeet : ℕ → ℕ → Type 0
-DoMeet a b = (s : Place) × IsOnBoard s × (has_bit a (index_of s) ≡ true) × (has_bit b (index_of s) ≡ true)
+DoMeet a b = (s : Place) × IsOnBoard s × (has_bit a (index_of s) ≡ true)
+    × (has_bit b (index_of s) ≡ true)
 
 -- a man of the side and kind attacks t
 abbrev pub IsHitBy : Placement → Side → Kind → Place → Type 0

@@ -1,5 +1,6 @@
 -- The text of a rank as the program writes it, square by square.
-use Rattle.std.specs.Prelude.{◌≡◌, ℕ, zero, suc, ◌+◌, ltb, Bool, List, [], ◌∷◌, ◌++◌, get_or, Option, Some, None, if◌then◌else◌}
+use Rattle.std.specs.Prelude.{◌≡◌, ℕ, zero, suc, ◌+◌, ltb, Bool, List, [], ◌∷◌, ◌++◌, get_or}
+use Rattle.std.specs.Prelude.{Option, Some, None, if◌then◌else◌}
 use Rattle.chess.specs.Public.Squares.{Place, IsOnBoard, index_of}
 use Rattle.chess.specs.Public.Placements.{Placement, man_at}
 use Rattle.chess.specs.Public.Letters.{man_letter}
@@ -21,7 +22,8 @@ spelled_from n (Some man ∷ squares) = digit_of n ++ man_letter man ∷ spelled
 -- so many squares of a rank, from that file on
 abbrev pub squares_from : Placement → ℕ → ℕ → ℕ → List (Option Man)
 squares_from p rank file zero = []
-squares_from p rank file (suc n) = man_at p (record { file = file; rank = rank }) ∷ squares_from p rank (file + 1) n
+squares_from p rank file (suc n) = man_at p (record { file = file; rank = rank })
+    ∷ squares_from p rank (file + 1) n
 
 -- the text of a rank, and the texts of the ranks from that one down
 abbrev pub rank_text : Placement → ℕ → List ℕ
@@ -31,7 +33,8 @@ abbrev pub rank_texts : Placement → ℕ → List (List ℕ)
 rank_texts p zero = []
 rank_texts p (suc n) = rank_text p (suc n) ∷ rank_texts p n
 
--- the letter of the man on a square, or 0; and the letter for the square in a table in the order a1, b1 to h1, a2 and so on
+-- the letter of the man on a square, or 0; and the letter for the square in a table in the order
+-- a1, b1 to h1, a2 and so on
 abbrev pub letter_on : Option Man → ℕ
 letter_on None = 0
 letter_on (Some man) = man_letter man
@@ -49,7 +52,8 @@ letter_below n None = 0
 letter_below n (Some man) = if ltb (row_of man) n then man_letter man else 0
 
 abbrev pub AreLettersBelow : Placement → List ℕ → ℕ → Type 0
-AreLettersBelow p letters n = (s : Place) → IsOnBoard s → letter_at letters s ≡ letter_below n (man_at p s)
+AreLettersBelow p letters n = (s : Place) → IsOnBoard s
+    → letter_at letters s ≡ letter_below n (man_at p s)
 
 -- texts with a separator before each
 abbrev pub each_after : ℕ → List (List ℕ) → List ℕ

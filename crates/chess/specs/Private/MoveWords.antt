@@ -4,7 +4,8 @@ use Rattle.chess.specs.Public.Squares.{Place, IsOnBoard}
 use Rattle.chess.specs.Public.Placements.{man_at, IsEmpty}
 use Rattle.chess.specs.Public.Attacks.{Reaches, IsForward}
 use Rattle.chess.specs.Public.Positions.{State, home_rank, pawn_rank, king_to}
-use Rattle.chess.specs.Public.Moves.{IsSingleStep, IsDoubleStep, IsPawnCapture, IsBetween, CanGo, IsLegal, IsPromotion}
+use Rattle.chess.specs.Public.Moves.{IsSingleStep, IsDoubleStep, IsPawnCapture, IsBetween, CanGo}
+use Rattle.chess.specs.Public.Moves.{IsLegal, IsPromotion}
 use Rattle.chess.specs.Public.Sets.{Places, is_in}
 use Rattle.chess.specs.declared.board.man.Side.{Side}
 use Rattle.chess.specs.declared.board.man.Kind.{Kind}
@@ -33,22 +34,28 @@ IsOpen P wing = (s : Place) → s.rank ≡ home_rank P.turn → IsBetween wing s
 
 -- a man that is neither king nor pawn goes to a square that it attacks
 abbrev pub IsPlainMove : State → Move → Kind → Type 0
-IsPlainMove P m kind = (m.castle ≡ None) × (m.promote ≡ None) × Reaches P.men P.turn kind m.from m.to
+IsPlainMove P m kind = (m.castle ≡ None) × (m.promote ≡ None)
+    × Reaches P.men P.turn kind m.from m.to
 
 -- the square straight ahead of a pawn of the side, if it is on the board
 abbrev pub IsSquareAhead : Side → Place → Option Place → Type 0
-IsSquareAhead side s next = MatchOption next ((t : Place) → IsOnBoard t → t.file ≡ s.file → IsForward side s.rank t.rank → ⊥)
+IsSquareAhead side s next =
+    MatchOption next ((t : Place) → IsOnBoard t → t.file ≡ s.file → IsForward side s.rank t.rank
+    → ⊥)
     (λ t. IsOnBoard t × (t.file ≡ s.file) × IsForward side s.rank t.rank)
 
--- a legal move without promotion and castling goes from s to t; one that promotes does; castling does
+-- a legal move without promotion and castling goes from s to t; one that promotes does; castling
+-- does
 abbrev pub CanGoPlainly : State → Place → Place → Type 0
 CanGoPlainly P s t = IsLegal P (record { from = s; to = t; promote = None; castle = None })
 
 abbrev pub CanPromote : State → Place → Place → Type 0
-CanPromote P s t = (promote : Option Kind) × IsPromotion promote × IsLegal P (record { from = s; to = t; promote = promote; castle = None })
+CanPromote P s t = (promote : Option Kind) × IsPromotion promote
+    × IsLegal P (record { from = s; to = t; promote = promote; castle = None })
 
 abbrev pub CanCastle : State → Place → Place → Type 0
-CanCastle P s t = (wing : Wing) × IsLegal P (record { from = s; to = t; promote = None; castle = Some wing })
+CanCastle P s t = (wing : Wing)
+    × IsLegal P (record { from = s; to = t; promote = None; castle = Some wing })
 
 -- some legal move leaves the square; some legal move of a man of that kind there is
 abbrev pub CanLeave : State → Place → Type 0
@@ -73,7 +80,9 @@ pub record IsSifted (fact : Place → Type 0) (left found : Places) : Type 0 whe
 
 -- where a pawn may go: a square that it attacks, one ahead or two
 abbrev pub IsPawnGoal : State → Place → Place → Type 0
-IsPawnGoal P s t = (t.file ≡ s.file) × (IsForward P.turn s.rank t.rank ⊎ ((n : ℕ) × IsForward P.turn s.rank n × IsForward P.turn n t.rank))
+IsPawnGoal P s t = (t.file ≡ s.file)
+    × (IsForward P.turn s.rank t.rank
+    ⊎ ((n : ℕ) × IsForward P.turn s.rank n × IsForward P.turn n t.rank))
 
 -- where a king castles to
 abbrev pub IsCastlingGoal : State → Place → Type 0

@@ -24,7 +24,8 @@ IsPseudoAttack side Pawn s t = IsPawnHit side s t
 
 -- u stands on a line from s to t, after s and before t
 abbrev pub StandsBetween : Place → Place → Place → Type 0
-StandsBetween s t u = (way : Direction) × (k : ℕ) × (j : ℕ) × IsAhead way k s t × IsAhead way j s u × (1 ≤ j) × (j < k)
+StandsBetween s t u = (way : Direction) × (k : ℕ) × (j : ℕ) × IsAhead way k s t × IsAhead way j s u
+    × (1 ≤ j) × (j < k)
 
 -- no man stands between
 abbrev pub IsUnblocked : Placement → Place → Place → Type 0

@@ -10,7 +10,10 @@ use Rattle.chess.specs.declared.board.man.Kind.{Kind}
 use Rattle.chess.specs.declared.board.man.Kind.TheVariants.{Pawn}
 use Rattle.chess.specs.declared.board.man.Wing.{Wing}
 use Rattle.chess.specs.declared.move_text.refusal.Refusal.{Refusal}
-use Rattle.chess.specs.declared.move_text.refusal.Refusal.TheVariants.{NoMoveText, NoCastling, CastlingAttacked, WrongPromotion, NoneCan, LeavesKingAttacked}
+use Rattle.chess.specs.declared.move_text.refusal.Refusal.TheVariants.{NoMoveText, NoCastling}
+use Rattle.chess.specs.declared.move_text.refusal.Refusal.TheVariants.{CastlingAttacked}
+use Rattle.chess.specs.declared.move_text.refusal.Refusal.TheVariants.{WrongPromotion, NoneCan}
+use Rattle.chess.specs.declared.move_text.refusal.Refusal.TheVariants.{LeavesKingAttacked}
 
 -- why castling on the wing is not legal: it is pseudo-legal, or it is not
 abbrev pub IsCastlingRefusal : State → Wing → Refusal → Type 0
@@ -25,14 +28,18 @@ IsCastlingRefusal P wing LeavesKingAttacked = ⊥
 abbrev pub NoCandidates : State → Said → Type 0
 NoCandidates P said = (s : Place) → IsOnBoard s → IsCandidate P said s → ⊥
 
--- the promotion, or none, that the rules ask of a man of that kind on the square that it comes to (of a pawn's promotions one)
+-- the promotion, or none, that the rules ask of a man of that kind on the square that it comes to
+-- (of a pawn's promotions one)
 abbrev pub IsFitting : State → Said → Option Kind → Type 0
 IsFitting P said fit =
-    (kind_said said.letter ≡ Pawn → Promotes P.turn said.target fit) × (kind_said said.letter ≢ Pawn → fit ≡ None)
+    (kind_said said.letter ≡ Pawn → Promotes P.turn said.target fit)
+    × (kind_said said.letter ≢ Pawn → fit ≡ None)
 
--- why no legal move agrees with what is said: some man is a candidate, or none is but one would be with another promotion, or none would
+-- why no legal move agrees with what is said: some man is a candidate, or none is but one would be
+-- with another promotion, or none would
 abbrev pub IsSaidRefusal : State → Said → Refusal → Type 0
-IsSaidRefusal P said WrongPromotion = NoCandidates P said × ((promote : Option Kind) × (s : Place) × IsCandidate P (becoming promote said) s)
+IsSaidRefusal P said WrongPromotion = NoCandidates P said
+    × ((promote : Option Kind) × (s : Place) × IsCandidate P (becoming promote said) s)
 IsSaidRefusal P said NoneCan = (promote : Option Kind) → NoCandidates P (becoming promote said)
 IsSaidRefusal P said LeavesKingAttacked = (s : Place) × IsCandidate P said s
 IsSaidRefusal P said NoMoveText = ⊥

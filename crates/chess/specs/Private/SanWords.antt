@@ -1,12 +1,16 @@
--- What the reader of move texts knows on its way: the bytes of a text by their classes, from its end.
-use Rattle.std.specs.Prelude.{◌≡◌, ◌↔◌, ◌⊎◌, ◌≢◌, ℕ, ◌-◌, Bool, true, ◌||◌, ◌&&◌, ◌==◌, ltb, if◌then◌else◌, List, [], ◌∷◌, ◌++◌, IsTrue, Option, Some, None, IfSome, MatchOption, is_some, option_map}
+-- What the reader of move texts knows on its way: the bytes of a text by their classes, from its
+-- end.
+use Rattle.std.specs.Prelude.{◌≡◌, ◌↔◌, ◌⊎◌, ◌≢◌, ℕ, ◌-◌, Bool, true, ◌||◌, ◌&&◌, ◌==◌, ltb}
+use Rattle.std.specs.Prelude.{if◌then◌else◌, List, [], ◌∷◌, ◌++◌, IsTrue, Option, Some, None}
+use Rattle.std.specs.Prelude.{IfSome, MatchOption, is_some, option_map}
 use Rattle.std.specs.List.{list_all}
 use Rattle.chess.specs.Public.Squares.{Place, IsOnBoard}
 use Rattle.chess.specs.Public.Placements.{man_at}
 use Rattle.chess.specs.Public.Positions.{State, king_from, king_to}
 use Rattle.chess.specs.Public.Moves.{IsPseudoLegal, IsLegal}
 use Rattle.chess.specs.Public.Letters.{is_check_mark, is_sign}
-use Rattle.chess.specs.Public.San.{Said, Spells, Agrees, kind_said, castling_text, castling_with_zeros}
+use Rattle.chess.specs.Public.San.{Said, Spells, Agrees, kind_said, castling_text}
+use Rattle.chess.specs.Public.San.{castling_with_zeros}
 use Rattle.chess.specs.Public.Sets.{Places, is_in}
 use Rattle.chess.specs.declared.board.man.Man.{Man}
 use Rattle.chess.specs.declared.board.man.Kind.{Kind}
@@ -15,12 +19,15 @@ use Rattle.chess.specs.declared.board.man.Side.{Side}
 use Rattle.chess.specs.declared.board.man.Wing.{Wing}
 use Rattle.chess.specs.declared.moves.Move.{Move}
 use Rattle.chess.specs.declared.move_text.read.parse.ByteClass.{ByteClass}
-use Rattle.chess.specs.declared.move_text.read.parse.ByteClass.TheVariants.{Sign, Digit, FileLetter, KindLetter, Equals, PromotionLetter}
+use Rattle.chess.specs.declared.move_text.read.parse.ByteClass.TheVariants.{Sign, Digit, FileLetter}
+use Rattle.chess.specs.declared.move_text.read.parse.ByteClass.TheVariants.{KindLetter, Equals}
+use Rattle.chess.specs.declared.move_text.read.parse.ByteClass.TheVariants.{PromotionLetter}
 use Rattle.chess.specs.declared.move_text.read.parse.ParsedSan.{ParsedSan}
 
 -- the kind of that letter
 abbrev pub kind_of : ℕ → Option Kind
-kind_of b = if b == 75 then Some King else if b == 81 then Some Queen else if b == 82 then Some Rook else if b == 66 then Some Bishop
+kind_of b = if b == 75 then Some King else if b == 81 then Some Queen else if b == 82 then Some Rook
+    else if b == 66 then Some Bishop
     else if b == 78 then Some Knight else if b == 80 then Some Pawn else None
 
 -- the byte is of the class
@@ -51,9 +58,11 @@ abbrev pub before_equals : Option ℕ → List ℕ → List ℕ
 before_equals None y = y
 before_equals (Some b) y = before_last Equals y
 
--- what stands before each part, from the end: the promotion, the target's rank and file, the sign, the rank, the file, the letter
+-- what stands before each part, from the end: the promotion, the target's rank and file, the sign,
+-- the rank, the file, the letter
 abbrev pub stem : List ℕ → List ℕ
-stem y = before_equals (last_of PromotionLetter (unmarked y)) (before_last PromotionLetter (unmarked y))
+stem y =
+    before_equals (last_of PromotionLetter (unmarked y)) (before_last PromotionLetter (unmarked y))
 
 abbrev pub after_target_rank : List ℕ → List ℕ
 after_target_rank y = before_last Digit (stem y)
@@ -88,7 +97,15 @@ IsWholeLetter y result = MatchOption result (before_last KindLetter y ≢ [])
 
 -- what the reader found, as what a text says
 abbrev pub said_by : ParsedSan → Said
-said_by r = record { letter = r.letter; file = r.file; rank = r.rank; target = r.target; promote = r.promote }
+said_by r =
+    record {
+      letter = r.letter;
+      file = r.file;
+      rank = r.rank;
+      target = r.target;
+      promote =
+          r.promote;
+    }
 
 -- the text says this alone; or it says nothing
 abbrev pub IsReadSaid : List ℕ → Option ParsedSan → Type 0
@@ -96,7 +113,8 @@ IsReadSaid x result = (said : Said) → Spells x said ↔ (option_map said_by re
 
 -- a letter or none, a file and a rank are such bytes, and say this
 abbrev pub SaysPlainly : Option ℕ → ℕ → ℕ → ParsedSan → Type 0
-SaysPlainly letter file rank r = IfSome letter (λ b. is_of KindLetter b ≡ true) × (is_of FileLetter file ≡ true) × (is_of Digit rank ≡ true)
+SaysPlainly letter file rank r = IfSome letter (λ b. is_of KindLetter b ≡ true)
+    × (is_of FileLetter file ≡ true) × (is_of Digit rank ≡ true)
     × (said_by r ≡ record {
       letter = kind_given letter;
       file = None;
@@ -107,7 +125,8 @@ SaysPlainly letter file rank r = IfSome letter (λ b. is_of KindLetter b ≡ tru
 
 -- a file and a target are such bytes, and say this of a pawn that takes
 abbrev pub SaysPawnTakes : ℕ → ℕ → ℕ → ParsedSan → Type 0
-SaysPawnTakes from file rank r = (is_of FileLetter from ≡ true) × (is_of FileLetter file ≡ true) × (is_of Digit rank ≡ true)
+SaysPawnTakes from file rank r = (is_of FileLetter from ≡ true) × (is_of FileLetter file ≡ true)
+    × (is_of Digit rank ≡ true)
     × (said_by r ≡ record {
       letter = None;
       file = Some (from - 96);
@@ -130,7 +149,8 @@ IsCastlingStem wing stem = (stem ≡ castling_text wing) ⊎ (stem ≡ castling_
 
 -- castling of the side on the wing
 abbrev pub castling_on : Side → Wing → Move
-castling_on side wing = record { from = king_from side; to = king_to side wing; promote = None; castle = Some wing }
+castling_on side wing =
+    record { from = king_from side; to = king_to side wing; promote = None; castle = Some wing }
 
 -- the man that is spoken of
 abbrev pub man_said : State → Said → Man
@@ -144,7 +164,8 @@ IsAsked said s = IfSome said.file (λ file. s.file ≡ file) × IfSome said.rank
 abbrev pub ChangesFile : Said → Type 0
 ChangesFile said = (n : ℕ) × (said.file ≡ Some n) × (n ≢ said.target.file)
 
--- the man on s is the one that is spoken of, and may go so, whether or not his king is then attacked
+-- the man on s is the one that is spoken of, and may go so, whether or not his king is then
+-- attacked
 pub record IsCandidate (P : State) (said : Said) (s : Place) : Type 0 where
   pub here : man_at P.men s ≡ Some (man_said P said)
   pub asked : IsAsked said s

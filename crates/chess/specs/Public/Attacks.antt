@@ -11,9 +11,11 @@ use Rattle.chess.specs.declared.board.man.Kind.TheVariants.{King, Queen, Rook, B
 
 -- no man stands on the squares that are fewer than so many steps ahead
 abbrev pub IsClearFor : Placement → Direction → Place → ℕ → Type 0
-IsClearFor p way s steps = (j : ℕ) (u : Place) → IsOnBoard u → 1 ≤ j → j < steps → IsAhead way j s u → IsEmpty p u
+IsClearFor p way s steps = (j : ℕ) (u : Place) → IsOnBoard u → 1 ≤ j → j < steps → IsAhead way j s u
+    → IsEmpty p u
 
--- t is on a ray from s: some steps along the way, and each square between is empty; no man passes over another (Laws 3.5)
+-- t is on a ray from s: some steps along the way, and each square between is empty; no man passes
+-- over another (Laws 3.5)
 pub record IsOnRay (p : Placement) (way : Direction) (s t : Place) : Type 0 where
   pub steps : ℕ
   pub far : 1 ≤ steps
@@ -22,11 +24,13 @@ pub record IsOnRay (p : Placement) (way : Direction) (s t : Place) : Type 0 wher
 
 -- a neighbouring square, as a king attacks it (Laws 3.8.1)
 abbrev pub IsNear : Place → Place → Type 0
-IsNear s t = (gap s.file t.file ≤ 1) × (gap s.rank t.rank ≤ 1) × (1 ≤ gap s.file t.file + gap s.rank t.rank)
+IsNear s t = (gap s.file t.file ≤ 1) × (gap s.rank t.rank ≤ 1)
+    × (1 ≤ gap s.file t.file + gap s.rank t.rank)
 
 -- a knight's jump: two squares one way and one the other (Laws 3.6)
 abbrev pub IsJump : Place → Place → Type 0
-IsJump s t = ((gap s.file t.file ≡ 1) × (gap s.rank t.rank ≡ 2)) ⊎ ((gap s.file t.file ≡ 2) × (gap s.rank t.rank ≡ 1))
+IsJump s t = ((gap s.file t.file ≡ 1) × (gap s.rank t.rank ≡ 2))
+    ⊎ ((gap s.file t.file ≡ 2) × (gap s.rank t.rank ≡ 1))
 
 -- the second rank is the next one forward for a pawn of the side
 abbrev pub IsForward : Side → ℕ → ℕ → Type 0
@@ -37,7 +41,8 @@ IsForward Black a b = a ≡ b + 1
 abbrev pub IsPawnHit : Side → Place → Place → Type 0
 IsPawnHit side s t = (gap s.file t.file ≡ 1) × IsForward side s.rank t.rank
 
--- a man of this side and kind on s attacks t: rooks run along ranks and files, bishops along diagonals, queens along both
+-- a man of this side and kind on s attacks t: rooks run along ranks and files, bishops along
+-- diagonals, queens along both
 -- (Laws 3.1.2, 3.2 to 3.8)
 abbrev pub Reaches : Placement → Side → Kind → Place → Place → Type 0
 Reaches p side King s t = IsNear s t

@@ -1,9 +1,12 @@
 -- Forsyth-Edwards notation: the text of a position, and how texts are read (PGN 16.1).
-use Rattle.std.specs.Prelude.{◌≡◌, ◌≢◌, ◌⊎◌, ◌↔◌, ℕ, ◌+◌, ◌-◌, ◌*◌, ◌≤◌, Bool, true, false, not, ◌&&◌, ◌||◌, ◌==◌, nat_le, if◌then◌else◌, List, [], ◌∷◌, ◌++◌, length, replicate, codes, decimal, Option, Some, None, IsTrue}
+use Rattle.std.specs.Prelude.{◌≡◌, ◌≢◌, ◌⊎◌, ◌↔◌, ℕ, ◌+◌, ◌-◌, ◌*◌, ◌≤◌, Bool, true, false, not}
+use Rattle.std.specs.Prelude.{◌&&◌, ◌||◌, ◌==◌, nat_le, if◌then◌else◌, List, [], ◌∷◌, ◌++◌, length}
+use Rattle.std.specs.Prelude.{replicate, codes, decimal, Option, Some, None, IsTrue}
 use Rattle.std.specs.List.{list_all}
 use Rattle.chess.specs.Public.Squares.{Place, IsOnBoard}
 use Rattle.chess.specs.Public.Placements.{Placement, man_at, AreOnBoard, opposite}
-use Rattle.chess.specs.Public.Positions.{State, king_of, rook_of, pawn_of, has_right, king_from, rook_from, IsCheck, IsOnlyKing, FitsEnPassant}
+use Rattle.chess.specs.Public.Positions.{State, king_of, rook_of, pawn_of, has_right, king_from}
+use Rattle.chess.specs.Public.Positions.{rook_from, IsCheck, IsOnlyKing, FitsEnPassant}
 use Rattle.chess.specs.Public.Letters.{man_letter, square_text}
 use Rattle.chess.specs.declared.board.man.Man.{Man}
 use Rattle.chess.specs.declared.board.man.Side.{Side}
@@ -22,7 +25,8 @@ before_first b (x ∷ more) = (b ∷ x) ∷ more
 -- the texts that stand between the separators
 abbrev pub parted_at : ℕ → List ℕ → List (List ℕ)
 parted_at separator [] = [] ∷ []
-parted_at separator (b ∷ x) = if b == separator then [] ∷ parted_at separator x else before_first b (parted_at separator x)
+parted_at separator (b ∷ x) = if b == separator then [] ∷ parted_at separator x
+    else before_first b (parted_at separator x)
 
 -- texts without the empty ones
 abbrev pub without_empty : List (List ℕ) → List (List ℕ)
@@ -46,12 +50,15 @@ pub data IsSquares : ℕ → List (Option Man) → Type 0 where
 -- the squares that a text of a rank spells, from the a-file on
 abbrev pub SpellsRank : List ℕ → List (Option Man) → Type 0
 SpellsRank [] squares = squares ≡ []
-SpellsRank (b ∷ x) squares = (own more : List (Option Man)) × (squares ≡ own ++ more) × IsSquares b own × SpellsRank x more
+SpellsRank (b ∷ x) squares = (own more : List (Option Man)) × (squares ≡ own ++ more)
+    × IsSquares b own × SpellsRank x more
 
 -- the eight squares of a rank
 abbrev pub row : Placement → ℕ → List (Option Man)
-row p r = man_at p (record { file = 1; rank = r }) ∷ man_at p (record { file = 2; rank = r }) ∷ man_at p (record { file = 3; rank = r })
-    ∷ man_at p (record { file = 4; rank = r }) ∷ man_at p (record { file = 5; rank = r }) ∷ man_at p (record { file = 6; rank = r })
+row p r = man_at p (record { file = 1; rank = r }) ∷ man_at p (record { file = 2; rank = r })
+    ∷ man_at p (record { file = 3; rank = r })
+    ∷ man_at p (record { file = 4; rank = r }) ∷ man_at p (record { file = 5; rank = r })
+    ∷ man_at p (record { file = 6; rank = r })
     ∷ man_at p (record { file = 7; rank = r }) ∷ man_at p (record { file = 8; rank = r }) ∷ []
 
 -- texts of ranks, from rank n down to rank 1, spell the placement
@@ -59,7 +66,8 @@ abbrev pub SpellRanks : Placement → ℕ → List (List ℕ) → Type 0
 SpellRanks p n [] = n ≡ 0
 SpellRanks p n (x ∷ more) = (1 ≤ n) × SpellsRank x (row p n) × SpellRanks p (n - 1) more
 
--- the text of the men: eight ranks from rank 8 down, with / between; and men stand on the board alone
+-- the text of the men: eight ranks from rank 8 down, with / between; and men stand on the board
+-- alone
 pub record SpellsMen (x : List ℕ) (p : Placement) : Type 0 where
   pub ranks : SpellRanks p 8 (parted_at 47 x)
   pub on_board : AreOnBoard p
@@ -91,8 +99,10 @@ is_right_letter b = (b == 75 || b == 81) || (b == 107 || b == 113)
 
 -- a dash for no right, else distinct letters of KQkq in any order: the rights that are given
 pub record GivesRights (x : List ℕ) (rights : CastlingRights) : Type 0 where
-  pub written : (x ≡ codes "-") ⊎ ((x ≢ []) × IsTrue (list_all is_right_letter x) × IsTrue (is_distinct x))
-  pub each : (side : Side) (wing : Wing) → has_right rights side wing ≡ has_byte (right_letter side wing) x
+  pub written : (x ≡ codes "-")
+      ⊎ ((x ≢ []) × IsTrue (list_all is_right_letter x) × IsTrue (is_distinct x))
+  pub each : (side : Side) (wing : Wing) → has_right rights side wing
+      ≡ has_byte (right_letter side wing) x
 
 -- a dash or a square: the en passant square that is given (PGN 16.1.3.4)
 abbrev pub GivesEnPassant : List ℕ → Option Place → Type 0
@@ -113,7 +123,8 @@ pub record IsCount (x : List ℕ) (n : ℕ) : Type 0 where
   pub short : (1 ≤ length x) × (length x ≤ 7)
   pub value : n ≡ number_from 0 x
 
--- the two counts, of which the second or both may be missing: then they are 0 and 1 (PGN 16.1.3.5, 16.1.3.6)
+-- the two counts, of which the second or both may be missing: then they are 0 and 1 (PGN 16.1.3.5,
+-- 16.1.3.6)
 abbrev pub GiveCounts : List (List ℕ) → ℕ → ℕ → Type 0
 GiveCounts [] clock number = (clock ≡ 0) × (number ≡ 1)
 GiveCounts (x ∷ []) clock number = IsCount x clock × (number ≡ 1)
@@ -122,9 +133,11 @@ GiveCounts (x ∷ y ∷ z ∷ more) clock number = ⊥
 
 -- king and rook of a right stand at home
 abbrev pub AreAtHome : Placement → Side → Wing → Type 0
-AreAtHome p side wing = (man_at p (king_from side) ≡ Some (king_of side)) × (man_at p (rook_from side wing) ≡ Some (rook_of side))
+AreAtHome p side wing = (man_at p (king_from side) ≡ Some (king_of side))
+    × (man_at p (rook_from side wing) ≡ Some (rook_of side))
 
--- the text spells the position: four to six fields, where a right whose king or rook is not at home is dropped, and an en passant square
+-- the text spells the position: four to six fields, where a right whose king or rook is not at home
+-- is dropped, and an en passant square
 -- that does not fit
 pub record SpellsPosition (x : List ℕ) (P : State) : Type 0 where
   pub men_field : List ℕ
@@ -138,10 +151,12 @@ pub record SpellsPosition (x : List ℕ) (P : State) : Type 0 where
   pub given_rights : CastlingRights
   pub rights_given : GivesRights rights_field given_rights
   pub rights : (side : Side) (wing : Wing)
-      → (has_right P.rights side wing ≡ true) ↔ ((has_right given_rights side wing ≡ true) × AreAtHome P.men side wing)
+      → (has_right P.rights side wing ≡ true)
+      ↔ ((has_right given_rights side wing ≡ true) × AreAtHome P.men side wing)
   pub given_en_passant : Option Place
   pub en_passant_given : GivesEnPassant en_passant_field given_en_passant
-  pub en_passant : (s : Place) → (P.en_passant ≡ Some s) ↔ ((given_en_passant ≡ Some s) × FitsEnPassant P.men P.turn s)
+  pub en_passant : (s : Place) → (P.en_passant ≡ Some s)
+      ↔ ((given_en_passant ≡ Some s) × FitsEnPassant P.men P.turn s)
   pub counts : GiveCounts count_fields P.halfmove_clock P.fullmove_number
 
 -- a side has no king, or more than one
@@ -150,7 +165,8 @@ HasWrongKings P = (side : Side) × ((s : Place) → IsOnlyKing P.men side s → 
 
 -- a pawn stands on the first or the last rank
 abbrev pub HasWrongPawns : State → Type 0
-HasWrongPawns P = (side : Side) × (s : Place) × (man_at P.men s ≡ Some (pawn_of side)) × ((s.rank ≡ 1) ⊎ (s.rank ≡ 8))
+HasWrongPawns P = (side : Side) × (s : Place) × (man_at P.men s ≡ Some (pawn_of side))
+    × ((s.rank ≡ 1) ⊎ (s.rank ≡ 8))
 
 -- the side not to move is in check
 abbrev pub HasWrongCheck : State → Type 0
@@ -168,7 +184,8 @@ abbrev pub IsRefused : List ℕ → FenError → Type 0
 IsRefused x Syntax = (P : State) → SpellsPosition x P → ⊥
 IsRefused x Kings = (P : State) × SpellsPosition x P × HasWrongKings P
 IsRefused x Pawns = (P : State) × SpellsPosition x P × (HasWrongKings P → ⊥) × HasWrongPawns P
-IsRefused x InCheck = (P : State) × SpellsPosition x P × (HasWrongKings P → ⊥) × (HasWrongPawns P → ⊥) × HasWrongCheck P
+IsRefused x InCheck = (P : State) × SpellsPosition x P × (HasWrongKings P → ⊥)
+    × (HasWrongPawns P → ⊥) × HasWrongCheck P
 
 -- texts with a separator between
 abbrev pub joined : ℕ → List (List ℕ) → List ℕ
@@ -184,8 +201,10 @@ is_shortest (a ∷ b ∷ x) = not (is_step a && is_step b) && is_shortest (b ∷
 
 -- the rights that are held, in the order KQkq, or a dash
 abbrev pub rights_letters : CastlingRights → List ℕ
-rights_letters r = (if r.white_king_side then 75 ∷ [] else []) ++ ((if r.white_queen_side then 81 ∷ [] else [])
-    ++ ((if r.black_king_side then 107 ∷ [] else []) ++ (if r.black_queen_side then 113 ∷ [] else [])))
+rights_letters r = (if r.white_king_side then 75 ∷ [] else [])
+    ++ ((if r.white_queen_side then 81 ∷ [] else [])
+    ++ ((if r.black_king_side then 107 ∷ [] else [])
+    ++ (if r.black_queen_side then 113 ∷ [] else [])))
 
 abbrev pub or_dash : List ℕ → List ℕ
 or_dash [] = 45 ∷ []
@@ -196,10 +215,13 @@ abbrev pub en_passant_text : Option Place → List ℕ
 en_passant_text None = 45 ∷ []
 en_passant_text (Some s) = square_text s
 
--- the text of a position: six fields with one space between, its ranks as short as they can be (PGN 16.1.4)
+-- the text of a position: six fields with one space between, its ranks as short as they can be (PGN
+-- 16.1.4)
 pub record IsFen (P : State) (x : List ℕ) : Type 0 where
   pub ranks : List (List ℕ)
   pub spelled : SpellRanks P.men 8 ranks
   pub shortest : IsTrue (list_all is_shortest ranks)
-  pub text : x ≡ joined 32 (joined 47 ranks ∷ side_text P.turn ∷ or_dash (rights_letters P.rights) ∷ en_passant_text P.en_passant
+  pub text : x
+      ≡ joined 32 (joined 47 ranks ∷ side_text P.turn ∷ or_dash (rights_letters P.rights)
+      ∷ en_passant_text P.en_passant
       ∷ decimal P.halfmove_clock ∷ decimal P.fullmove_number ∷ [])

@@ -19,15 +19,18 @@ TextSpellsOnePosition = (x : List ℕ) (P Q : State) → SpellsPosition x P → 
 abbrev pub TextHasOneAnswer : Type 0
 TextHasOneAnswer =
     ((x : List ℕ) (P : State) (error : FenError) → ReadsFen x P → IsRefused x error → ⊥)
-    × ((x : List ℕ) (error other : FenError) → IsRefused x error → IsRefused x other → error ≡ other)
+    × ((x : List ℕ) (error other : FenError) → IsRefused x error → IsRefused x other
+    → error ≡ other)
 
 -- a text that spells a position is read as it exactly where the position is sound
 abbrev pub SoundPositionsAreRead : Type 0
 SoundPositionsAreRead = (x : List ℕ) (P : State) → SpellsPosition x P → IsSound P ↔ ReadsFen x P
 
--- the text of a sound position is read back as that position, where its two counts have seven digits at most
+-- the text of a sound position is read back as that position, where its two counts have seven
+-- digits at most
 abbrev pub FenIsReadBack : Type 0
-FenIsReadBack = (P : State) (x : List ℕ) → IsSound P → P.halfmove_clock ≤ 9999999 → P.fullmove_number ≤ 9999999 → IsFen P x → ReadsFen x P
+FenIsReadBack = (P : State) (x : List ℕ) → IsSound P → P.halfmove_clock ≤ 9999999
+    → P.fullmove_number ≤ 9999999 → IsFen P x → ReadsFen x P
 
 -- a position has at most one text
 abbrev pub PositionHasOneText : Type 0
@@ -48,10 +51,12 @@ InitialPositionIsSound = IsSound initial
 abbrev pub MovesKeepPositionsSound : Type 0
 MovesKeepPositionsSound = (P : State) (m : Move) → IsSound P → IsLegal P m → IsSound (after P m)
 
--- in a sound position the standard text of a legal move names that move, and no other (were there no pawn to take en passant, the text of
+-- in a sound position the standard text of a legal move names that move, and no other (were there
+-- no pawn to take en passant, the text of
 -- that move would be the text of a step)
 abbrev pub SanNamesItsMove : Type 0
-SanNamesItsMove = (P : State) (m : Move) (x : List ℕ) → IsSound P → IsLegal P m → IsSan P m x → IsOnlyNamed P x m
+SanNamesItsMove = (P : State) (m : Move) (x : List ℕ) → IsSound P → IsLegal P m → IsSan P m x
+    → IsOnlyNamed P x m
 
 -- a move has at most one standard text
 abbrev pub MoveHasOneText : Type 0
@@ -59,7 +64,8 @@ MoveHasOneText = (P : State) (m : Move) (x y : List ℕ) → IsSan P m x → IsS
 
 -- and a legal move has one, in each position whose men stand on the board
 abbrev pub EachMoveHasAText : Type 0
-EachMoveHasAText = (P : State) (m : Move) → AreOnBoard P.men → IsLegal P m → (x : List ℕ) × IsSan P m x
+EachMoveHasAText = (P : State) (m : Move) → AreOnBoard P.men → IsLegal P m
+    → (x : List ℕ) × IsSan P m x
 
 -- a text names one legal move alone, or none, or several
 abbrev pub NamesOneNoneOrSeveral : State → List ℕ → Type 0
@@ -69,7 +75,8 @@ NamesOneNoneOrSeveral P x =
 
 -- each text does so, in each position whose men stand on the board
 abbrev pub EachTextNamesOneNoneOrSeveral : Type 0
-EachTextNamesOneNoneOrSeveral = (P : State) (x : List ℕ) → AreOnBoard P.men → NamesOneNoneOrSeveral P x
+EachTextNamesOneNoneOrSeveral = (P : State) (x : List ℕ) → AreOnBoard P.men
+    → NamesOneNoneOrSeveral P x
 
 -- they stand there in each position that a text in FEN spells, sound or not
 abbrev pub SpelledMenAreOnBoard : Type 0
@@ -77,11 +84,13 @@ SpelledMenAreOnBoard = (x : List ℕ) (P : State) → SpellsPosition x P → Are
 
 -- and after each legal move in a position in which they do
 abbrev pub MenStayOnBoard : Type 0
-MenStayOnBoard = (P : State) (m : Move) → AreOnBoard P.men → IsLegal P m → AreOnBoard (after P m).men
+MenStayOnBoard = (P : State) (m : Move) → AreOnBoard P.men → IsLegal P m
+    → AreOnBoard (after P m).men
 
 -- each text is read as a position in FEN, or refused
 abbrev pub EachTextIsReadOrRefused : Type 0
-EachTextIsReadOrRefused = (x : List ℕ) → ((P : State) × ReadsFen x P) ⊎ ((error : FenError) × IsRefused x error)
+EachTextIsReadOrRefused = (x : List ℕ) → ((P : State) × ReadsFen x P)
+    ⊎ ((error : FenError) × IsRefused x error)
 
 -- a text that names no legal move is refused for one reason
 abbrev pub TextHasOneRefusal : Type 0

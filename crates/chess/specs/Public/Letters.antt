@@ -1,4 +1,5 @@
--- The letters and digits of men, files, ranks and squares, in move texts and in FEN (PGN 8.2.3.1, 8.2.3.2, 16.1.3.1).
+-- The letters and digits of men, files, ranks and squares, in move texts and in FEN (PGN 8.2.3.1,
+-- 8.2.3.2, 16.1.3.1).
 use Rattle.std.specs.Prelude.{ℕ, ◌+◌, Bool, ◌||◌, ◌==◌, List, [], ◌∷◌}
 use Rattle.chess.specs.Public.Squares.{Place}
 use Rattle.chess.specs.declared.board.man.Man.{Man}

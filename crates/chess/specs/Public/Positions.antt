@@ -1,4 +1,5 @@
--- A position: men, the side to move, castling rights, the en passant square, and two counts (Laws 3; PGN 16.1.3).
+-- A position: men, the side to move, castling rights, the en passant square, and two counts (Laws
+-- 3; PGN 16.1.3).
 use Rattle.std.specs.Prelude.{◌≡◌, ◌≢◌, ℕ, Bool, true, Option, Some, IfSome}
 use Rattle.chess.specs.Public.Squares.{Place, IsOnBoard}
 use Rattle.chess.specs.Public.Placements.{Placement, man_at, AreOnBoard, opposite, IsEmpty}
@@ -33,7 +34,8 @@ rook_of side = record { side = side; kind = Rook }
 abbrev pub pawn_of : Side → Man
 pawn_of side = record { side = side; kind = Pawn }
 
--- the rank on which a side's pieces stand at first, the rank of its pawns, and the rank that its pawns pass over with a double step
+-- the rank on which a side's pieces stand at first, the rank of its pawns, and the rank that its
+-- pawns pass over with a double step
 abbrev pub home_rank : Side → ℕ
 home_rank White = 1
 home_rank Black = 8
@@ -53,7 +55,8 @@ has_right rights White QueenSide = rights.white_queen_side
 has_right rights Black KingSide = rights.black_king_side
 has_right rights Black QueenSide = rights.black_queen_side
 
--- castling moves the king from the e-file to the g-file or the c-file, and the rook from the h-file or the a-file to the f-file or the
+-- castling moves the king from the e-file to the g-file or the c-file, and the rook from the h-file
+-- or the a-file to the f-file or the
 -- d-file (Laws 3.8.2): the files of a wing
 abbrev pub king_to_file : Wing → ℕ
 king_to_file KingSide = 7
@@ -89,7 +92,8 @@ pub record IsOnlyKing (p : Placement) (side : Side) (s : Place) : Type 0 where
   pub here : man_at p s ≡ Some (king_of side)
   pub only : (t : Place) → man_at p t ≡ Some (king_of side) → t ≡ s
 
--- the square fits as an en passant square: a pawn of the other side may just have passed over it (PGN 16.1.3.4)
+-- the square fits as an en passant square: a pawn of the other side may just have passed over it
+-- (PGN 16.1.3.4)
 pub record FitsEnPassant (p : Placement) (turn : Side) (s : Place) : Type 0 where
   pub on_board : IsOnBoard s
   -- rank 6 with White to move, rank 3 with Black to move
@@ -98,7 +102,8 @@ pub record FitsEnPassant (p : Placement) (turn : Side) (s : Place) : Type 0 wher
   pub empty : IsEmpty p s
   pub origin : (t : Place) → t.file ≡ s.file → IsForward turn s.rank t.rank → IsEmpty p t
   -- the pawn stands where its double step ends
-  pub pawn : (t : Place) → t.file ≡ s.file → IsForward turn t.rank s.rank → man_at p t ≡ Some (pawn_of (opposite turn))
+  pub pawn : (t : Place) → t.file ≡ s.file → IsForward turn t.rank s.rank
+      → man_at p t ≡ Some (pawn_of (opposite turn))
 
 -- the facts that each position of the program keeps
 pub record IsSound (P : State) : Type 0 where
@@ -107,11 +112,13 @@ pub record IsSound (P : State) : Type 0 where
   -- one king a side
   pub king : (side : Side) → (s : Place) × IsOnlyKing P.men side s
   -- no pawn on the first or the last rank (Laws 3.7)
-  pub pawns : (side : Side) (s : Place) → man_at P.men s ≡ Some (pawn_of side) → (s.rank ≢ 1) × (s.rank ≢ 8)
+  pub pawns : (side : Side) (s : Place) → man_at P.men s ≡ Some (pawn_of side)
+      → (s.rank ≢ 1) × (s.rank ≢ 8)
   -- the side not to move is not in check (Laws 3.9.2)
   pub quiet : IsCheck P.men (opposite P.turn) → ⊥
   -- a right only with king and rook at home (Laws 3.8.2.1)
   pub rights : (side : Side) (wing : Wing) → has_right P.rights side wing ≡ true
-      → (man_at P.men (king_from side) ≡ Some (king_of side)) × (man_at P.men (rook_from side wing) ≡ Some (rook_of side))
+      → (man_at P.men (king_from side) ≡ Some (king_of side))
+      × (man_at P.men (rook_from side wing) ≡ Some (rook_of side))
   -- an en passant square only where it fits
   pub en_passant : IfSome P.en_passant (FitsEnPassant P.men P.turn)

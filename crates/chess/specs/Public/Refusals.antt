@@ -1,4 +1,5 @@
--- Why a text names no legal move, and the only move from a square that has a fact, as that a text names it.
+-- Why a text names no legal move, and the only move from a square that has a fact, as that a text
+-- names it.
 use Rattle.std.specs.Prelude.{◌≡◌, ◌⊎◌, ℕ, List, Option, Some, MatchOption}
 use Rattle.chess.specs.Public.Squares.{Place}
 use Rattle.chess.specs.Public.Positions.{State, IsCheck}
@@ -8,11 +9,15 @@ use Rattle.chess.specs.declared.board.man.Kind.{Kind}
 use Rattle.chess.specs.declared.board.man.Wing.{Wing}
 use Rattle.chess.specs.declared.moves.Move.{Move}
 use Rattle.chess.specs.declared.move_text.refusal.Refusal.{Refusal}
-use Rattle.chess.specs.declared.move_text.refusal.Refusal.TheVariants.{NoMoveText, NoCastling, CastlingAttacked, WrongPromotion, NoneCan, LeavesKingAttacked}
+use Rattle.chess.specs.declared.move_text.refusal.Refusal.TheVariants.{NoMoveText, NoCastling}
+use Rattle.chess.specs.declared.move_text.refusal.Refusal.TheVariants.{CastlingAttacked}
+use Rattle.chess.specs.declared.move_text.refusal.Refusal.TheVariants.{WrongPromotion, NoneCan}
+use Rattle.chess.specs.declared.move_text.refusal.Refusal.TheVariants.{LeavesKingAttacked}
 
 -- the text speaks of the move: of castling on that wing, or of a move that agrees with what it says
 abbrev pub IsSpokenOf : State → List ℕ → Move → Type 0
-IsSpokenOf P x m = ((wing : Wing) × IsCastlingText wing x × (m.castle ≡ Some wing)) ⊎ ((said : Said) × Spells x said × Agrees P said m)
+IsSpokenOf P x m = ((wing : Wing) × IsCastlingText wing x × (m.castle ≡ Some wing))
+    ⊎ ((said : Said) × Spells x said × Agrees P said m)
 
 -- and a man goes there by its own rules, whether or not the move is legal
 abbrev pub IsMeant : State → List ℕ → Move → Type 0
@@ -40,14 +45,18 @@ IsRefusal P x NoCastling = IsSomeCastlingText x × ((m : Move) → IsMeant P x m
 IsRefusal P x CastlingAttacked = IsSomeCastlingText x × ((m : Move) × IsMeant P x m)
 -- no man that is spoken of can go there, but one would if it became something else, or nothing
 IsRefusal P x WrongPromotion =
-    (said : Said) × Spells x said × (CanGoAs P said → ⊥) × ((promote : Option Kind) × CanGoAs P (becoming promote said))
+    (said : Said) × Spells x said × (CanGoAs P said → ⊥)
+    × ((promote : Option Kind) × CanGoAs P (becoming promote said))
 -- no man that is spoken of can go there, whatever it becomes
-IsRefusal P x NoneCan = (said : Said) × Spells x said × ((promote : Option Kind) → CanGoAs P (becoming promote said) → ⊥)
+IsRefusal P x NoneCan = (said : Said) × Spells x said
+    × ((promote : Option Kind) → CanGoAs P (becoming promote said) → ⊥)
 -- some man can go there, and each that does leaves its king attacked
 IsRefusal P x LeavesKingAttacked =
-    (said : Said) × Spells x said × ((m : Move) × IsMeant P x m) × ((m : Move) → IsMeant P x m → IsCheck (men_after P m) P.turn)
+    (said : Said) × Spells x said × ((m : Move) × IsMeant P x m)
+    × ((m : Move) → IsMeant P x m → IsCheck (men_after P m) P.turn)
 
 -- the only move from the square that has the fact
 abbrev pub IsFrom : (Move → Type 0) → Place → Option Move → Type 0
 IsFrom fact s found =
-    MatchOption found ((m : Move) → m.from ≡ s → fact m → ⊥) (λ m. (m.from ≡ s) × fact m × ((n : Move) → n.from ≡ s → fact n → n ≡ m))
+    MatchOption found ((m : Move) → m.from ≡ s → fact m
+    → ⊥) (λ m. (m.from ≡ s) × fact m × ((n : Move) → n.from ≡ s → fact n → n ≡ m))

@@ -1,11 +1,14 @@
--- Move texts: which moves a text names, and the one text of a move in standard algebraic notation (PGN 8.2.3).
-use Rattle.std.specs.Prelude.{◌≡◌, ◌≢◌, ◌⊎◌, ℕ, ◌≤◌, Bool, true, if◌then◌else◌, List, [], ◌∷◌, ◌++◌, codes, Option, Some, None, IfSome, is_some, IsTrue}
+-- Move texts: which moves a text names, and the one text of a move in standard algebraic notation
+-- (PGN 8.2.3).
+use Rattle.std.specs.Prelude.{◌≡◌, ◌≢◌, ◌⊎◌, ℕ, ◌≤◌, Bool, true, if◌then◌else◌, List, [], ◌∷◌, ◌++◌}
+use Rattle.std.specs.Prelude.{codes, Option, Some, None, IfSome, is_some, IsTrue}
 use Rattle.std.specs.List.{list_all}
 use Rattle.chess.specs.Public.Squares.{Place, IsOnBoard}
 use Rattle.chess.specs.Public.Placements.{man_at}
 use Rattle.chess.specs.Public.Positions.{State, IsCheck}
 use Rattle.chess.specs.Public.Moves.{IsPromotionKind, taken, after, IsLegal, CanGo, IsMate}
-use Rattle.chess.specs.Public.Letters.{kind_letter, file_letter, rank_digit, square_text, is_check_mark, is_sign}
+use Rattle.chess.specs.Public.Letters.{kind_letter, file_letter, rank_digit, square_text}
+use Rattle.chess.specs.Public.Letters.{is_check_mark, is_sign}
 use Rattle.chess.specs.declared.board.man.Man.{Man}
 use Rattle.chess.specs.declared.board.man.Kind.{Kind}
 use Rattle.chess.specs.declared.board.man.Kind.TheVariants.{King, Queen, Rook, Bishop, Knight, Pawn}
@@ -43,7 +46,8 @@ promotion_text equals (Some kind) = (if equals then 61 ∷ [] else []) ++ kind_l
 abbrev pub IsFileOrRank : ℕ → Type 0
 IsFileOrRank n = (1 ≤ n) × (n ≤ 8)
 
--- the text: an optional letter, file, rank and one of x : - , the target, an optional promotion, any number of + and #
+-- the text: an optional letter, file, rank and one of x : - , the target, an optional promotion,
+-- any number of + and #
 -- (PGN 8.2.3.2 to 8.2.3.5)
 pub record Spells (x : List ℕ) (said : Said) : Type 0 where
   pub file : IfSome said.file IsFileOrRank
@@ -95,14 +99,16 @@ pub record Agrees (P : State) (said : Said) (m : Move) : Type 0 where
 -- the text names the move, which is legal
 pub record IsNamed (P : State) (x : List ℕ) (m : Move) : Type 0 where
   pub legal : IsLegal P m
-  pub by : ((wing : Wing) × IsCastlingText wing x × (m.castle ≡ Some wing)) ⊎ ((said : Said) × Spells x said × Agrees P said m)
+  pub by : ((wing : Wing) × IsCastlingText wing x × (m.castle ≡ Some wing))
+      ⊎ ((said : Said) × Spells x said × Agrees P said m)
 
 -- the text names this move and no other
 pub record IsOnlyNamed (P : State) (x : List ℕ) (m : Move) : Type 0 where
   pub named : IsNamed P x m
   pub only : (n : Move) → IsNamed P x n → n ≡ m
 
--- another man of the same kind and side that has a legal move to the same square (so a pinned man does not count)
+-- another man of the same kind and side that has a legal move to the same square (so a pinned man
+-- does not count)
 pub record IsRival (P : State) (m : Move) (s : Place) : Type 0 where
   pub other : s ≢ m.from
   pub alike : man_at P.men s ≡ man_at P.men m.from
@@ -112,13 +118,17 @@ pub record IsRival (P : State) (m : Move) (s : Place) : Type 0 where
 abbrev pub HasRival : State → Move → (Place → Type 0) → Type 0
 HasRival P m Asked = (s : Place) × IsRival P m s × Asked s
 
--- what distinguishes the man from its rivals: nothing where there is none; the file where no rival stands on it; else the rank where no rival
+-- what distinguishes the man from its rivals: nothing where there is none; the file where no rival
+-- stands on it; else the rank where no rival
 -- stands on it; else both (PGN 8.2.3.4)
 pub data IsDisambiguation (P : State) (m : Move) : List ℕ → Type 0 where
   alone : ¬ HasRival P m (λ s. Unit {0}) → IsDisambiguation P m []
-  by_file : HasRival P m (λ s. Unit {0}) → ¬ HasRival P m (λ s. s.file ≡ m.from.file) → IsDisambiguation P m (file_letter m.from.file ∷ [])
-  by_rank : HasRival P m (λ s. s.file ≡ m.from.file) → ¬ HasRival P m (λ s. s.rank ≡ m.from.rank) → IsDisambiguation P m (rank_digit m.from.rank ∷ [])
-  by_both : HasRival P m (λ s. s.file ≡ m.from.file) → HasRival P m (λ s. s.rank ≡ m.from.rank) → IsDisambiguation P m (square_text m.from)
+  by_file : HasRival P m (λ s. Unit {0}) → ¬ HasRival P m (λ s. s.file ≡ m.from.file)
+      → IsDisambiguation P m (file_letter m.from.file ∷ [])
+  by_rank : HasRival P m (λ s. s.file ≡ m.from.file) → ¬ HasRival P m (λ s. s.rank ≡ m.from.rank)
+      → IsDisambiguation P m (rank_digit m.from.rank ∷ [])
+  by_both : HasRival P m (λ s. s.file ≡ m.from.file) → HasRival P m (λ s. s.rank ≡ m.from.rank)
+      → IsDisambiguation P m (square_text m.from)
 
 -- the move takes a man, also en passant
 abbrev pub is_capture : State → Move → Bool
@@ -130,11 +140,14 @@ capture_text P m = if is_capture P m then 120 ∷ [] else []
 
 -- a pawn that takes gives its file
 abbrev pub pawn_text : State → Move → List ℕ
-pawn_text P m = (if is_capture P m then file_letter m.from.file ∷ 120 ∷ [] else []) ++ (square_text m.to ++ promotion_text true m.promote)
+pawn_text P m = (if is_capture P m then file_letter m.from.file ∷ 120 ∷ [] else [])
+    ++ (square_text m.to ++ promotion_text true m.promote)
 
--- the text of a piece's move without its mark: its letter, what distinguishes it from its rivals, x for a capture, the square (PGN 8.2.3.2 to 8.2.3.4)
+-- the text of a piece's move without its mark: its letter, what distinguishes it from its rivals, x
+-- for a capture, the square (PGN 8.2.3.2 to 8.2.3.4)
 abbrev pub IsPieceText : State → Move → Kind → List ℕ → Type 0
-IsPieceText P m kind x = (origin : List ℕ) × IsDisambiguation P m origin × (x ≡ kind_letter kind ∷ (origin ++ (capture_text P m ++ square_text m.to)))
+IsPieceText P m kind x = (origin : List ℕ) × IsDisambiguation P m origin
+    × (x ≡ kind_letter kind ∷ (origin ++ (capture_text P m ++ square_text m.to)))
 
 -- the text of a move of that kind of man, without its mark (PGN 8.2.3.2 to 8.2.3.5)
 abbrev pub IsBody : State → Move → Option Wing → Kind → List ℕ → Type 0
@@ -146,7 +159,8 @@ IsBody P m None Rook x = IsPieceText P m Rook x
 IsBody P m None Bishop x = IsPieceText P m Bishop x
 IsBody P m None Knight x = IsPieceText P m Knight x
 
--- the mark after a move, of the position after it: # for mate, + for a check that is no mate, else none, also for stalemate (PGN 8.2.3.5)
+-- the mark after a move, of the position after it: # for mate, + for a check that is no mate, else
+-- none, also for stalemate (PGN 8.2.3.5)
 pub data IsCheckMark (P : State) : List ℕ → Type 0 where
   mate : IsMate P → IsCheckMark P (35 ∷ [])
   check : IsCheck P.men P.turn → ¬ IsMate P → IsCheckMark P (43 ∷ [])

@@ -31,7 +31,8 @@ IsSquaresOf p man set = HoldsExactly (λ s. man_at p s ≡ Some man) set
 
 -- that man stands on s, one of the squares, and attacks the target
 abbrev pub IsAttacker : Placement → Man → Place → Places → Place → Type 0
-IsAttacker p man target among s = (is_in among s ≡ true) × (man_at p s ≡ Some man) × Reaches p man.side man.kind s target
+IsAttacker p man target among s = (is_in among s ≡ true) × (man_at p s ≡ Some man)
+    × Reaches p man.side man.kind s target
 
 -- how many squares a set has
 abbrev pub size_of : Places → ℕ

@@ -3,7 +3,9 @@ use Rattle.std.specs.Prelude.{◌≡◌, ℕ, ◌+◌, ◌-◌, ◌*◌, ◌/◌
 use Rattle.std.specs.Ordering.{nat_cmp, ordering_then}
 use Rattle.std.specs.declared.cmp.Ordering.{Ordering}
 use Rattle.chess.specs.declared.board.direction.Direction.{Direction}
-use Rattle.chess.specs.declared.board.direction.Direction.TheVariants.{North, South, East, West, NorthEast, NorthWest, SouthEast, SouthWest}
+use Rattle.chess.specs.declared.board.direction.Direction.TheVariants.{North, South, East, West}
+use Rattle.chess.specs.declared.board.direction.Direction.TheVariants.{NorthEast, NorthWest}
+use Rattle.chess.specs.declared.board.direction.Direction.TheVariants.{SouthEast, SouthWest}
 
 -- a file and a rank: file 1 is a, rank 1 is White's home rank
 pub record Place : Type 0 where

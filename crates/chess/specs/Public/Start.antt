@@ -10,7 +10,8 @@ use Rattle.chess.specs.declared.board.man.Side.TheVariants.{White, Black}
 use Rattle.chess.specs.declared.board.man.Kind.{Kind}
 use Rattle.chess.specs.declared.board.man.Kind.TheVariants.{King, Queen, Rook, Bishop, Knight}
 
--- the piece of a file: rooks in the corners, then knights, bishops, the queen on the d-file and the king on the e-file
+-- the piece of a file: rooks in the corners, then knights, bishops, the queen on the d-file and the
+-- king on the e-file
 abbrev pub initial_piece : ℕ → Kind
 initial_piece file =
     if (file == 1) || (file == 8) then Rook else
@@ -23,13 +24,16 @@ pub record IsInitialMen (p : Placement) : Type 0 where
   pub on_board : AreOnBoard p
   -- each side's pieces stand on its home rank
   pub pieces : (side : Side) (file : ℕ) → 1 ≤ file → file ≤ 8
-      → man_at p (record { file = file; rank = home_rank side }) ≡ Some (record { side = side; kind = initial_piece file })
+      → man_at p (record { file = file; rank = home_rank side })
+      ≡ Some (record { side = side; kind = initial_piece file })
   -- and its pawns before them
-  pub pawns : (side : Side) (file : ℕ) → 1 ≤ file → file ≤ 8 → man_at p (record { file = file; rank = pawn_rank side }) ≡ Some (pawn_of side)
+  pub pawns : (side : Side) (file : ℕ) → 1 ≤ file → file ≤ 8
+      → man_at p (record { file = file; rank = pawn_rank side }) ≡ Some (pawn_of side)
   -- the four ranks between are empty
   pub empty : (s : Place) → 3 ≤ s.rank → s.rank ≤ 6 → IsEmpty p s
 
--- the position in which games usually begin: White is to move, all may castle, and nothing was played
+-- the position in which games usually begin: White is to move, all may castle, and nothing was
+-- played
 pub record IsInitial (P : State) : Type 0 where
   pub men : IsInitialMen P.men
   pub turn : P.turn ≡ White
@@ -54,7 +58,13 @@ abbrev pub initial : State
 initial = record {
   men = initial_men;
   turn = White;
-  rights = record { white_king_side = true; white_queen_side = true; black_king_side = true; black_queen_side = true };
+  rights = record {
+    white_king_side = true;
+    white_queen_side = true;
+    black_king_side =
+        true;
+    black_queen_side = true;
+  };
   en_passant = None;
   halfmove_clock = 0;
   fullmove_number = 1;

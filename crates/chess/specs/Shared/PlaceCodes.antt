@@ -5,4 +5,6 @@ use Rattle.chess.specs.Public.Squares.{Place}
 
 -- a square is stored as the pair of its numbers
 abbrev pub coded_place : Coded Place
-coded_place = code_by (ℕ × ℕ) (coded× coded_ℕ coded_ℕ) (λ s. (s.file, s.rank)) (λ p. record { file = p.0; rank = p.1 }) (λ _. refl)
+coded_place =
+    code_by (ℕ × ℕ) (coded× coded_ℕ coded_ℕ) (λ s. (s.file, s.rank)) (λ p.
+    record { file = p.0; rank = p.1 }) (λ _. refl)

@@ -1,5 +1,6 @@
 -- Sets of squares as words: which places have their bit, in ascending order.
-use Rattle.std.specs.Prelude.{◌≡◌, ◌≤◌, ◌==◌, ◌&&◌, ℕ, zero, suc, Bool, true, not, if◌then◌else◌, Option, Some, None}
+use Rattle.std.specs.Prelude.{◌≡◌, ◌≤◌, ◌==◌, ◌&&◌, ℕ, zero, suc, Bool, true, not, if◌then◌else◌}
+use Rattle.std.specs.Prelude.{Option, Some, None}
 use Rattle.std.specs.Coded.{Coded}
 use Rattle.std.specs.Int.{bit_at}
 use Rattle.std.specs.FinSet.{empty, insert, code}
@@ -10,7 +11,8 @@ use Rattle.chess.specs.Public.Sets.{Places, HoldsExactly, no_places, is_in}
 -- those of the first n squares that pass the test
 unfoldable pub first_places : (ℕ → Bool) → ℕ → Places
 first_places test zero = empty
-first_places test (suc n) = if test n then insert (first_places test n) (square_at n) else first_places test n
+first_places test (suc n) = if test n then insert (first_places test n) (square_at n)
+    else first_places test n
 
 -- the squares that pass the test
 abbrev pub places_of : (ℕ → Bool) → Places
@@ -20,7 +22,8 @@ places_of test = first_places test 64
 abbrev pub has_bit : ℕ → ℕ → Bool
 has_bit word n = bit_at word n == 1
 
--- the first square of a set in the order a1, b1 to h1, a2 and so on was taken out; or there was none, and the set is as it was
+-- the first square of a set in the order a1, b1 to h1, a2 and so on was taken out; or there was
+-- none, and the set is as it was
 abbrev pub IsTakenFirst : Places → Places → Option Place → Type 0
 IsTakenFirst old new None = (old ≡ no_places) × (new ≡ old)
 IsTakenFirst old new (Some t) = IsOnBoard t × (is_in old t ≡ true)

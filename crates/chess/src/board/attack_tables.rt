@@ -16,7 +16,8 @@ use crate::board::{Kind, Man, Side, Square, SquareSet};
 use between_table::BETWEEN;
 use pseudo_attacks_table::PSEUDO_ATTACKS;
 
-/// The number of the table of what a man sees: one for each kind, and a second one for Black's pawns.
+/// The number of the table of what a man sees: one for each kind, and a second one for Black's
+/// pawns.
 #[inline(always)]
 fn pseudo_attacks_row(man: Man) -> u8
     ensures row { result ≡ pseudo_attacks_row_of man.side man.kind }
@@ -48,7 +49,8 @@ pub(crate) fn squares_near(square: Square) -> SquareSet
     SquareSet::of_word(pseudo_attacks_on(king, square))
 }
 
-/// The squares between two squares: those that both their lines have, and that stand between them in order.
+/// The squares between two squares: those that both their lines have, and that stand between them
+/// in order.
 #[inline(always)]
 fn between(from: Square, to: Square) -> u64
     ensures { IsWordOf (StandsBetween from to) result }
@@ -59,16 +61,20 @@ fn between(from: Square, to: Square) -> u64
 /// Whether none of these squares is between the two.
 #[inline(always)]
 fn is_unblocked(from: Square, to: Square, occupied: u64) -> bool
-    ensures { IsTrue result ↔ ((u : Place) → IsOnBoard u → StandsBetween from to u → has_bit occupied (index_of u) ≡ false) }
+    ensures { IsTrue result
+        ↔ ((u : Place) → IsOnBoard u → StandsBetween from to u
+        → has_bit occupied (index_of u) ≡ false) }
 {
     between(from, to) & occupied == 0
 }
 
-/// Those of the squares from which such a man attacks the target, where men stand on the occupied squares.
+/// Those of the squares from which such a man attacks the target, where men stand on the occupied
+/// squares.
 #[inline(always)]
 pub(crate) fn attackers_of(man: Man, target: Square, own: u64, occupied: u64) -> SquareSet
     ensures { (p : Placement) → IsWordOf (λ s. ¬ IsEmpty p s) occupied
-        → HoldsExactly (λ s. (has_bit own (index_of s) ≡ true) × Reaches p man.side man.kind s target) result }
+        → HoldsExactly (λ s. (has_bit own (index_of s) ≡ true)
+        × Reaches p man.side man.kind s target) result }
 {
     let seen = own & pseudo_attacks_on(man, target);
     let mut left = SquareSet::of_word(seen);
@@ -86,11 +92,14 @@ pub(crate) fn attackers_of(man: Man, target: Square, own: u64, occupied: u64) ->
     set
 }
 
-/// Whether the way from some of the squares to the target is free, where men stand on the occupied squares.
+/// Whether the way from some of the squares to the target is free, where men stand on the occupied
+/// squares.
 #[inline(always)]
 pub(crate) fn has_unblocked(squares: u64, target: Square, occupied: u64) -> bool
     ensures { (p : Placement) → IsWordOf (λ s. ¬ IsEmpty p s) occupied
-        → IsTrue result ↔ ((s : Place) × IsOnBoard s × (has_bit squares (index_of s) ≡ true) × IsUnblocked p s target) }
+        → IsTrue result
+        ↔ ((s : Place) × IsOnBoard s × (has_bit squares (index_of s) ≡ true)
+        × IsUnblocked p s target) }
 {
     let mut left = SquareSet::of_word(squares);
     while let Some(square) = left.take_first() {

@@ -3,7 +3,10 @@ ghost use Rattle.std.specs.Prelude.{◌≡◌, ◌↔◌, ◌⊎◌, ◌<◌, Is
 ghost use Rattle.chess.specs.Public.Squares.{IsOnBoard, index_of};
 ghost use Rattle.chess.specs.Public.Placements.{Placement, with_man, man_at, IsOccupiedBy, IsEmpty};
 ghost use Rattle.chess.specs.Public.Attacks.{IsAttacked};
-ghost use Rattle.chess.specs.Private.BitWords.{AreApart, AreLeft, IsWordOf, IsCleared, IsBitSet, IsSlid, IsMan, IsRunner, IsHitBy, IsHitStraight, IsHitDiagonal, words_men, man_in, man_of_row, number_of_kind, row_of};
+ghost use Rattle.chess.specs.Private.BitWords.{AreApart, AreLeft, IsWordOf, IsCleared, IsBitSet};
+ghost use Rattle.chess.specs.Private.BitWords.{IsSlid, IsMan, IsRunner, IsHitBy, IsHitStraight};
+ghost use Rattle.chess.specs.Private.BitWords.{IsHitDiagonal, words_men, man_in, man_of_row};
+ghost use Rattle.chess.specs.Private.BitWords.{number_of_kind, row_of};
 ghost use Rattle.chess.specs.Private.PseudoAttacks.{IsPseudoAttack};
 ghost use Rattle.chess.specs.Public.Start.{initial_men};
 ghost use Rattle.chess.specs.Shared.CellFacts.{on_board-men_of};
@@ -13,7 +16,8 @@ use crate::board::attack_tables::{attackers_of, has_unblocked, pseudo_attacks_on
 use crate::board::fills::{attacks_from, word_of};
 use crate::board::{Board, Kind, Man, Side, Square, SquareSet};
 
-/// A board of twelve words: the squares of each of White's kinds, in the order of `Kind`, then of Black's. A square's bit is its place in the order
+/// A board of twelve words: the squares of each of White's kinds, in the order of `Kind`, then of
+/// Black's. A square's bit is its place in the order
 /// a1, b1 to h1, a2 and so on.
 #[derive(Clone, Copy, Debug)]
 pub struct Bits {
@@ -210,7 +214,8 @@ fn place(words: &mut [u64; 12], square: Square, man: Option<Man>)
     set(words, square, man);
 }
 
-/// Takes the men off two squares, and puts the man, or none, on a third. No other square changes. A man who takes none goes by his own
+/// Takes the men off two squares, and puts the man, or none, on a third. No other square changes. A
+/// man who takes none goes by his own
 /// word alone.
 #[inline(always)]
 fn move_piece_words(
@@ -222,7 +227,8 @@ fn move_piece_words(
 )
     requires { AreApart words.old }
     ensures apart { AreApart words.new }
-    ensures men { words_men words.new ≡ with_man (with_man (with_man (words_men words.old) taken None) from None) to man }
+    ensures men { words_men words.new
+        ≡ with_man (with_man (with_man (words_men words.old) taken None) from None) to man }
 {
     if let Some(man) = man
         && occupied(words) & (word_of(taken) | word_of(to)) == 0
@@ -234,7 +240,8 @@ fn move_piece_words(
     replace(words, man, from, taken, to);
 }
 
-/// Moves the man from the one square to the other: each square of the two is in his word where it was not.
+/// Moves the man from the one square to the other: each square of the two is in his word where it
+/// was not.
 #[inline(always)]
 fn slide(words: &mut [u64; 12], man: Man, from: Square, to: Square)
     ensures { IsSlid words.old words.new (row_of man) (index_of from) (index_of to) }
@@ -247,7 +254,8 @@ fn slide(words: &mut [u64; 12], man: Man, from: Square, to: Square)
 fn replace(words: &mut [u64; 12], man: Option<Man>, from: Square, taken: Square, to: Square)
     requires { AreApart words.old }
     ensures apart { AreApart words.new }
-    ensures men { words_men words.new ≡ with_man (with_man (with_man (words_men words.old) taken None) from None) to man }
+    ensures men { words_men words.new
+        ≡ with_man (with_man (with_man (words_men words.old) taken None) from None) to man }
 {
     clear(words, word_of(taken) | word_of(from) | word_of(to));
     let Some(man) = man else {
@@ -314,12 +322,14 @@ fn squares_of_runners(words: &[u64; 12], side: Side, kind: Kind) -> u64
 fn seers(words: &[u64; 12], man: Man, square: Square, left: u64) -> u64
     requires { AreApart words.now }
     ensures { (p : Placement) → AreLeft (words_men words.now) p man.side left
-        → IsWordOf (λ s. IsMan p man.side man.kind s × IsPseudoAttack man.side man.kind s square) result }
+        → IsWordOf (λ s. IsMan p man.side man.kind s
+        × IsPseudoAttack man.side man.kind s square) result }
 {
     left & squares_with(words, man.side, man.kind) & pseudo_attacks_on(man, square)
 }
 
-/// The squares of the side's queens, and of another kind of its men, of those left, from which that kind attacks the square on the empty
+/// The squares of the side's queens, and of another kind of its men, of those left, from which that
+/// kind attacks the square on the empty
 /// board.
 #[inline(always)]
 fn sliders_in_line(words: &[u64; 12], square: Square, side: Side, kind: Kind, left: u64) -> u64
@@ -335,7 +345,9 @@ fn sliders_in_line(words: &[u64; 12], square: Square, side: Side, kind: Kind, le
 fn is_hit_nearby(words: &[u64; 12], square: Square, side: Side, left: u64) -> bool
     requires { AreApart words.now }
     ensures { (p : Placement) → AreLeft (words_men words.now) p side left
-        → IsTrue result ↔ (IsHitBy p side Knight square ⊎ (IsHitBy p side King square ⊎ IsHitBy p side Pawn square)) }
+        → IsTrue result
+        ↔ (IsHitBy p side Knight square
+        ⊎ (IsHitBy p side King square ⊎ IsHitBy p side Pawn square)) }
 {
     let knights = seers(
         words,
@@ -377,7 +389,8 @@ fn is_hit_along_line(
     occupied: u64,
 ) -> bool
     requires { AreApart words.now }
-    ensures { (p : Placement) → AreLeft (words_men words.now) p side left → IsWordOf (λ s. ¬ IsEmpty p s) occupied
+    ensures { (p : Placement) → AreLeft (words_men words.now) p side left
+        → IsWordOf (λ s. ¬ IsEmpty p s) occupied
         → IsTrue result ↔ (IsHitStraight p side square ⊎ IsHitDiagonal p side square) }
 {
     let seen = sliders_in_line(words, square, side, Kind::Rook, left)
@@ -388,11 +401,13 @@ fn is_hit_along_line(
     has_unblocked(seen, square, occupied)
 }
 
-/// Whether some man of the side, of those left, attacks the square, where men stand on the occupied squares.
+/// Whether some man of the side, of those left, attacks the square, where men stand on the occupied
+/// squares.
 #[inline(always)]
 fn is_hit(words: &[u64; 12], square: Square, side: Side, left: u64, occupied: u64) -> bool
     requires { AreApart words.now }
-    ensures { (p : Placement) → AreLeft (words_men words.now) p side left → IsWordOf (λ s. ¬ IsEmpty p s) occupied
+    ensures { (p : Placement) → AreLeft (words_men words.now) p side left
+        → IsWordOf (λ s. ¬ IsEmpty p s) occupied
         → IsTrue result ↔ IsAttacked p side square }
 {
     if is_hit_nearby(words, square, side, left) {

@@ -3,7 +3,9 @@ ghost use Rattle.std.specs.Prelude.{◌≡◌};
 ghost use Rattle.chess.specs.Public.Squares.{Place, IsOnBoard};
 ghost use Rattle.chess.specs.Public.Placements.{Placement, IsEmpty};
 ghost use Rattle.chess.specs.Public.Attacks.{IsOnRay, IsNear, IsJump, IsPawnHit, Reaches};
-ghost use Rattle.chess.specs.Private.BitWords.{IsWordOf, IsNextWord, IsStraightRun, IsDiagonalRun, square_word, step_word, two_steps_word, beside_word, upright_word, forward_way};
+ghost use Rattle.chess.specs.Private.BitWords.{IsWordOf, IsNextWord, IsStraightRun, IsDiagonalRun};
+ghost use Rattle.chess.specs.Private.BitWords.{square_word, step_word, two_steps_word, beside_word};
+ghost use Rattle.chess.specs.Private.BitWords.{upright_word, forward_way};
 
 use crate::board::{Direction, Kind, Man, Side, Square};
 
@@ -98,7 +100,8 @@ fn pawn_hits(square: Square, side: Side) -> u64
 
 /// The squares of a ray: at most seven steps, and none beyond the first man.
 fn fill(square: Square, empty: u64, way: Direction) -> u64
-    ensures { (p : Placement) → IsWordOf (IsEmpty p) empty → IsWordOf (IsOnRay p way square) result }
+    ensures { (p : Placement) → IsWordOf (IsEmpty p) empty
+        → IsWordOf (IsOnRay p way square) result }
 {
     let mut last = word_of(square);
     let mut seen = 0u64;
@@ -114,7 +117,8 @@ fn fill(square: Square, empty: u64, way: Direction) -> u64
 
 /// The squares that a rook attacks.
 fn straight_runs(square: Square, empty: u64) -> u64
-    ensures { (p : Placement) → IsWordOf (IsEmpty p) empty → IsWordOf (IsStraightRun p square) result }
+    ensures { (p : Placement) → IsWordOf (IsEmpty p) empty
+        → IsWordOf (IsStraightRun p square) result }
 {
     let north = fill(square, empty, Direction::North);
     let south = fill(square, empty, Direction::South);
@@ -125,7 +129,8 @@ fn straight_runs(square: Square, empty: u64) -> u64
 
 /// The squares that a bishop attacks.
 fn diagonal_runs(square: Square, empty: u64) -> u64
-    ensures { (p : Placement) → IsWordOf (IsEmpty p) empty → IsWordOf (IsDiagonalRun p square) result }
+    ensures { (p : Placement) → IsWordOf (IsEmpty p) empty
+        → IsWordOf (IsDiagonalRun p square) result }
 {
     let north_east = fill(square, empty, Direction::NorthEast);
     let north_west = fill(square, empty, Direction::NorthWest);
@@ -136,7 +141,8 @@ fn diagonal_runs(square: Square, empty: u64) -> u64
 
 /// The squares that a man like this attacks (Laws 3.2 to 3.8).
 pub(crate) fn attacks_from(man: Man, square: Square, empty: u64) -> u64
-    ensures { (p : Placement) → IsWordOf (IsEmpty p) empty → IsWordOf (Reaches p man.side man.kind square) result }
+    ensures { (p : Placement) → IsWordOf (IsEmpty p) empty
+        → IsWordOf (Reaches p man.side man.kind square) result }
 {
     match man.kind {
         Kind::King => near(square),

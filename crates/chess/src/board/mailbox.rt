@@ -3,7 +3,8 @@ ghost use Rattle.std.specs.Prelude.{◌≡◌, ◌↔◌, ◌<◌, ◌≤◌, Is
 ghost use Rattle.chess.specs.declared.board.direction.Direction.{Direction};
 ghost use Rattle.chess.specs.Public.Squares.{IsStraight, gap};
 ghost use Rattle.chess.specs.Public.Placements.{man_at};
-ghost use Rattle.chess.specs.Public.Attacks.{IsOnRay, IsClearFor, IsNear, IsJump, IsPawnHit, Reaches, IsForward};
+ghost use Rattle.chess.specs.Public.Attacks.{IsOnRay, IsClearFor, IsNear, IsJump, IsPawnHit};
+ghost use Rattle.chess.specs.Public.Attacks.{Reaches, IsForward};
 ghost use Rattle.chess.specs.Private.PseudoAttacks.{IsHitFrom};
 ghost use Rattle.chess.specs.Public.Sets.{HoldsExactly, IsAttacker};
 ghost use Rattle.chess.specs.Private.Cells.{cells_men, cell_of};
@@ -168,7 +169,8 @@ impl Mailbox {
 
     /// Whether that man stands on the square, one of those given, and attacks the target.
     fn is_attacker(&self, man: Man, square: Square, target: Square, among: &SquareSet) -> bool
-        ensures { IsTrue result ↔ IsAttacker (cells_men self.now.cells) man target among.now square }
+        ensures { IsTrue result
+            ↔ IsAttacker (cells_men self.now.cells) man target among.now square }
     {
         among.has(square) && self.holds(square, man) && self.does_attack(man, square, target)
     }
@@ -204,7 +206,9 @@ impl Mailbox {
 
     /// Whether the square is on a straight ray.
     fn runs_straight(&self, from: Square, to: Square) -> bool
-        ensures { IsTrue result ↔ ((way : Direction) × IsStraight way × IsOnRay (cells_men self.now.cells) way from to) }
+        ensures { IsTrue result
+            ↔ ((way : Direction) × IsStraight way
+            × IsOnRay (cells_men self.now.cells) way from to) }
     {
         if from.file() == to.file() {
             return if from.rank() < to.rank() {
@@ -225,7 +229,9 @@ impl Mailbox {
 
     /// Whether the square is on a diagonal ray.
     fn runs_diagonally(&self, from: Square, to: Square) -> bool
-        ensures { IsTrue result ↔ ((way : Direction) × (¬ IsStraight way) × IsOnRay (cells_men self.now.cells) way from to) }
+        ensures { IsTrue result
+            ↔ ((way : Direction) × (¬ IsStraight way)
+            × IsOnRay (cells_men self.now.cells) way from to) }
     {
         if distance(from.file(), to.file()) != distance(from.rank(), to.rank()) {
             return false;

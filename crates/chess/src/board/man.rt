@@ -61,7 +61,8 @@ pub enum Wing {
     QueenSide,
 }
 
-/// The rights to castle that are still held (Laws 3.8.2.1). A right is held only while its king and its rook stand at home.
+/// The rights to castle that are still held (Laws 3.8.2.1). A right is held only while its king and
+/// its rook stand at home.
 #[derive(Clone, Copy, Debug, PartialEq, Eq)]
 pub struct CastlingRights {
     pub white_king_side: bool,
@@ -86,7 +87,8 @@ impl CastlingRights {
     /// Whether some right is held.
     #[inline(always)]
     pub(crate) fn has_some(self) -> bool
-        ensures { IsTrue result ↔ ((side : Side) × (wing : Wing) × IsTrue (has_right self side wing)) }
+        ensures { IsTrue result
+            ↔ ((side : Side) × (wing : Wing) × IsTrue (has_right self side wing)) }
     {
         self.white_king_side
             || self.white_queen_side

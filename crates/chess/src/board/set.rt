@@ -1,5 +1,6 @@
 //! Sets of squares.
-ghost use Rattle.std.specs.Prelude.{◌≡◌, ◌&&◌, ◌||◌, ◌↔◌, ◌<◌, ◌≤◌, IsTrue, IsSome, MatchOption, Some, None, true, not};
+ghost use Rattle.std.specs.Prelude.{◌≡◌, ◌&&◌, ◌||◌, ◌↔◌, ◌<◌, ◌≤◌, IsTrue, IsSome, MatchOption};
+ghost use Rattle.std.specs.Prelude.{Some, None, true, not};
 ghost use Rattle.chess.specs.Public.Squares.{Place, IsOnBoard, same_square, index_of};
 ghost use Rattle.chess.specs.Public.Sets.{is_in, no_places, size_of, HoldsExactly};
 ghost use Rattle.chess.specs.Shared.SetWords.{has_bit, HasOnly, IsTakenFirst};
@@ -107,7 +108,8 @@ impl SquareSet {
     /// Puts a square into the set if that is so.
     #[inline(always)]
     pub(crate) fn insert_if(&mut self, square: Square, is_so: bool)
-        ensures { (s : Place) → is_in self.new s ≡ ((is_so && same_square square s) || is_in self.old s) }
+        ensures { (s : Place) → is_in self.new s
+            ≡ ((is_so && same_square square s) || is_in self.old s) }
     {
         if is_so {
             self.insert(square);
@@ -117,7 +119,8 @@ impl SquareSet {
     /// Takes a square out of the set.
     #[inline(always)]
     pub fn remove(&mut self, square: Square)
-        ensures { (s : Place) → is_in self.new s ≡ (is_in self.old s && not (same_square s square)) }
+        ensures { (s : Place) → is_in self.new s
+            ≡ (is_in self.old s && not (same_square s square)) }
     {
         self.word &= !(1u64 << square.index());
     }
@@ -137,7 +140,8 @@ impl SquareSet {
         self.word == 0
     }
 
-    /// Whether some square is in the set: the contrary of `is_empty`, said of a square that is there.
+    /// Whether some square is in the set: the contrary of `is_empty`, said of a square that is
+    /// there.
     #[inline(always)]
     pub(crate) fn has_some(&self) -> bool
         ensures { IsTrue result ↔ ((s : Place) × IsOnBoard s × (is_in self.now s ≡ true)) }
@@ -148,7 +152,8 @@ impl SquareSet {
     /// Whether each of its squares is in the other set too.
     #[inline(always)]
     pub fn is_within(&self, other: &SquareSet) -> bool
-        ensures { IsTrue result ↔ ((s : Place) → is_in self.now s ≡ true → is_in other.now s ≡ true) }
+        ensures { IsTrue result
+            ↔ ((s : Place) → is_in self.now s ≡ true → is_in other.now s ≡ true) }
     {
         self.word & other.word == self.word
     }
@@ -160,7 +165,8 @@ impl SquareSet {
         self.word.count_ones()
     }
 
-    /// Takes out the first square in the order a1, b1 to h1, a2 and so on: `None` where there is none.
+    /// Takes out the first square in the order a1, b1 to h1, a2 and so on: `None` where there is
+    /// none.
     #[inline(always)]
     pub(crate) fn take_first(&mut self) -> Option<Square>
         ensures { IsTakenFirst self.old self.new result }

@@ -30,7 +30,8 @@ impl Model for Square {
 }
 
 impl Square {
-    /// The square on a file (1 is the a-file) and a rank: `None` exactly where a number is not from 1 to 8.
+    /// The square on a file (1 is the a-file) and a rank: `None` exactly where a number is not from
+    /// 1 to 8.
     #[inline(always)]
     pub fn new(file: u8, rank: u8) -> Option<Self>
         ensures { MatchOption result (¬ IsOnBoard (record { file = file; rank = rank }))
@@ -93,7 +94,8 @@ impl Square {
         self.index
     }
 
-    /// Every square is on the board, however it was come by: a caller that asks knows it. Nothing is done.
+    /// Every square is on the board, however it was come by: a caller that asks knows it. Nothing
+    /// is done.
     pub(crate) fn invariant(self)
         ensures { IsOnBoard self }
     {

@@ -40,8 +40,10 @@ struct Spelled<B: Board> {
 
 /// The first four fields of the text, if it has as many.
 fn split_fields(text: &[u8]) -> Option<FirstFields>
-    ensures { MatchOption result ((a b c d : List ℕ) (more : List (List ℕ)) → fields_of text.now ≡ a ∷ b ∷ c ∷ d ∷ more → ⊥)
-        (λ f. fields_of text.now ≡ f.men.now ∷ f.side.now ∷ f.rights.now ∷ f.en_passant.now ∷ fields_of f.rest.now) }
+    ensures { MatchOption result ((a b c d : List ℕ) (more : List (List ℕ))
+        → fields_of text.now ≡ a ∷ b ∷ c ∷ d ∷ more → ⊥)
+        (λ f. fields_of text.now ≡ f.men.now ∷ f.side.now ∷ f.rights.now ∷ f.en_passant.now
+        ∷ fields_of f.rest.now) }
 {
     let (men, rest) = next_field(text)?;
     let (side, rest) = next_field(rest)?;
@@ -58,14 +60,15 @@ fn split_fields(text: &[u8]) -> Option<FirstFields>
 
 /// What the text spells.
 fn read_spelled<B: Board>(text: &[u8]) -> Option<Spelled<B>>
-    ensures { MatchOption result ((P : State) → SpellsPosition text.now P → ⊥) (λ d. SpellsPosition text.now (record {
-      men = B.men d.board;
-      turn = d.turn;
-      rights = d.rights;
-      en_passant = d.en_passant;
-      halfmove_clock = d.halfmove_clock;
-      fullmove_number = d.fullmove_number;
-    })) }
+    ensures { MatchOption result ((P : State) → SpellsPosition text.now P
+        → ⊥) (λ d. SpellsPosition text.now (record {
+          men = B.men d.board;
+          turn = d.turn;
+          rights = d.rights;
+          en_passant = d.en_passant;
+          halfmove_clock = d.halfmove_clock;
+          fullmove_number = d.fullmove_number;
+        })) }
 {
     let fields = split_fields(text)?;
     let board = read_men::<B>(fields.men)?;
@@ -84,7 +87,8 @@ fn read_spelled<B: Board>(text: &[u8]) -> Option<Spelled<B>>
 }
 
 impl<B: Board> Position<B> {
-    /// The position that the text spells (PGN 16.1). A right whose king or rook is not at home is dropped, and an en passant square
+    /// The position that the text spells (PGN 16.1). A right whose king or rook is not at home is
+    /// dropped, and an en passant square
     /// that does not fit. The clock and the number may be missing.
     pub fn from_fen(text: &[u8]) -> Result<Self, FenError>
         ensures answer { MatchResult result (λ p. ReadsFen text.now p) (λ e. IsRefused text.now e) }

@@ -1,12 +1,16 @@
 //! The text of a position in Forsyth-Edwards notation (PGN 16.1).
-ghost use Rattle.std.specs.Prelude.{◌≡◌, Option, List, ◌+◌, ◌≤◌, ◌<◌, ◌++◌, ◌∷◌, decimal, if◌then◌else◌};
+ghost use Rattle.std.specs.Prelude.{◌≡◌, Option, List, ◌+◌, ◌≤◌, ◌<◌, ◌++◌, ◌∷◌, decimal};
+ghost use Rattle.std.specs.Prelude.{if◌then◌else◌};
 ghost use Rattle.arrayvec.specs.ArrayString.{array_string_len};
 ghost use Rattle.chess.specs.Public.Squares.{Place, IsOnBoard};
 ghost use Rattle.chess.specs.Public.Placements.{Placement};
 ghost use Rattle.chess.specs.Public.Sets.{is_in};
 ghost use Rattle.chess.specs.Private.BitWords.{number_of_side, number_of_kind};
-ghost use Rattle.chess.specs.Public.Fen.{IsFen, side_text, rights_letters, or_dash, en_passant_text, joined};
-ghost use Rattle.chess.specs.Private.FenTextWords.{digit_of, spelled_from, rank_text, rank_texts, letter_if, letter_on, letter_at, AreLetters, AreLettersBelow};
+ghost use Rattle.chess.specs.Public.Fen.{IsFen, side_text, rights_letters, or_dash};
+ghost use Rattle.chess.specs.Public.Fen.{en_passant_text, joined};
+ghost use Rattle.chess.specs.Private.FenTextWords.{digit_of, spelled_from, rank_text, rank_texts};
+ghost use Rattle.chess.specs.Private.FenTextWords.{letter_if, letter_on, letter_at, AreLetters};
+ghost use Rattle.chess.specs.Private.FenTextWords.{AreLettersBelow};
 ghost use Rattle.chess.specs.declared.board.man.Man.{Man};
 
 use crate::board::{Board, CastlingRights, Kind, Man, Side, Square, SquareSet};
@@ -26,14 +30,16 @@ fn push_run(out: &mut ArrayString<112>, empty: u8)
     }
 }
 
-/// Takes one more square of a rank after a run of empty ones: a letter is appended, after the run's digit. Answers how long the
+/// Takes one more square of a rank after a run of empty ones: a letter is appended, after the run's
+/// digit. Answers how long the
 /// run is then.
 fn push_next(out: &mut ArrayString<112>, empty: u8, letter: u8) -> u8
     requires one_digit { empty ≤ 8 }
     requires room { array_string_len out.old ≤ 110 }
     requires ascii { letter < 128 }
     ensures text { (next : Option Man) (squares : List (Option Man)) → letter ≡ letter_on next
-        → out.new.bytes ++ spelled_from result squares ≡ out.old.bytes ++ spelled_from empty (next ∷ squares) }
+        → out.new.bytes ++ spelled_from result squares
+        ≡ out.old.bytes ++ spelled_from empty (next ∷ squares) }
     ensures short { result ≤ empty + 1 }
 {
     if letter == 0 {
@@ -50,7 +56,8 @@ fn push_rank(out: &mut ArrayString<112>, letters: &[u8; 64], rank: u8)
     requires on_board { (1 ≤ rank) × (rank ≤ 8) }
     requires room { array_string_len out.old ≤ 100 }
     requires letters { (p : Placement) × AreLetters p letters.now }
-    ensures text { (p : Placement) → AreLetters p letters.now → out.new.bytes ≡ out.old.bytes ++ rank_text p rank }
+    ensures text { (p : Placement) → AreLetters p letters.now
+        → out.new.bytes ≡ out.old.bytes ++ rank_text p rank }
     ensures short { array_string_len out.new ≤ array_string_len out.old + 8 }
 {
     let mut empty = 0u8;
@@ -65,7 +72,8 @@ fn push_rank(out: &mut ArrayString<112>, letters: &[u8; 64], rank: u8)
 fn push_ranks(out: &mut ArrayString<112>, letters: &[u8; 64])
     requires room { array_string_len out.old ≤ 8 }
     requires letters { (p : Placement) × AreLetters p letters.now }
-    ensures text { (p : Placement) → AreLetters p letters.now → out.new.bytes ≡ out.old.bytes ++ joined 47 (rank_texts p 8) }
+    ensures text { (p : Placement) → AreLetters p letters.now
+        → out.new.bytes ≡ out.old.bytes ++ joined 47 (rank_texts p 8) }
     ensures short { array_string_len out.new ≤ array_string_len out.old + 71 }
 {
     push_rank(out, letters, 8);
@@ -219,8 +227,10 @@ impl<B: Board> Position<B> {
     /// Puts the letter of the side's men of the kind on their squares.
     #[inline(always)]
     fn mark_kind(&self, letters: &mut [u8; 64], side: Side, kind: Kind)
-        ensures { AreLettersBelow self.now.men letters.old (number_of_side side + number_of_kind kind)
-            → AreLettersBelow self.now.men letters.new (number_of_side side + number_of_kind kind + 1) }
+        ensures { AreLettersBelow self.now.men letters.old (number_of_side side
+            + number_of_kind kind)
+            → AreLettersBelow self.now.men letters.new (number_of_side side + number_of_kind kind
+            + 1) }
     {
         let man = Man { side, kind };
         mark(letters, self.squares_of(man), man_letter(man));

@@ -3,7 +3,8 @@ ghost use Rattle.std.specs.Prelude.{◌≡◌, ◌≢◌, ◌↔◌, IfOk, OnErr
 ghost use Rattle.chess.specs.Public.Moves.{after, IsLegal};
 ghost use Rattle.chess.specs.Public.San.{IsNamed, IsOnlyNamed, IsSan, kind_said};
 ghost use Rattle.chess.specs.Private.SanAnswers.{IsAnswer, IsPlayed};
-ghost use Rattle.chess.specs.Private.SanWords.{said_by, IsAsked, IsMoveSaid, IsReadSaid, IsCandidate};
+ghost use Rattle.chess.specs.Private.SanWords.{said_by, IsAsked, IsMoveSaid, IsReadSaid};
+ghost use Rattle.chess.specs.Private.SanWords.{IsCandidate};
 ghost use Rattle.chess.specs.Public.Sets.{HoldsExactly};
 ghost use Rattle.chess.specs.Public.Squares.{Place};
 ghost use Rattle.chess.specs.declared.board.man.Kind.TheVariants.{Pawn};
@@ -22,19 +23,24 @@ use crate::moves::Move;
 use crate::position::Position;
 use arrayvec::ArrayString;
 
-/// Plays the only legal move that the text names, and reports it; where it names none or several, the position is as it was. No memory is needed.
+/// Plays the only legal move that the text names, and reports it; where it names none or several,
+/// the position is as it was. No memory is needed.
 #[inline(always)]
 pub fn play_word<B: Board>(position: &mut Position<B>, text: &[u8]) -> Result<Move, SanError>
     ensures ok { IfOk result (λ m. IsOnlyNamed position.old text.now m) }
-    ensures none { IsErrOf result SanError.None ↔ ((m : Move) → IsNamed position.old text.now m → ⊥) }
-    ensures several { IsErrOf result SanError.Several ↔ ((m n : Move) × IsNamed position.old text.now m × IsNamed position.old text.now n × (m ≢ n)) }
+    ensures none { IsErrOf result SanError.None
+        ↔ ((m : Move) → IsNamed position.old text.now m → ⊥) }
+    ensures several { IsErrOf result SanError.Several
+        ↔ ((m n : Move) × IsNamed position.old text.now m × IsNamed position.old text.now n
+        × (m ≢ n)) }
     ensures played { IfOk result (λ m. position.new ≡ after position.old m) }
     ensures kept { OnErr result (position.new ≡ position.old) }
 {
     only_played(position, text, &mut Unwritten)
 }
 
-/// Plays the only legal move that the text names, and writes its standard text: what `play_word` and `san` answer. No memory is needed.
+/// Plays the only legal move that the text names, and writes its standard text: what `play_word`
+/// and `san` answer. No memory is needed.
 #[inline(always)]
 pub fn play_word_san<B: Board>(
     position: &mut Position<B>,
@@ -42,8 +48,11 @@ pub fn play_word_san<B: Board>(
     san: &mut ArrayString<8>,
 ) -> Result<Move, SanError>
     ensures ok { IfOk result (λ m. IsOnlyNamed position.old text.now m) }
-    ensures none { IsErrOf result SanError.None ↔ ((m : Move) → IsNamed position.old text.now m → ⊥) }
-    ensures several { IsErrOf result SanError.Several ↔ ((m n : Move) × IsNamed position.old text.now m × IsNamed position.old text.now n × (m ≢ n)) }
+    ensures none { IsErrOf result SanError.None
+        ↔ ((m : Move) → IsNamed position.old text.now m → ⊥) }
+    ensures several { IsErrOf result SanError.Several
+        ↔ ((m n : Move) × IsNamed position.old text.now m × IsNamed position.old text.now n
+        × (m ≢ n)) }
     ensures played { IfOk result (λ m. position.new ≡ after position.old m) }
     ensures kept { OnErr result (position.new ≡ position.old) }
     ensures san { IfOk result (λ m. IsSan position.old m san.new.bytes) }
@@ -51,8 +60,10 @@ pub fn play_word_san<B: Board>(
     only_played(position, text, san)
 }
 
-/// Plays the only legal move that the text names: the most frequent forms are recognized by their length and played at once, steps and captures
-/// of pawns and moves of pieces each by code of its own. (It is called, as it would be too large to stand in each caller.)
+/// Plays the only legal move that the text names: the most frequent forms are recognized by their
+/// length and played at once, steps and captures
+/// of pawns and moves of pieces each by code of its own. (It is called, as it would be too large to
+/// stand in each caller.)
 #[inline(never)]
 fn only_played<B: Board, W: MoveWriter<B>>(
     position: &mut Position<B>,
@@ -123,7 +134,8 @@ fn play_read<B: Board, W: MoveWriter<B>>(
     found
 }
 
-/// Plays the only legal move that the text names, where the men are known that may make it, and of a piece nothing is said but its kind and
+/// Plays the only legal move that the text names, where the men are known that may make it, and of
+/// a piece nothing is said but its kind and
 /// target: one man alone is moved at once.
 #[inline(always)]
 fn play_candidate<B: Board, W: MoveWriter<B>>(

@@ -1,7 +1,8 @@
 //! Moves named by their texts (PGN 8.2.3).
 ghost use Rattle.std.specs.Prelude.{◌≡◌, ◌≢◌, ◌↔◌, IfOk, IsErrOf, MatchOption};
 ghost use Rattle.chess.specs.Public.San.{IsNamed, IsOnlyNamed, kind_said};
-ghost use Rattle.chess.specs.Private.SanWords.{castling_on, said_by, move_from, CanGoSaid, IsNext, HasNone, IsCastlingOn, IsMoveSaid, IsCandidate};
+ghost use Rattle.chess.specs.Private.SanWords.{castling_on, said_by, move_from, CanGoSaid, IsNext};
+ghost use Rattle.chess.specs.Private.SanWords.{HasNone, IsCastlingOn, IsMoveSaid, IsCandidate};
 ghost use Rattle.chess.specs.Public.Sets.{HoldsExactly};
 ghost use Rattle.chess.specs.Private.SanAnswers.{IsAnswer};
 ghost use Rattle.chess.specs.declared.moves.Move.{Move};
@@ -22,13 +23,17 @@ use parse::{ParsedSan, castling, parse_san, read_frequent};
 /// The only legal move that the text names. No memory is needed.
 pub fn resolve<B: Board>(position: &Position<B>, text: &[u8]) -> Result<Move, SanError>
     ensures ok { IfOk result (λ m. IsOnlyNamed position.now text.now m) }
-    ensures none { IsErrOf result SanError.None ↔ ((m : Move) → IsNamed position.now text.now m → ⊥) }
-    ensures several { IsErrOf result SanError.Several ↔ ((m n : Move) × IsNamed position.now text.now m × IsNamed position.now text.now n × (m ≢ n)) }
+    ensures none { IsErrOf result SanError.None
+        ↔ ((m : Move) → IsNamed position.now text.now m → ⊥) }
+    ensures several { IsErrOf result SanError.Several
+        ↔ ((m n : Move) × IsNamed position.now text.now m × IsNamed position.now text.now n
+        × (m ≢ n)) }
 {
     only_named(position, text)
 }
 
-/// The only legal move that the text names: what `resolve` answers, as one fact of the answer. The most frequent forms are recognized by their
+/// The only legal move that the text names: what `resolve` answers, as one fact of the answer. The
+/// most frequent forms are recognized by their
 /// length.
 pub(crate) fn only_named<B: Board>(position: &Position<B>, text: &[u8]) -> Result<Move, SanError>
     ensures { IsAnswer (IsNamed position.now text.now) result }
@@ -78,7 +83,8 @@ pub(crate) fn castling_move(side: Side, wing: Wing) -> Move
     }
 }
 
-/// The only legal move that agrees with what is said: pawns and pieces apart, so that each has code of its own.
+/// The only legal move that agrees with what is said: pawns and pieces apart, so that each has code
+/// of its own.
 #[inline(always)]
 pub(crate) fn moved<B: Board>(position: &Position<B>, said: &ParsedSan) -> Result<Move, SanError>
     ensures { IsAnswer (IsMoveSaid position.now (said_by said.now)) result }
@@ -91,7 +97,8 @@ pub(crate) fn moved<B: Board>(position: &Position<B>, said: &ParsedSan) -> Resul
     moved_by(position, said, candidates)
 }
 
-/// The only legal move that agrees with what is said, where the men are known that may make it: one alone is only asked whether his king
+/// The only legal move that agrees with what is said, where the men are known that may make it: one
+/// alone is only asked whether his king
 /// is then attacked.
 #[inline(always)]
 fn moved_by<B: Board>(
@@ -120,7 +127,8 @@ fn moved_by<B: Board>(
     Ok(m)
 }
 
-/// The only legal move that agrees with what is said, where several men may make it whether or not their king is then attacked.
+/// The only legal move that agrees with what is said, where several men may make it whether or not
+/// their king is then attacked.
 #[cold]
 fn moved_among<B: Board>(position: &Position<B>, said: &ParsedSan) -> Result<Move, SanError>
     ensures { IsAnswer (IsMoveSaid position.now (said_by said.now)) result }

@@ -23,7 +23,8 @@ pub enum Refusal {
     NoCastling,
     /// It is castling, and nothing but an attack bars it.
     CastlingAttacked,
-    /// No man that it speaks of can go there, but one would if it became something else, or nothing.
+    /// No man that it speaks of can go there, but one would if it became something else, or
+    /// nothing.
     WrongPromotion,
     /// No man that it speaks of can go there, whatever it becomes.
     NoneCan,

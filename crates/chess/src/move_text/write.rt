@@ -6,7 +6,9 @@ ghost use Rattle.chess.specs.Public.Positions.{State};
 ghost use Rattle.chess.specs.declared.board.man.Kind.TheVariants.{Pawn};
 ghost use Rattle.chess.specs.declared.moves.Move.{Move};
 ghost use Rattle.chess.specs.Public.Moves.{IsLegal, after};
-ghost use Rattle.chess.specs.Public.San.{IsSan, IsOnlyNamed, IsRival, HasRival, IsDisambiguation, IsPieceText, IsBody, IsCheckMark, castling_text, is_capture, capture_text, pawn_text, promotion_text};
+ghost use Rattle.chess.specs.Public.San.{IsSan, IsOnlyNamed, IsRival, HasRival, IsDisambiguation};
+ghost use Rattle.chess.specs.Public.San.{IsPieceText, IsBody, IsCheckMark, castling_text};
+ghost use Rattle.chess.specs.Public.San.{is_capture, capture_text, pawn_text, promotion_text};
 ghost use Rattle.chess.specs.Public.Sets.{HoldsExactly};
 ghost use Rattle.chess.specs.Private.MoveWords.{HasEach};
 ghost use Rattle.chess.specs.Private.SanTextWords.{Appends, AreOf, HasSquare};
@@ -17,7 +19,8 @@ use crate::moves::Move;
 use crate::position::Position;
 use arrayvec::ArrayString;
 
-/// The text of a legal move in standard algebraic notation; it names that move and no other. No memory is needed.
+/// The text of a legal move in standard algebraic notation; it names that move and no other. No
+/// memory is needed.
 pub fn san<B: Board>(position: &Position<B>, m: Move) -> ArrayString<8>
     requires { IsLegal position.now m }
     ensures text { IsSan position.now m result.bytes }
@@ -27,7 +30,8 @@ pub fn san<B: Board>(position: &Position<B>, m: Move) -> ArrayString<8>
     play_san(&mut after, m)
 }
 
-/// Plays a legal move and answers its text in standard algebraic notation: the text that `san` answers in the position before it. No
+/// Plays a legal move and answers its text in standard algebraic notation: the text that `san`
+/// answers in the position before it. No
 /// memory is needed.
 pub fn play_san<B: Board>(position: &mut Position<B>, m: Move) -> ArrayString<8>
     requires { IsLegal position.old m }
@@ -39,7 +43,8 @@ pub fn play_san<B: Board>(position: &mut Position<B>, m: Move) -> ArrayString<8>
     play_written(position, m)
 }
 
-/// Plays a legal move and answers its text: what `play_san` does, before it is known that the text names that move alone.
+/// Plays a legal move and answers its text: what `play_san` does, before it is known that the text
+/// names that move alone.
 fn play_written<B: Board>(position: &mut Position<B>, m: Move) -> ArrayString<8>
     requires { IsLegal position.old m }
     ensures text { IsSan position.old m result.bytes }
@@ -54,7 +59,8 @@ fn play_written<B: Board>(position: &mut Position<B>, m: Move) -> ArrayString<8>
     out
 }
 
-/// Writes the text of a move, no castling, of a man who has no rival, with the mark of the position after it.
+/// Writes the text of a move, no castling, of a man who has no rival, with the mark of the position
+/// after it.
 #[inline(always)]
 pub(crate) fn write_plain<B: Board>(
     out: &mut ArrayString<8>,
@@ -63,8 +69,10 @@ pub(crate) fn write_plain<B: Board>(
     takes: bool,
     next: &Position<B>,
 )
-    ensures { (P : State) → m.now.castle ≡ None → man_at P.men m.now.from ≡ Some man → takes ≡ is_capture P m.now
-        → (man.kind ≢ Pawn → ¬ HasRival P m.now (λ s. Unit {0})) → next.now ≡ after P m.now → IsSan P m.now out.new.bytes }
+    ensures { (P : State) → m.now.castle ≡ None → man_at P.men m.now.from ≡ Some man
+        → takes ≡ is_capture P m.now
+        → (man.kind ≢ Pawn → ¬ HasRival P m.now (λ s. Unit {0})) → next.now ≡ after P m.now
+        → IsSan P m.now out.new.bytes }
 {
     out.clear();
     push_plain(out, m, man, takes);
@@ -75,7 +83,8 @@ pub(crate) fn write_plain<B: Board>(
 #[inline(always)]
 fn push_plain(out: &mut ArrayString<8>, m: &Move, man: Man, takes: bool)
     requires { array_string_len out.old ≤ 1 }
-    ensures text { (P : State) → takes ≡ is_capture P m.now → (man.kind ≢ Pawn → ¬ HasRival P m.now (λ s. Unit {0}))
+    ensures text { (P : State) → takes ≡ is_capture P m.now
+        → (man.kind ≢ Pawn → ¬ HasRival P m.now (λ s. Unit {0}))
         → Appends (IsBody P m.now None man.kind) out.old.bytes out.new.bytes }
     ensures short { array_string_len out.new ≤ array_string_len out.old + 7 }
 {
@@ -92,7 +101,9 @@ fn push_plain(out: &mut ArrayString<8>, m: &Move, man: Man, takes: bool)
 /// Whether the man that moves is of that kind.
 #[inline(always)]
 fn is_mover<B: Board>(position: &Position<B>, m: &Move, kind: Kind) -> bool
-    ensures { IsTrue result ↔ (man_at position.now.men m.now.from ≡ Some (record { side = position.now.turn; kind = kind })) }
+    ensures { IsTrue result
+        ↔ (man_at position.now.men m.now.from
+        ≡ Some (record { side = position.now.turn; kind = kind })) }
 {
     let man = Man {
         side: position.side(),
@@ -106,7 +117,8 @@ fn is_mover<B: Board>(position: &Position<B>, m: &Move, kind: Kind) -> bool
 #[inline(always)]
 fn kind_of_mover<B: Board>(position: &Position<B>, m: &Move) -> Kind
     requires { IsLegal position.now m.now }
-    ensures { man_at position.now.men m.now.from ≡ Some (record { side = position.now.turn; kind = result }) }
+    ensures { man_at position.now.men m.now.from
+        ≡ Some (record { side = position.now.turn; kind = result }) }
 {
     if is_mover(position, m, Kind::Pawn) {
         return Kind::Pawn;
@@ -193,7 +205,8 @@ fn push_castling(out: &mut ArrayString<8>, wing: Wing)
 /// Appends a pawn's move.
 fn push_pawn_move(out: &mut ArrayString<8>, m: &Move, takes: bool)
     requires { array_string_len out.old ≤ 2 }
-    ensures text { (P : State) → takes ≡ is_capture P m.now → out.new.bytes ≡ out.old.bytes ++ pawn_text P m.now }
+    ensures text { (P : State) → takes ≡ is_capture P m.now
+        → out.new.bytes ≡ out.old.bytes ++ pawn_text P m.now }
     ensures short { array_string_len out.new ≤ array_string_len out.old + 6 }
 {
     if takes {
@@ -239,7 +252,8 @@ fn push_piece_move<B: Board>(
 /// Appends `x` for a capture.
 fn push_cross(out: &mut ArrayString<8>, takes: bool)
     requires { array_string_len out.old < 8 }
-    ensures text { (P : State) (m : Move) → takes ≡ is_capture P m → out.new.bytes ≡ out.old.bytes ++ capture_text P m }
+    ensures text { (P : State) (m : Move) → takes ≡ is_capture P m
+        → out.new.bytes ≡ out.old.bytes ++ capture_text P m }
     ensures short { array_string_len out.new ≤ array_string_len out.old + 1 }
 {
     if takes {
@@ -247,7 +261,8 @@ fn push_cross(out: &mut ArrayString<8>, takes: bool)
     }
 }
 
-/// Appends what distinguishes the man from its rivals: nothing where there is none; the file where no rival stands on it; else the rank
+/// Appends what distinguishes the man from its rivals: nothing where there is none; the file where
+/// no rival stands on it; else the rank
 /// where no rival stands on it; else both (PGN 8.2.3.4).
 fn push_origin<B: Board>(out: &mut ArrayString<8>, position: &Position<B>, m: &Move, man: Man)
     requires mover { man_at position.now.men m.now.from ≡ Some man }
@@ -270,7 +285,8 @@ fn push_origin<B: Board>(out: &mut ArrayString<8>, position: &Position<B>, m: &M
     push_square(out, m.from);
 }
 
-/// The squares of the other men of the same kind and side that have a legal move to the same square.
+/// The squares of the other men of the same kind and side that have a legal move to the same
+/// square.
 fn rivals<B: Board>(position: &Position<B>, m: &Move, man: Man) -> SquareSet
     requires { man_at position.now.men m.now.from ≡ Some man }
     ensures { HoldsExactly (IsRival position.now m.now) result }
@@ -283,7 +299,8 @@ fn rivals<B: Board>(position: &Position<B>, m: &Move, man: Man) -> SquareSet
     found
 }
 
-/// Squares of men of the same kind and side, among which are those of all rivals: a piece goes nowhere but where it attacks.
+/// Squares of men of the same kind and side, among which are those of all rivals: a piece goes
+/// nowhere but where it attacks.
 fn men_alike<B: Board>(position: &Position<B>, m: &Move, man: Man) -> SquareSet
     requires { man_at position.now.men m.now.from ≡ Some man }
     ensures each { HasEach (IsRival position.now m.now) result }

@@ -19,10 +19,13 @@ pub(crate) trait MoveWriter<B: Board> {
     // Holds where all is written that is to be written of the move in the position.
     ghost has: { Self → State → Move → Type 0 };
 
-    /// Writes a move, no castling, of a man who has no rival. It was played, and led to that position.
+    /// Writes a move, no castling, of a man who has no rival. It was played, and led to that
+    /// position.
     fn write(&mut self, m: &Move, man: Man, takes: bool, next: &Position<B>)
-        ensures { (P : State) → m.now.castle ≡ None → man_at P.men m.now.from ≡ Some man → takes ≡ is_capture P m.now
-            → (man.kind ≢ Pawn → ¬ HasRival P m.now (λ s. Unit {0})) → next.now ≡ after P m.now → has self.new P m.now };
+        ensures { (P : State) → m.now.castle ≡ None → man_at P.men m.now.from ≡ Some man
+            → takes ≡ is_capture P m.now
+            → (man.kind ≢ Pawn → ¬ HasRival P m.now (λ s. Unit {0})) → next.now ≡ after P m.now
+            → has self.new P m.now };
 
     /// Plays a legal move, and writes it.
     fn play(&mut self, position: &mut Position<B>, m: &Move)

@@ -1,7 +1,8 @@
 //! The squares of castling (Laws 3.8.2), and the ranks of each side.
 ghost use Rattle.std.specs.Prelude.{◌≡◌, ◌≤◌};
 ghost use Rattle.chess.specs.Public.Squares.{IsOnBoard};
-ghost use Rattle.chess.specs.Public.Positions.{home_rank, pawn_rank, king_from, king_to, rook_from, rook_to};
+ghost use Rattle.chess.specs.Public.Positions.{home_rank, pawn_rank, king_from, king_to, rook_from};
+ghost use Rattle.chess.specs.Public.Positions.{rook_to};
 
 use crate::board::{Side, Square, Wing};
 

@@ -2,8 +2,11 @@
 ghost use Rattle.std.specs.Prelude.{◌≡◌, ◌≤◌, ◌↔◌, IsTrue, Some, None};
 ghost use Rattle.chess.specs.Public.Attacks.{IsForward, IsNear, IsAttackedFrom};
 ghost use Rattle.chess.specs.Public.Positions.{IsCheck, IsOnlyKing};
-ghost use Rattle.chess.specs.Public.Moves.{IsSingleStep, Promotes, IsBarred, IsUnbarred, men_after, IsPseudoLegal, IsLegal, CanGo, HasMove};
-ghost use Rattle.chess.specs.Private.MoveWords.{IsMover, CanGoPlainly, CanPromote, CanCastle, CanLeave, CanMove, HasEach, IsPawnGoal, IsCastlingGoal};
+ghost use Rattle.chess.specs.Public.Moves.{IsSingleStep, Promotes, IsBarred, IsUnbarred, men_after};
+ghost use Rattle.chess.specs.Public.Moves.{IsPseudoLegal, IsLegal, CanGo, HasMove};
+ghost use Rattle.chess.specs.Private.MoveWords.{IsMover, CanGoPlainly, CanPromote, CanCastle};
+ghost use Rattle.chess.specs.Private.MoveWords.{CanLeave, CanMove, HasEach, IsPawnGoal};
+ghost use Rattle.chess.specs.Private.MoveWords.{IsCastlingGoal};
 ghost use Rattle.chess.specs.Public.Sets.{HoldsExactly};
 
 use crate::board::{Board, Kind, Man, Side, Square, SquareSet, Wing, squares_near};
@@ -35,7 +38,8 @@ impl<B: Board> Position<B> {
         found
     }
 
-    /// Whether the side to move has a legal move. A step of one pawn is tried first, then those of the king: they are soon seen.
+    /// Whether the side to move has a legal move. A step of one pawn is tried first, then those of
+    /// the king: they are soon seen.
     pub fn has_move(&self) -> bool
         ensures { IsTrue result ↔ HasMove self.now }
     {
@@ -74,7 +78,8 @@ impl<B: Board> Position<B> {
         false
     }
 
-    /// The rank ahead of the pawn on the square. There is one, since no pawn stands on its last rank.
+    /// The rank ahead of the pawn on the square. There is one, since no pawn stands on its last
+    /// rank.
     #[inline(always)]
     fn rank_ahead(&self, from: Square) -> u8
         requires { IsMover self.now Kind.Pawn from }
@@ -99,13 +104,15 @@ impl<B: Board> Position<B> {
         Square::at(from.file(), self.rank_ahead(from))
     }
 
-    /// Whether a step of the pawn on the one square to the other, where it stays a pawn, leaves the own king unattacked.
+    /// Whether a step of the pawn on the one square to the other, where it stays a pawn, leaves the
+    /// own king unattacked.
     #[inline(always)]
     fn can_step(&self, from: Square, to: Square) -> bool
         requires pawn { IsMover self.now Kind.Pawn from }
         requires step { IsSingleStep self.now from to }
         requires stays { Promotes self.now.turn to None }
-        ensures { IsTrue result → IsLegal self.now (record { from = from; to = to; promote = None; castle = None }) }
+        ensures { IsTrue result
+            → IsLegal self.now (record { from = from; to = to; promote = None; castle = None }) }
     {
         from.invariant();
         to.invariant();
@@ -122,7 +129,8 @@ impl<B: Board> Position<B> {
         !self.exposes_king(man, &m)
     }
 
-    /// Whether the first pawn of the side to move that has an empty square ahead, and stays a pawn there, steps legally.
+    /// Whether the first pawn of the side to move that has an empty square ahead, and stays a pawn
+    /// there, steps legally.
     #[inline(always)]
     fn pawn_steps(&self) -> bool
         ensures { IsTrue result → HasMove self.now }
@@ -145,7 +153,8 @@ impl<B: Board> Position<B> {
     fn king_steps(&self, king: Square, to: Square) -> bool
         requires king { IsOnlyKing self.now.men self.now.turn king }
         requires near { IsNear king to }
-        ensures { IsTrue result → IsLegal self.now (record { from = king; to = to; promote = None; castle = None }) }
+        ensures { IsTrue result
+            → IsLegal self.now (record { from = king; to = to; promote = None; castle = None }) }
     {
         king.invariant();
         to.invariant();
@@ -242,7 +251,8 @@ impl<B: Board> Position<B> {
 
     /// Whether a pawn may go so and become a piece of that kind.
     fn can_become(&self, from: Square, to: Square, kind: Kind) -> bool
-        ensures { IsTrue result ↔ IsLegal self.now (record { from = from; to = to; promote = Some kind; castle = None }) }
+        ensures { IsTrue result
+            ↔ IsLegal self.now (record { from = from; to = to; promote = Some kind; castle = None }) }
     {
         self.is_legal(Move {
             from,
@@ -273,7 +283,8 @@ impl<B: Board> Position<B> {
 
     /// Whether castling on the wing is legal and takes the king from the one square to the other.
     fn can_castle_on(&self, from: Square, to: Square, wing: Wing) -> bool
-        ensures { IsTrue result ↔ IsLegal self.now (record { from = from; to = to; promote = None; castle = Some wing }) }
+        ensures { IsTrue result
+            ↔ IsLegal self.now (record { from = from; to = to; promote = None; castle = Some wing }) }
     {
         self.is_legal(Move {
             from,

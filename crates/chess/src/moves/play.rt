@@ -2,7 +2,10 @@
 ghost use Rattle.std.specs.Prelude.{◌≡◌, ◌↔◌, ◌⊎◌, IsTrue, None, Some, if◌then◌else◌};
 ghost use Rattle.chess.specs.Public.Squares.{same_square};
 ghost use Rattle.chess.specs.Public.Positions.{IsSound, IsOnlyKing, IsCheck, king_from, rook_from};
-ghost use Rattle.chess.specs.Public.Moves.{is_pawn, is_en_passant, taken, arriving, men_after, keeps_right, rights_after, en_passant_after, one_more, halfmove_clock_after, fullmove_number_after, after, IsPseudoLegal, IsLegal};
+ghost use Rattle.chess.specs.Public.Moves.{is_pawn, is_en_passant, taken, arriving, men_after};
+ghost use Rattle.chess.specs.Public.Moves.{keeps_right, rights_after, en_passant_after, one_more};
+ghost use Rattle.chess.specs.Public.Moves.{halfmove_clock_after, fullmove_number_after, after};
+ghost use Rattle.chess.specs.Public.Moves.{IsPseudoLegal, IsLegal};
 ghost use Rattle.chess.specs.Public.Placements.{man_at, opposite};
 ghost use Rattle.chess.specs.Public.San.{is_capture};
 ghost use Rattle.chess.specs.Shared.Codes.{IsFollowed};
@@ -13,7 +16,8 @@ use crate::moves::Move;
 use crate::moves::castling::{king_leaves, rook_arrives, rook_leaves};
 use crate::position::Position;
 
-/// Whether the two are the same square: `Square::is`, answered as the definition of the men after a move asks it.
+/// Whether the two are the same square: `Square::is`, answered as the definition of the men after a
+/// move asks it.
 fn same(a: Square, b: Square) -> bool
     ensures { result ≡ same_square a b }
 {
@@ -26,7 +30,8 @@ const HOMES: u64 = 0x9100_0000_0000_0091;
 /// Whether a king or a rook castles from there.
 #[inline(always)]
 fn is_home(square: Square) -> bool
-    ensures { (side : Side) (wing : Wing) → (square ≡ king_from side) ⊎ (square ≡ rook_from side wing) → IsTrue result }
+    ensures { (side : Side) (wing : Wing) → (square ≡ king_from side)
+        ⊎ (square ≡ rook_from side wing) → IsTrue result }
 {
     (HOMES >> square.index()) & 1 == 1
 }
@@ -54,7 +59,8 @@ fn rights_left(rights: CastlingRights, m: Move) -> CastlingRights
     }
 }
 
-/// Takes away the castling rights that the move ends: none, where it touches no square of castling, or none is held.
+/// Takes away the castling rights that the move ends: none, where it touches no square of castling,
+/// or none is held.
 #[inline(always)]
 fn end_rights(rights: &mut CastlingRights, m: &Move)
     ensures { rights.new ≡ rights_after rights.old m.now }

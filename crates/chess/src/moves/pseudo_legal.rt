@@ -1,7 +1,9 @@
 //! Pseudo-legal moves: how the men go, whether or not the own king is then attacked.
 ghost use Rattle.std.specs.Prelude.{◌↔◌, IsTrue};
 ghost use Rattle.chess.specs.Public.Attacks.{Reaches};
-ghost use Rattle.chess.specs.Public.Moves.{IsSingleStep, IsDoubleStep, IsPawnCapture, IsPawnMove, IsPromotion, Promotes, Castles, IsKingMove, Goes, IsPseudoLegal};
+ghost use Rattle.chess.specs.Public.Moves.{IsSingleStep, IsDoubleStep, IsPawnCapture, IsPawnMove};
+ghost use Rattle.chess.specs.Public.Moves.{IsPromotion, Promotes, Castles, IsKingMove, Goes};
+ghost use Rattle.chess.specs.Public.Moves.{IsPseudoLegal};
 ghost use Rattle.chess.specs.Private.MoveWords.{IsMover, IsOpen, IsPlainMove, IsSquareAhead};
 
 use crate::board::{Board, Direction, Kind, Man, Side, Square, SquareSet, Wing};
@@ -110,7 +112,8 @@ impl<B: Board> Position<B> {
         }
     }
 
-    /// Whether the move is castling on the wing, as far as the right and the squares between king and rook go.
+    /// Whether the move is castling on the wing, as far as the right and the squares between king
+    /// and rook go.
     fn castles(&self, wing: Wing, m: &Move) -> bool
         ensures { IsTrue result ↔ Castles self.now wing m.now }
     {
@@ -132,7 +135,8 @@ impl<B: Board> Position<B> {
         }
     }
 
-    /// Whether the man on `m.from`, which is neither king nor pawn, makes the move by its own rules.
+    /// Whether the man on `m.from`, which is neither king nor pawn, makes the move by its own
+    /// rules.
     fn is_plain_move(&self, kind: Kind, m: &Move) -> bool
         requires { IsMover self.now kind m.now.from }
         ensures { IsTrue result ↔ IsPlainMove self.now m.now kind }

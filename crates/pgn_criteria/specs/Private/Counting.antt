@@ -7,4 +7,5 @@ use Rattle.pgn_criteria.specs.declared.material.Limits.{Limits}
 
 -- the side has as many men of the kind as its limit allows
 unfoldable pub FitsKind : Placement → Side → Limits → Kind → Type 0
-FitsKind men side limits kind = Allows (limit_of limits kind) (count_of men (record { side = side; kind = kind }))
+FitsKind men side limits kind =
+    Allows (limit_of limits kind) (count_of men (record { side = side; kind = kind }))

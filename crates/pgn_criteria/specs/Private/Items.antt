@@ -1,5 +1,7 @@
 -- The items of a rank, as the matcher reads them.
-use Rattle.std.specs.Prelude.{◌≡◌, ◌↔◌, ℕ, ◌+◌, ◌<◌, ◌≤◌, ◌==◌, ◌++◌, if◌then◌else◌, Bool, false, codes, IsTrue, List, [], ◌∷◌, length, drop, get_or, Option, Some, None}
+use Rattle.std.specs.Prelude.{◌≡◌, ◌↔◌, ℕ, ◌+◌, ◌<◌, ◌≤◌, ◌==◌, ◌++◌, if◌then◌else◌, Bool, false}
+use Rattle.std.specs.Prelude.{codes, IsTrue, List, [], ◌∷◌, length, drop, get_or, Option, Some}
+use Rattle.std.specs.Prelude.{None}
 use Rattle.std.specs.Int.{bit_at}
 use Rattle.chess.specs.Public.Fen.{has_byte}
 use Rattle.pgn_criteria.specs.Public.Patterns.{IsStretch, CanBeSplit, items_where}
@@ -8,7 +10,8 @@ use Rattle.chess.specs.declared.board.man.Kind.{Kind}
 use Rattle.chess.specs.declared.board.man.Kind.TheVariants.{King, Queen, Rook, Bishop, Knight, Pawn}
 use Rattle.chess.specs.declared.board.man.Side.TheVariants.{White, Black}
 use Rattle.pgn_criteria.specs.declared.rank.SquareTest.{SquareTest}
-use Rattle.pgn_criteria.specs.declared.rank.SquareTest.TheVariants.{Empty, This, Not, Any, Occupied, Of, Among, Other}
+use Rattle.pgn_criteria.specs.declared.rank.SquareTest.TheVariants.{Empty, This, Not, Any, Occupied}
+use Rattle.pgn_criteria.specs.declared.rank.SquareTest.TheVariants.{Of, Among, Other}
 use Rattle.pgn_criteria.specs.declared.rank.Item.{Item}
 use Rattle.pgn_criteria.specs.declared.rank.Item.TheVariants.{Run, Many}
 use Rattle.pgn_criteria.specs.declared.rank.Kinds.{Kinds}
@@ -41,13 +44,30 @@ has_kind kinds Knight = kinds.knight
 has_kind kinds Pawn = kinds.pawn
 
 abbrev pub has_man : Men → Man → Bool
-has_man men man = elim man.side [ White ↦ has_kind men.white man.kind | Black ↦ has_kind men.black man.kind ]
+has_man men man =
+    elim man.side [ White ↦ has_kind men.white man.kind | Black ↦ has_kind men.black man.kind ]
 
 -- the men whose letters stand in a text
 abbrev pub men_in : List ℕ → Men
 men_in x = record {
-  white = record { king = has_byte 75 x; queen = has_byte 81 x; rook = has_byte 82 x; bishop = has_byte 66 x; knight = has_byte 78 x; pawn = has_byte 80 x };
-  black = record { king = has_byte 107 x; queen = has_byte 113 x; rook = has_byte 114 x; bishop = has_byte 98 x; knight = has_byte 110 x; pawn = has_byte 112 x };
+  white = record {
+    king = has_byte 75 x;
+    queen = has_byte 81 x;
+    rook = has_byte 82 x;
+    bishop =
+        has_byte 66 x;
+    knight = has_byte 78 x;
+    pawn = has_byte 80 x;
+  };
+  black = record {
+    king = has_byte 107 x;
+    queen = has_byte 113 x;
+    rook = has_byte 114 x;
+    bishop =
+        has_byte 98 x;
+    knight = has_byte 110 x;
+    pawn = has_byte 112 x;
+  };
 }
 
 -- a square is of the class
@@ -83,7 +103,8 @@ pub record IsNextItem (items : List ℕ) (item : Item) (after : List ℕ) : Type
 
 -- what stands first is no item
 abbrev pub HasNoItem : List ℕ → Type 0
-HasNoItem items = (text : List ℕ) (more : List (List ℕ)) → items_of items ≡ text ∷ more → IsItem text → ⊥
+HasNoItem items = (text : List ℕ) (more : List (List ℕ)) → items_of items ≡ text ∷ more
+    → IsItem text → ⊥
 
 -- a table's item for a byte
 abbrev pub look_up : List (ℕ × Item) → ℕ → Option Item
@@ -128,14 +149,18 @@ Has reached place = bit_at reached place ≡ 1
 
 -- a reached place below the end stands before a square of the class, and this one after it
 abbrev pub IsAfter : SquareTest → List (Option Man) → ℕ → ℕ → ℕ → Type 0
-IsAfter class squares reached end place = (before : ℕ) × (place ≡ before + 1) × (before < end) × Has reached before × IsOf class (get_or squares before None)
+IsAfter class squares reached end place =
+    (before : ℕ) × (place ≡ before + 1) × (before < end) × Has reached before
+    × IsOf class (get_or squares before None)
 
 -- the items take the squares from some reached place on
 abbrev pub Ends : List (Option Man) → ℕ → List (List ℕ) → Type 0
-Ends squares reached items = (place : ℕ) × (place ≤ 8) × Has reached place × CanBeSplit items (drop place squares)
+Ends squares reached items = (place : ℕ) × (place ≤ 8) × Has reached place
+    × CanBeSplit items (drop place squares)
 
 -- the item and those after it do
 abbrev pub Goes : List (Option Man) → ℕ → Item → List (List ℕ) → Type 0
 Goes squares reached item items =
     (place : ℕ) × (place ≤ 8) × Has reached place
-    × ((own more : List (Option Man)) × (drop place squares ≡ own ++ more) × Fits item own × CanBeSplit items more)
+    × ((own more : List (Option Man)) × (drop place squares ≡ own ++ more) × Fits item own
+    × CanBeSplit items more)

@@ -1,4 +1,5 @@
--- The first and the last byte of a text: what the text of a move may begin and end with is known before it is written.
+-- The first and the last byte of a text: what the text of a move may begin and end with is known
+-- before it is written.
 use Rattle.std.specs.Prelude.{◌≡◌, ◌++◌, ℕ, Bool, false, List, [], ◌∷◌}
 use Rattle.chess.specs.Public.Positions.{State}
 use Rattle.chess.specs.Public.San.{IsSan}
@@ -15,4 +16,5 @@ EndsWith b text = (front : List ℕ) × (text ≡ front ++ b ∷ [])
 
 -- an answer no: the standard text of the move without its mark does not have the fact
 abbrev pub RulesOut : Bool → State → Move → (List ℕ → Type 0) → Type 0
-RulesOut answer P m Fact = answer ≡ false → (text : List ℕ) → IsSan P m text → Fact (without_marks text) → ⊥
+RulesOut answer P m Fact = answer ≡ false → (text : List ℕ) → IsSan P m text
+    → Fact (without_marks text) → ⊥

@@ -1,18 +1,21 @@
 -- How lines are read: the words that the code equals.
-use Rattle.std.specs.Prelude.{ℕ, ◌-◌, ◌++◌, ◌==◌, if◌then◌else◌, Bool, List, [], ◌∷◌, reverse, IsTrue, map}
+use Rattle.std.specs.Prelude.{◌≡◌, ◌≢◌, true, false, ℕ, ◌-◌, ◌++◌, ◌==◌, if◌then◌else◌, Bool, List}
+use Rattle.std.specs.Prelude.{[], ◌∷◌, reverse, IsTrue, map}
 use Rattle.chess.specs.Public.Fen.{is_digit, is_distinct}
 use Rattle.chess.specs.Public.Letters.{kind_letter}
 use Rattle.chess.specs.declared.board.man.Kind.{Kind}
 use Rattle.pgn_criteria.specs.Public.Words.{is_blank}
 use Rattle.pgn_criteria.specs.declared.material.Limit.{Limit}
-use Rattle.pgn_criteria.specs.declared.material.Limit.TheVariants.{Exactly, AtLeast, AtMost, AnyNumber}
-use Rattle.pgn_criteria.specs.declared.condition.Condition.{Condition}
+use Rattle.pgn_criteria.specs.declared.material.Limit.TheVariants.{Exactly, AtLeast, AtMost}
+use Rattle.pgn_criteria.specs.declared.material.Limit.TheVariants.{AnyNumber}
+use Rattle.pgn_criteria.specs.Public.Conditions.{Conditions}
 use Rattle.pgn_criteria.specs.declared.line.Meaning.{Meaning}
 use Rattle.pgn_criteria.specs.declared.line.Meaning.TheVariants.{Nothing, Or, Asks}
 use Rattle.pgn_criteria.specs.Public.Lines.{SpellsEntries}
-use Rattle.pgn_criteria.specs.Private.Stages.{seen}
+use Rattle.pgn_criteria.specs.Private.Stages.{condition_seen}
 
--- the first run of bytes that are no blanks, what follows it, and what follows the blanks that a text begins with
+-- the first run of bytes that are no blanks, what follows it, and what follows the blanks that a
+-- text begins with
 abbrev pub run_of : List ℕ → List ℕ
 run_of [] = []
 run_of (b ∷ x) = if is_blank b then [] else b ∷ run_of x
@@ -41,11 +44,13 @@ core_of line = after_blanks (reverse (after_blanks (drop_return (reverse line)))
 -- the limit that a text begins with, after the letter of a kind, and what follows it
 abbrev pub digit_limit : ℕ → List ℕ → Limit × List ℕ
 digit_limit n [] = (Exactly n, [])
-digit_limit n (b ∷ x) = if b == 43 then (AtLeast n, x) else if b == 45 then (AtMost n, x) else (Exactly n, b ∷ x)
+digit_limit n (b ∷ x) = if b == 43 then (AtLeast n, x) else if b == 45 then (AtMost n, x)
+    else (Exactly n, b ∷ x)
 
 abbrev pub first_limit : List ℕ → Limit × List ℕ
 first_limit [] = (Exactly 1, [])
-first_limit (b ∷ x) = if b == 42 then (AnyNumber, x) else if is_digit b then digit_limit (b - 48) x else (Exactly 1, b ∷ x)
+first_limit (b ∷ x) = if b == 42 then (AnyNumber, x) else if is_digit b then digit_limit (b - 48) x
+    else (Exactly 1, b ∷ x)
 
 -- the limit after the first place of a letter; without one, none
 abbrev pub limit_after : ℕ → List ℕ → Limit
@@ -56,16 +61,33 @@ limit_after letter (b ∷ x) = if b == letter then (first_limit x).0 else limit_
 abbrev pub meaning_seen : {T : Type 0} → (T → List ℕ) → Meaning T → Meaning (List ℕ)
 meaning_seen bytes Nothing = Nothing
 meaning_seen bytes Or = Or
-meaning_seen bytes (Asks condition) = Asks (seen bytes condition)
+meaning_seen bytes (Asks condition) = Asks (condition_seen bytes condition)
 
 -- letters of kinds with their limits, no letter twice, or nothing
 abbrev pub AreEntries : List ℕ → Type 0
-AreEntries text = (entries : List (Kind × Limit)) × SpellsEntries text entries × IsTrue (is_distinct (map (λ entry. kind_letter entry.0) entries))
+AreEntries text = (entries : List (Kind × Limit)) × SpellsEntries text entries
+    × IsTrue (is_distinct (map (λ entry. kind_letter entry.0) entries))
+
+-- the conditions of both, those of the first before the others
+abbrev pub joined : Conditions → Conditions → Conditions
+joined c d =
+    record {
+      games = c.games ++ d.games;
+      positions = c.positions ++ d.positions;
+      moves =
+          c.moves ++ d.moves;
+      spans = c.spans ++ d.spans;
+    }
 
 -- alternatives after those that are done, where the first goes on with the one that is open
-abbrev pub with_open : List (List (Condition (List ℕ))) → List (Condition (List ℕ)) → List (List (Condition (List ℕ))) → List (List (Condition (List ℕ)))
+abbrev pub with_open : List Conditions → Conditions → List Conditions → List Conditions
 with_open done begun [] = done ++ (begun ∷ [])
-with_open done begun (first ∷ more) = done ++ ((begun ++ first) ∷ more)
+with_open done begun (first ∷ more) = done ++ (joined begun first ∷ more)
+
+-- whether a text begins with the word, and what follows that word, or else the text itself
+abbrev pub ReadsWord : List ℕ → List ℕ → Bool → List ℕ → Type 0
+ReadsWord word text true own = (run_of text ≡ word) × (own ≡ after_word text)
+ReadsWord word text false own = (run_of text ≢ word) × (own ≡ text)
 
 -- the byte *
 abbrev pub is_star : ℕ → Bool

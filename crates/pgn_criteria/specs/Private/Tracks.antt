@@ -1,5 +1,6 @@
 -- The squares of one man, where men are moved by codes.
-use Rattle.std.specs.Prelude.{◌≡◌, ◌≤◌, ◌⊎◌, ℕ, Bool, true, List, [], ◌∷◌, Option, Some, None, MatchOption, if◌then◌else◌}
+use Rattle.std.specs.Prelude.{◌≡◌, ◌≤◌, ◌⊎◌, ℕ, Bool, true, List, [], ◌∷◌, Option, Some, None}
+use Rattle.std.specs.Prelude.{MatchOption, if◌then◌else◌}
 use Rattle.chess.specs.Public.Positions.{State}
 use Rattle.chess.specs.Public.Squares.{Place, IsOnBoard, same_square}
 use Rattle.chess.specs.Public.Placements.{Placement, man_at, with_man}
@@ -11,8 +12,8 @@ use Rattle.pgn_game.specs.Public.PlyCodes.{PlyCode, moved}
 use Rattle.pgn_criteria.specs.Private.Layouts.{Laid}
 use Rattle.pgn_criteria.specs.Public.Materials.{count_of}
 use Rattle.pgn_criteria.specs.Private.Planning.{Planned}
-use Rattle.pgn_criteria.specs.Private.Stages.{AllOfPosition}
-use Rattle.pgn_criteria.specs.declared.condition.Condition.{Condition}
+use Rattle.pgn_criteria.specs.Public.Meeting.{PositionsHold}
+use Rattle.pgn_criteria.specs.declared.condition.PositionCondition.{PositionCondition}
 use Rattle.pgn_criteria.specs.declared.layout.Layout.{Layout}
 use Rattle.pgn_criteria.specs.declared.numbers.Few.{Few}
 use Rattle.pgn_criteria.specs.declared.plan.Plan.{Plan}
@@ -22,15 +23,18 @@ use Rattle.pgn_criteria.specs.declared.sieve.Stand.{Stand}
 
 -- the square is in the set, or is not, and all else is as it was
 abbrev pub IsPut : Place → Bool → Places → Places → Type 0
-IsPut t is_his old new = (s : Place) → is_in new s ≡ (if same_square s t then is_his else is_in old s)
+IsPut t is_his old new = (s : Place) → is_in new s
+    ≡ (if same_square s t then is_his else is_in old s)
 
 -- the men after that man has gone from one square to another, and his rook too where he castles
 abbrev pub gone : Placement → Place → Place → Man → Option Wing → Placement
-gone men from to man castle = with_rook man.side castle (with_man (with_man men from None) to (Some man))
+gone men from to man castle =
+    with_rook man.side castle (with_man (with_man men from None) to (Some man))
 
 -- on each of the squares stands a man
 abbrev pub AreTaken : Placement → Places → Type 0
-AreTaken men taken = (s : Place) → is_in taken s ≡ true → IsOnBoard s × ((other : Man) × (man_at men s ≡ Some other))
+AreTaken men taken = (s : Place) → is_in taken s ≡ true
+    → IsOnBoard s × ((other : Man) × (man_at men s ≡ Some other))
 
 -- neither the men before the codes nor those after any of them have the fact
 abbrev pub Nowhere : (Placement → Type 0) → Placement → List PlyCode → Type 0
@@ -45,11 +49,13 @@ pub record StaysOn (stand : Stand) (man : Man) (men : Placement) : Type 0 where
 -- he does, and others on clear squares alone
 pub record StaysAt (site : Site) (man : Man) (men : Placement) : Type 0 where
   pub his : StaysOn site.stand man men
-  pub clear : (s : Place) (other : Man) → IsOnBoard s → man_at men s ≡ Some other → is_in site.clear s ≡ true
+  pub clear : (s : Place) (other : Man) → IsOnBoard s → man_at men s ≡ Some other
+      → is_in site.clear s ≡ true
 
 -- a man stands in the one way of a sieve or, if there is another, in that
 abbrev pub StaysAs : Sieve → Man → Placement → Type 0
-StaysAs sieve man men = StaysAt sieve.straight man men ⊎ MatchOption sieve.turned ⊥ (λ turned. StaysAt turned man men)
+StaysAs sieve man men = StaysAt sieve.straight man men
+    ⊎ MatchOption sieve.turned ⊥ (λ turned. StaysAt turned man men)
 
 -- its own man does
 abbrev pub FitsSieve : Sieve → Placement → Type 0
@@ -67,6 +73,7 @@ Sifts plan sieve = (men : Placement) → Planned men plan → FitsSieve sieve me
 abbrev pub AreFew : Few → Man → Placement → Type 0
 AreFew few man men = count_of men man ≤ few.most
 
--- the men are those of a position at which all conditions of an alternative hold, but for those on moves
-abbrev pub FitsPlaced : List (Condition (List ℕ)) → Placement → Type 0
-FitsPlaced conditions men = (P : State) × (P.men ≡ men) × AllOfPosition P conditions
+-- the men are those of a position at which all conditions of an alternative hold, but for those on
+-- moves
+abbrev pub FitsPlaced : List (PositionCondition (List ℕ)) → Placement → Type 0
+FitsPlaced conditions men = (P : State) × (P.men ≡ men) × PositionsHold P conditions

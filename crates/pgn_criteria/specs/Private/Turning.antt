@@ -12,7 +12,8 @@ men_from FromH men = flipped_men men
 
 -- a letter in the other case; any other byte is itself
 abbrev pub other_letter : ℕ → ℕ
-other_letter b = if (nat_le 65 b && nat_le b 90) then b + 32 else if (nat_le 97 b && nat_le b 122) then b - 32 else b
+other_letter b = if (nat_le 65 b && nat_le b 90) then b + 32 else if (nat_le 97 b && nat_le b 122)
+    then b - 32 else b
 
 -- texts of ranks in the other order, each with the letters of the other side
 abbrev pub turned_ranks : List (List ℕ) → List (List ℕ)

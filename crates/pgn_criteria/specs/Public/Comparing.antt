@@ -1,7 +1,10 @@
--- How the value of a tag stands to a text. To be ordered, two numbers of 1 to 18 digits are compared as numbers, so that 9 is less than
--- 10 and 007 equals 7; else they are compared byte by byte, and a text that another begins with is the lesser. What a value contains, and
+-- How the value of a tag stands to a text. To be ordered, two numbers of 1 to 18 digits are
+-- compared as numbers, so that 9 is less than
+-- 10 and 007 equals 7; else they are compared byte by byte, and a text that another begins with is
+-- the lesser. What a value contains, and
 -- what it begins with, are bytes, of numbers too.
-use Rattle.std.specs.Prelude.{◌≡◌, ◌≢◌, ◌<◌, ◌≤◌, ◌&&◌, ◌++◌, nat_le, if◌then◌else◌, ℕ, Bool, List, length, Option, Some, None}
+use Rattle.std.specs.Prelude.{◌≡◌, ◌≢◌, ◌<◌, ◌≤◌, ◌&&◌, ◌++◌, nat_le, if◌then◌else◌, ℕ, Bool, List}
+use Rattle.std.specs.Prelude.{length, Option, Some, None}
 use Rattle.std.specs.List.{list_all}
 use Rattle.std.specs.Ordering.{nat_cmp}
 use Rattle.std.specs.Cmp.Lexicographic.{slice_cmp}
@@ -13,7 +16,9 @@ use Rattle.chess.specs.Public.Fen.{number_from}
 use Rattle.pgn_criteria.specs.declared.compare.Comparison.{Comparison}
 use Rattle.pgn_criteria.specs.declared.compare.Comparison.TheVariants as compared
 use Rattle.pgn_criteria.specs.declared.compare.Relation.{Relation}
-use Rattle.pgn_criteria.specs.declared.compare.Relation.TheVariants.{Equal, Unequal, Less, LessOrEqual, Greater, GreaterOrEqual, Has, Begins}
+use Rattle.pgn_criteria.specs.declared.compare.Relation.TheVariants.{Equal, Unequal, Less}
+use Rattle.pgn_criteria.specs.declared.compare.Relation.TheVariants.{LessOrEqual, Greater}
+use Rattle.pgn_criteria.specs.declared.compare.Relation.TheVariants.{GreaterOrEqual, Has, Begins}
 
 -- 1 to 18 digits
 abbrev pub is_number : List ℕ → Bool
@@ -44,7 +49,8 @@ Allows GreaterOrEqual a b = order_of a b ≢ order.Less
 Allows Has a b = (front back : List ℕ) × (a ≡ front ++ (b ++ back))
 Allows Begins a b = (back : List ℕ) × (a ≡ b ++ back)
 
--- the relation holds of the values of two strings with these contents: in a value a backslash before a quote or a backslash is dropped
+-- the relation holds of the values of two strings with these contents: in a value a backslash
+-- before a quote or a backslash is dropped
 pub record Stands (relation : Relation) (given text : List ℕ) : Type 0 where
   pub value : List ℕ
   pub other : List ℕ

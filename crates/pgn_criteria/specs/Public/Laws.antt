@@ -13,22 +13,28 @@ use Rattle.pgn_criteria.specs.Public.Lines.{Accepts, IsRefused}
 use Rattle.pgn_criteria.specs.Public.Meeting.{Heading, AllHold, Meets, is_turned}
 use Rattle.pgn_criteria.specs.Public.Mirrors.{flipped_men, mirror}
 use Rattle.pgn_criteria.specs.Public.Walks.{Sight, IsSightOf, stepped}
-use Rattle.pgn_criteria.specs.declared.condition.Condition.{Condition}
+use Rattle.pgn_criteria.specs.Public.Conditions.{Conditions}
+use Rattle.pgn_criteria.specs.declared.condition.PositionCondition.{PositionCondition}
 use Rattle.pgn_criteria.specs.declared.parse.CriteriaError.TheVariants.{TooLong, Line, OutOfMemory}
 
 -- an accepted text has one meaning
 abbrev pub TextHasOneMeaning : Type 0
-TextHasOneMeaning = (text : List ℕ) (first second : List (List (Condition (List ℕ)))) → Accepts text first → Accepts text second → first ≡ second
+TextHasOneMeaning = (text : List ℕ) (first second : List Conditions) → Accepts text first
+    → Accepts text second → first ≡ second
 
 -- a text is either accepted, or too long, or refused for one of its lines
 abbrev pub TextHasOneAnswer : Type 0
 TextHasOneAnswer =
-    ((text : List ℕ) (alternatives : List (List (Condition (List ℕ)))) → Accepts text alternatives → IsRefused text TooLong → ⊥)
-    × ((text : List ℕ) (alternatives : List (List (Condition (List ℕ)))) (number : ℕ) → Accepts text alternatives → IsRefused text (Line number) → ⊥)
+    ((text : List ℕ) (alternatives : List Conditions) → Accepts text alternatives
+    → IsRefused text TooLong → ⊥)
+    × ((text : List ℕ) (alternatives : List Conditions) (number : ℕ) → Accepts text alternatives
+    → IsRefused text (Line number) → ⊥)
     × ((text : List ℕ) (number : ℕ) → IsRefused text TooLong → IsRefused text (Line number) → ⊥)
-    × ((text : List ℕ) (number other : ℕ) → IsRefused text (Line number) → IsRefused text (Line other) → number ≡ other)
+    × ((text : List ℕ) (number other : ℕ) → IsRefused text (Line number)
+    → IsRefused text (Line other) → number ≡ other)
 
--- where memory runs out, the text has no other fault: it is neither too long, nor is one of its lines bad
+-- where memory runs out, the text has no other fault: it is neither too long, nor is one of its
+-- lines bad
 abbrev pub MemoryIsTheOnlyFault : Type 0
 MemoryIsTheOnlyFault =
     (text : List ℕ) → IsRefused text OutOfMemory
@@ -37,8 +43,9 @@ MemoryIsTheOnlyFault =
 -- each position of a sound game meets criteria or does not
 abbrev pub EachPositionMeetsOrDoesNot : Type 0
 EachPositionMeetsOrDoesNot =
-    (lines : Lines) (fen : Option (List ℕ)) (items : List Item) (replay : Replay) → IsReplay lines fen items replay
-    → (heading : Heading) (alternatives : List (List (Condition (List ℕ)))) (plies : ℕ)
+    (lines : Lines) (fen : Option (List ℕ)) (items : List Item) (replay : Replay)
+    → IsReplay lines fen items replay
+    → (heading : Heading) (alternatives : List Conditions) (plies : ℕ)
     → Meets heading replay plies alternatives ⊎ (Meets heading replay plies alternatives → ⊥)
 
 -- men and the en passant square stand on the board
@@ -53,17 +60,21 @@ abbrev pub FlipIsUndone : Type 0
 FlipIsUndone = (men : Placement) → AreOnBoard men → flipped_men (flipped_men men) ≡ men
 
 -- all conditions have `either`
-abbrev pub AreTurned : List (Condition (List ℕ)) → Type 0
+abbrev pub AreTurned : List (PositionCondition (List ℕ)) → Type 0
 AreTurned [] = Unit {0}
 AreTurned (condition ∷ more) = IsTrue (is_turned condition) × AreTurned more
 
--- of one tags and moves, a position meets an alternative of such conditions exactly where its mirror does
+-- where all conditions on positions are such, a position meets an alternative exactly where its
+-- mirror does, with the same tags and moves
 abbrev pub SidesAreAlike : Type 0
 SidesAreAlike =
-    (heading : Heading) (replay : Replay) (ply : ℕ) (P : State) (conditions : List (Condition (List ℕ))) → StandsOnBoard P → AreTurned conditions
-    → AllHold heading replay ply P conditions ↔ AllHold heading replay ply (mirror P) conditions
+    (heading : Heading) (replay : Replay) (ply : ℕ) (P : State) (asked : Conditions)
+    → StandsOnBoard P → AreTurned asked.positions
+    → AllHold heading replay ply P asked ↔ AllHold heading replay ply (mirror P) asked
 
--- where a walk shows a position, a step by the code of a pseudo-legal move shows the position after the move
+-- where a walk shows a position, a step by the code of a pseudo-legal move shows the position after
+-- the move
 abbrev pub StepShowsNextPosition : Type 0
 StepShowsNextPosition =
-    (P : State) (m : Move) (c : PlyCode) (s : Sight) → IsPseudoLegal P m → IsCode P m c → IsSightOf P s → IsSightOf (after P m) (stepped s c)
+    (P : State) (m : Move) (c : PlyCode) (s : Sight) → IsPseudoLegal P m → IsCode P m c
+    → IsSightOf P s → IsSightOf (after P m) (stepped s c)

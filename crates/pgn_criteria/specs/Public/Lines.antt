@@ -1,5 +1,6 @@
 -- What the lines of a criteria file spell. Lines are parted by line feeds, words by blanks.
-use Rattle.std.specs.Prelude.{◌≡◌, ◌≢◌, ◌⊎◌, ◌++◌, ◌+◌, ◌≤◌, ◌<◌, ◌||◌, ◌==◌, ℕ, Bool, true, false, List, [], ◌∷◌, codes, IsTrue, length, map}
+use Rattle.std.specs.Prelude.{◌≡◌, ◌≢◌, ◌⊎◌, ◌++◌, ◌+◌, ◌≤◌, ◌<◌, ◌||◌, ◌==◌, ℕ, Bool, true, false}
+use Rattle.std.specs.Prelude.{List, [], ◌∷◌, codes, IsTrue, length, map}
 use Rattle.std.specs.List.{list_all}
 use Rattle.chess.specs.Public.Fen.{parted_at, is_distinct, is_digit, number_from}
 use Rattle.chess.specs.Public.Letters.{kind_letter}
@@ -16,17 +17,30 @@ use Rattle.pgn_criteria.specs.Public.Mirrors.{can_be_mirrored}
 use Rattle.pgn_criteria.specs.declared.compare.Comparison.{Comparison}
 use Rattle.pgn_criteria.specs.declared.compare.Comparison.TheVariants as compared
 use Rattle.pgn_criteria.specs.declared.compare.Relation.{Relation}
-use Rattle.pgn_criteria.specs.declared.compare.Relation.TheVariants.{Equal, Unequal, Less, LessOrEqual, Greater, GreaterOrEqual, Has, Begins}
+use Rattle.pgn_criteria.specs.declared.compare.Relation.TheVariants.{Equal, Unequal, Less}
+use Rattle.pgn_criteria.specs.declared.compare.Relation.TheVariants.{LessOrEqual, Greater}
+use Rattle.pgn_criteria.specs.declared.compare.Relation.TheVariants.{GreaterOrEqual, Has, Begins}
 use Rattle.pgn_criteria.specs.declared.material.Limit.{Limit}
-use Rattle.pgn_criteria.specs.declared.material.Limit.TheVariants.{Exactly, AtLeast, AtMost, AnyNumber}
+use Rattle.pgn_criteria.specs.declared.material.Limit.TheVariants.{Exactly, AtLeast, AtMost}
+use Rattle.pgn_criteria.specs.declared.material.Limit.TheVariants.{AnyNumber}
 use Rattle.pgn_criteria.specs.declared.material.Limits.{Limits}
 use Rattle.pgn_criteria.specs.declared.line.Meaning.{Meaning}
 use Rattle.pgn_criteria.specs.declared.line.Meaning.TheVariants.{Nothing, Or, Asks}
 use Rattle.pgn_criteria.specs.declared.parse.CriteriaError.{CriteriaError}
 use Rattle.pgn_criteria.specs.declared.parse.CriteriaError.TheVariants.{TooLong, Line, OutOfMemory}
+use Rattle.pgn_criteria.specs.Public.Conditions.{Conditions, no_conditions, with_condition}
 use Rattle.pgn_criteria.specs.declared.condition.Condition.{Condition}
-use Rattle.pgn_criteria.specs.declared.condition.Claim.{Claim}
-use Rattle.pgn_criteria.specs.declared.condition.Claim.TheVariants.{Tag, Fen, Flip, Material, Moves, Plies, Result, Next, Played, For, Count, Turn, Check, Mate, Stalemate}
+use Rattle.pgn_criteria.specs.declared.condition.Condition.TheVariants.{Game, Position, Move, Span}
+use Rattle.pgn_criteria.specs.declared.condition.GameClaim.{GameClaim}
+use Rattle.pgn_criteria.specs.declared.condition.GameClaim.TheVariants.{Tag, Moves, Plies, Result}
+use Rattle.pgn_criteria.specs.declared.condition.PositionClaim.{PositionClaim}
+use Rattle.pgn_criteria.specs.declared.condition.PositionClaim.TheVariants.{Fen, Flip, Material}
+use Rattle.pgn_criteria.specs.declared.condition.PositionClaim.TheVariants.{Turn, Check, Mate}
+use Rattle.pgn_criteria.specs.declared.condition.PositionClaim.TheVariants.{Stalemate}
+use Rattle.pgn_criteria.specs.declared.condition.MoveClaim.{MoveClaim}
+use Rattle.pgn_criteria.specs.declared.condition.MoveClaim.TheVariants.{Next, Played}
+use Rattle.pgn_criteria.specs.declared.condition.SpanClaim.{SpanClaim}
+use Rattle.pgn_criteria.specs.declared.condition.SpanClaim.TheVariants.{For, Count}
 
 -- blanks, which are spaces and tabs; or none
 abbrev pub AreBlanks : List ℕ → Type 0
@@ -75,17 +89,22 @@ pub data SpellsLimit : List ℕ → Limit → Type 0 where
 -- letters of kinds, each with its limit after it
 abbrev pub SpellsEntries : List ℕ → List (Kind × Limit) → Type 0
 SpellsEntries text [] = text ≡ []
-SpellsEntries text (entry ∷ more) = (own rest : List ℕ) × (text ≡ kind_letter entry.0 ∷ (own ++ rest)) × SpellsLimit own entry.1 × SpellsEntries rest more
+SpellsEntries text (entry ∷ more) = (own rest : List ℕ)
+    × (text ≡ kind_letter entry.0 ∷ (own ++ rest)) × SpellsLimit own entry.1
+    × SpellsEntries rest more
 
 -- the limit that is given to the kind: a kind that is not named has no men
 abbrev pub IsLimitIn : List (Kind × Limit) → Kind → Limit → Type 0
 IsLimitIn [] wanted limit = limit ≡ Exactly 0
-IsLimitIn (entry ∷ more) wanted limit = ((entry.0 ≡ wanted) × (limit ≡ entry.1)) ⊎ ((entry.0 ≢ wanted) × IsLimitIn more wanted limit)
+IsLimitIn (entry ∷ more) wanted limit =
+    ((entry.0 ≡ wanted) × (limit ≡ entry.1)) ⊎ ((entry.0 ≢ wanted) × IsLimitIn more wanted limit)
 
 -- the limits of a side: one or more kinds, no letter twice
 abbrev pub SpellsLimits : List ℕ → Limits → Type 0
-SpellsLimits text limits = (entries : List (Kind × Limit)) × (entries ≢ []) × SpellsEntries text entries
-    × IsTrue (is_distinct (map (λ entry. kind_letter entry.0) entries)) × ((kind : Kind) → IsLimitIn entries kind (limit_of limits kind))
+SpellsLimits text limits = (entries : List (Kind × Limit)) × (entries ≢ [])
+    × SpellsEntries text entries
+    × IsTrue (is_distinct (map (λ entry. kind_letter entry.0) entries))
+    × ((kind : Kind) → IsLimitIn entries kind (limit_of limits kind))
 
 -- a byte of a move's word: a letter, a digit, = or -
 abbrev pub is_move_byte : ℕ → Bool
@@ -93,11 +112,13 @@ is_move_byte b = is_letter b || is_digit b || b == 61 || b == 45
 
 -- a word for a move: *, or 2 to 7 of these bytes
 abbrev pub IsMoveWord : List ℕ → Type 0
-IsMoveWord word = (word ≡ codes "*") ⊎ ((2 ≤ length word) × (length word ≤ 7) × IsTrue (list_all is_move_byte word))
+IsMoveWord word = (word ≡ codes "*")
+    ⊎ ((2 ≤ length word) × (length word ≤ 7) × IsTrue (list_all is_move_byte word))
 
 -- a word for moves that are alike: 1 to 7 of these bytes and of *
 abbrev pub IsMoveLike : List ℕ → Type 0
-IsMoveLike word = (1 ≤ length word) × (length word ≤ 7) × IsTrue (list_all (λ b. is_move_byte b || b == 42) word)
+IsMoveLike word = (1 ≤ length word) × (length word ≤ 7)
+    × IsTrue (list_all (λ b. is_move_byte b || b == 42) word)
 
 -- the name of a tag: one or more of the bytes of names
 abbrev pub IsName : List ℕ → Type 0
@@ -111,11 +132,8 @@ AreNames (name ∷ more) = IsName name × AreNames more
 -- one or more such words with blanks between
 pub data AreMoveWords : List ℕ → Type 0 where
   a_word : (word : List ℕ) → IsMoveWord word → AreMoveWords word
-  and_words : (word gap words : List ℕ) → IsMoveWord word → IsGap gap → AreMoveWords words → AreMoveWords (word ++ (gap ++ words))
-
--- `fen`, one or more blanks, and the pattern
-abbrev pub SpellsFen : List ℕ → List ℕ → Type 0
-SpellsFen text pattern = (gap : List ℕ) × (text ≡ codes "fen" ++ (gap ++ pattern)) × IsGap gap × IsPattern pattern
+  and_words : (word gap words : List ℕ) → IsMoveWord word → IsGap gap → AreMoveWords words
+      → AreMoveWords (word ++ (gap ++ words))
 
 -- a number of plies: 1 to 4 digits
 pub record SpellsCount (text : List ℕ) (count : ℕ) : Type 0 where
@@ -126,53 +144,77 @@ pub record SpellsCount (text : List ℕ) (count : ℕ) : Type 0 where
 -- a key word, a comparison and a number of plies, with one or more blanks between
 abbrev pub SpellsCompared : List ℕ → List ℕ → Comparison → ℕ → Type 0
 SpellsCompared key text comparison count = (first second digits : List ℕ)
-    × (text ≡ key ++ (first ++ (comparison_text comparison ++ (second ++ digits)))) × IsGap first × IsGap second × SpellsCount digits count
+    × (text ≡ key ++ (first ++ (comparison_text comparison ++ (second ++ digits)))) × IsGap first
+    × IsGap second × SpellsCount digits count
 
 -- a text that a value is to contain has at most 255 bytes, as a string of a game has (PGN 7)
 abbrev pub CanBeCompared : Relation → List ℕ → Type 0
 CanBeCompared relation contents = relation ≡ Has → length contents ≤ 255
 
--- the text of a claim: its words with one or more blanks between; the names of tags have | between, and the contents of a string quotes about
-abbrev pub SpellsClaim : List ℕ → Claim (List ℕ) → Type 0
-SpellsClaim text (Tag names relation contents) = (first second third : List ℕ)
-    × (text ≡ codes "tag" ++ (first ++ (names ++ (second ++ (relation_text relation ++ (third ++ (34 ∷ (contents ++ 34 ∷ []))))))))
-    × IsGap first × IsGap second × IsGap third × AreNames (parted_at 124 names) × IsContents contents × CanBeCompared relation contents
-SpellsClaim text (Fen pattern) = SpellsFen text pattern
-SpellsClaim text (Flip pattern) = (gap own : List ℕ) × (text ≡ codes "flip" ++ (gap ++ own)) × IsGap gap × SpellsFen own pattern
-SpellsClaim text (Material white black) = (first second third of_white of_black : List ℕ)
-    × (text ≡ codes "material" ++ (first ++ (of_white ++ (second ++ (codes "v" ++ (third ++ of_black))))))
-    × IsGap first × IsGap second × IsGap third × SpellsLimits of_white white × SpellsLimits of_black black
-SpellsClaim text (Moves words) = (gap : List ℕ) × (text ≡ codes "moves" ++ (gap ++ words)) × IsGap gap × AreMoveWords words
-SpellsClaim text (Plies comparison count) = SpellsCompared (codes "plies") text comparison count
-SpellsClaim text (Result result) = (gap : List ℕ) × (text ≡ codes "result" ++ (gap ++ result)) × IsGap gap × IsResult result
-SpellsClaim text (Next word) = (gap : List ℕ) × (text ≡ codes "next" ++ (gap ++ word)) × IsGap gap × IsMoveLike word
-SpellsClaim text (Played word) = (gap : List ℕ) × (text ≡ codes "played" ++ (gap ++ word)) × IsGap gap × IsMoveLike word
-SpellsClaim text (For count) = (gap digits : List ℕ) × (text ≡ codes "for" ++ (gap ++ digits)) × IsGap gap × SpellsCount digits count × (1 ≤ count)
-SpellsClaim text (Count comparison count) = SpellsCompared (codes "count") text comparison count
-SpellsClaim text (Turn side) = (gap : List ℕ) × (text ≡ codes "turn" ++ (gap ++ side_text side)) × IsGap gap
-SpellsClaim text Check = text ≡ codes "check"
-SpellsClaim text Mate = text ≡ codes "mate"
-SpellsClaim text Stalemate = text ≡ codes "stalemate"
+-- a key word, and after one or more blanks what it is about
+abbrev pub SpellsAfter : List ℕ → List ℕ → List ℕ → Type 0
+SpellsAfter key text own = (gap : List ℕ) × (text ≡ key ++ (gap ++ own)) × IsGap gap
 
--- the claims that can be denied: all but `for` and `count`
-abbrev pub can_be_denied : {T : Type 0} → Claim T → Bool
-can_be_denied (For count) = false
-can_be_denied (Count comparison count) = false
-can_be_denied claim = true
+-- the text of a claim on the game: its words with one or more blanks between; the names of tags
+-- have | between, and the contents of a string
+-- quotes about
+abbrev pub SpellsGame : List ℕ → GameClaim (List ℕ) → Type 0
+SpellsGame text (Tag names relation contents) = (first second third : List ℕ)
+    × (text ≡ codes "tag"
+    ++ (first
+    ++ (names
+    ++ (second ++ (relation_text relation ++ (third ++ (34 ∷ (contents ++ 34 ∷ []))))))))
+    × IsGap first × IsGap second × IsGap third × AreNames (parted_at 124 names)
+    × IsContents contents × CanBeCompared relation contents
+SpellsGame text (Moves words) = SpellsAfter (codes "moves") text words × AreMoveWords words
+SpellsGame text (Plies comparison count) = SpellsCompared (codes "plies") text comparison count
+SpellsGame text (Result result) = SpellsAfter (codes "result") text result × IsResult result
 
--- the text of a claim, or `not`, one or more blanks, and that of a claim that can be denied
-abbrev pub SpellsTaken : List ℕ → Bool → Claim (List ℕ) → Type 0
-SpellsTaken text false claim = SpellsClaim text claim
-SpellsTaken text true claim = (gap own : List ℕ) × (text ≡ codes "not" ++ (gap ++ own)) × IsGap gap × IsTrue (can_be_denied claim) × SpellsClaim own claim
+-- of one on a position
+abbrev pub SpellsPosition : List ℕ → PositionClaim (List ℕ) → Type 0
+SpellsPosition text (Fen pattern) = SpellsAfter (codes "fen") text pattern × IsPattern pattern
+SpellsPosition text (Flip pattern) = (own : List ℕ) × SpellsAfter (codes "flip") text own
+    × SpellsAfter (codes "fen") own pattern × IsPattern pattern
+SpellsPosition text (Material white black) = (first second third of_white of_black : List ℕ)
+    × (text ≡ codes "material"
+    ++ (first ++ (of_white ++ (second ++ (codes "v" ++ (third ++ of_black))))))
+    × IsGap first × IsGap second × IsGap third × SpellsLimits of_white white
+    × SpellsLimits of_black black
+SpellsPosition text (Turn side) = SpellsAfter (codes "turn") text (side_text side)
+SpellsPosition text Check = text ≡ codes "check"
+SpellsPosition text Mate = text ≡ codes "mate"
+SpellsPosition text Stalemate = text ≡ codes "stalemate"
+
+-- of one on the moves before and after a position
+abbrev pub SpellsMove : List ℕ → MoveClaim (List ℕ) → Type 0
+SpellsMove text (Next word) = SpellsAfter (codes "next") text word × IsMoveLike word
+SpellsMove text (Played word) = SpellsAfter (codes "played") text word × IsMoveLike word
+
+-- of one on the plies at which the other conditions hold
+abbrev pub SpellsSpan : List ℕ → SpanClaim → Type 0
+SpellsSpan text (For count) = (digits : List ℕ) × SpellsAfter (codes "for") text digits
+    × SpellsCount digits count × (1 ≤ count)
+SpellsSpan text (Count comparison count) = SpellsCompared (codes "count") text comparison count
+
+-- the text of a claim, or where it is denied, `not`, one or more blanks, and that text
+abbrev pub SpellsTaken : {C : Type 0} → (List ℕ → C → Type 0) → List ℕ → Bool → C → Type 0
+SpellsTaken IsText text false claim = IsText text claim
+SpellsTaken IsText text true claim =
+    (own : List ℕ) × SpellsAfter (codes "not") text own × IsText own claim
 
 -- such a text, or `either`, one or more blanks, and one of a claim that can be made of the mirror
-abbrev pub SpellsTurned : List ℕ → Bool → Bool → Claim (List ℕ) → Type 0
-SpellsTurned text false denied claim = SpellsTaken text denied claim
-SpellsTurned text true denied claim = (gap own : List ℕ) × (text ≡ codes "either" ++ (gap ++ own)) × IsGap gap × IsTrue (can_be_mirrored claim) × SpellsTaken own denied claim
+abbrev pub SpellsTurned : List ℕ → Bool → Bool → PositionClaim (List ℕ) → Type 0
+SpellsTurned text false denied claim = SpellsTaken SpellsPosition text denied claim
+SpellsTurned text true denied claim =
+    (own : List ℕ) × SpellsAfter (codes "either") text own × IsTrue (can_be_mirrored claim)
+    × SpellsTaken SpellsPosition own denied claim
 
--- the text of a condition
+-- the text of a condition: any but one of a span can be denied
 abbrev pub SpellsCondition : List ℕ → Condition (List ℕ) → Type 0
-SpellsCondition text condition = SpellsTurned text condition.is_either condition.is_denied condition.claim
+SpellsCondition text (Game own) = SpellsTaken SpellsGame text own.is_denied own.claim
+SpellsCondition text (Position own) = SpellsTurned text own.is_either own.is_denied own.claim
+SpellsCondition text (Move own) = SpellsTaken SpellsMove text own.is_denied own.claim
+SpellsCondition text (Span claim) = SpellsSpan text claim
 
 -- the text of a line: nothing, or a comment, which begins with #; `or`; a condition
 abbrev pub Spells : List ℕ → Meaning (List ℕ) → Type 0
@@ -195,35 +237,40 @@ pub record IsLine (line : List ℕ) (means : Meaning (List ℕ)) : Type 0 where
 -- what the lines mean, one after the other
 abbrev pub AreLines : List (List ℕ) → List (Meaning (List ℕ)) → Type 0
 AreLines [] means = means ≡ []
-AreLines (line ∷ lines) means = (own : Meaning (List ℕ)) × (more : List (Meaning (List ℕ))) × (means ≡ own ∷ more) × IsLine line own × AreLines lines more
+AreLines (line ∷ lines) means = (own : Meaning (List ℕ)) × (more : List (Meaning (List ℕ)))
+    × (means ≡ own ∷ more) × IsLine line own × AreLines lines more
 
--- a condition before the others of the first alternative
-abbrev pub onto_first : Condition (List ℕ) → List (List (Condition (List ℕ))) → List (List (Condition (List ℕ)))
-onto_first condition [] = (condition ∷ []) ∷ []
-onto_first condition (first ∷ more) = (condition ∷ first) ∷ more
+-- one more condition in the first alternative
+abbrev pub onto_first : Condition (List ℕ) → List Conditions → List Conditions
+onto_first condition [] = with_condition condition no_conditions ∷ []
+onto_first condition (first ∷ more) = with_condition condition first ∷ more
 
 -- the alternatives: each `or` begins another, so there is always one, which may have no conditions
-abbrev pub alternatives_of : List (Meaning (List ℕ)) → List (List (Condition (List ℕ)))
-alternatives_of [] = [] ∷ []
+abbrev pub alternatives_of : List (Meaning (List ℕ)) → List Conditions
+alternatives_of [] = no_conditions ∷ []
 alternatives_of (Nothing ∷ more) = alternatives_of more
-alternatives_of (Or ∷ more) = [] ∷ alternatives_of more
+alternatives_of (Or ∷ more) = no_conditions ∷ alternatives_of more
 alternatives_of (Asks condition ∷ more) = onto_first condition (alternatives_of more)
 
 -- the lines of the text spell the alternatives
-abbrev pub SpellsCriteria : List ℕ → List (List (Condition (List ℕ))) → Type 0
-SpellsCriteria text alternatives = (means : List (Meaning (List ℕ))) × AreLines (parted_at 10 text) means × (alternatives ≡ alternatives_of means)
+abbrev pub SpellsCriteria : List ℕ → List Conditions → Type 0
+SpellsCriteria text alternatives = (means : List (Meaning (List ℕ)))
+    × AreLines (parted_at 10 text) means × (alternatives ≡ alternatives_of means)
 
 -- the text is accepted: it has at most 65,536 bytes, and spells these alternatives
-abbrev pub Accepts : List ℕ → List (List (Condition (List ℕ))) → Type 0
+abbrev pub Accepts : List ℕ → List Conditions → Type 0
 Accepts text alternatives = (length text ≤ 65536) × SpellsCriteria text alternatives
 
 -- the line with this number, counted from 1, is the first that has no meaning
 abbrev pub IsFirstBad : List (List ℕ) → ℕ → Type 0
-IsFirstBad lines number = (before after : List (List ℕ)) × (bad : List ℕ) × (lines ≡ before ++ bad ∷ after) × (number ≡ length before + 1)
-    × ((means : List (Meaning (List ℕ))) × AreLines before means) × ((means : Meaning (List ℕ)) → IsLine bad means → ⊥)
+IsFirstBad lines number = (before after : List (List ℕ)) × (bad : List ℕ)
+    × (lines ≡ before ++ bad ∷ after) × (number ≡ length before + 1)
+    × ((means : List (Meaning (List ℕ))) × AreLines before means)
+    × ((means : Meaning (List ℕ)) → IsLine bad means → ⊥)
 
--- why a text is refused: it is too long; else a line has no meaning; memory runs out only where the text is accepted
+-- why a text is refused: it is too long; else a line has no meaning; memory runs out only where the
+-- text is accepted
 abbrev pub IsRefused : List ℕ → CriteriaError → Type 0
 IsRefused text TooLong = 65536 < length text
 IsRefused text (Line number) = (length text ≤ 65536) × IsFirstBad (parted_at 10 text) number
-IsRefused text OutOfMemory = (alternatives : List (List (Condition (List ℕ)))) × Accepts text alternatives
+IsRefused text OutOfMemory = (alternatives : List Conditions) × Accepts text alternatives

@@ -1,6 +1,8 @@
--- How many men of each kind a side has. A line `material` gives a limit for each of the six kinds of each side; a kind that it does not
+-- How many men of each kind a side has. A line `material` gives a limit for each of the six kinds
+-- of each side; a kind that it does not
 -- name must be missing, kings included.
-use Rattle.std.specs.Prelude.{◌≡◌, ◌≤◌, ◌==◌, ◌++◌, ℕ, zero, suc, Bool, false, List, [], Option, Some, None, count_by}
+use Rattle.std.specs.Prelude.{◌≡◌, ◌≤◌, ◌==◌, ◌++◌, ℕ, zero, suc, Bool, false, List, [], Option}
+use Rattle.std.specs.Prelude.{Some, None, count_by}
 use Rattle.chess.specs.Public.Placements.{Placement}
 use Rattle.chess.specs.Public.Letters.{man_letter}
 use Rattle.chess.specs.Public.Fen.{row}
@@ -10,7 +12,8 @@ use Rattle.chess.specs.declared.board.man.Side.TheVariants.{White, Black}
 use Rattle.chess.specs.declared.board.man.Kind.{Kind}
 use Rattle.chess.specs.declared.board.man.Kind.TheVariants.{King, Queen, Rook, Bishop, Knight, Pawn}
 use Rattle.pgn_criteria.specs.declared.material.Limit.{Limit}
-use Rattle.pgn_criteria.specs.declared.material.Limit.TheVariants.{Exactly, AtLeast, AtMost, AnyNumber}
+use Rattle.pgn_criteria.specs.declared.material.Limit.TheVariants.{Exactly, AtLeast, AtMost}
+use Rattle.pgn_criteria.specs.declared.material.Limit.TheVariants.{AnyNumber}
 use Rattle.pgn_criteria.specs.declared.material.Limits.{Limits}
 
 -- what stands on the squares of the ranks 1 to n, from the a-file to the h-file of each
@@ -45,7 +48,8 @@ limit_of limits Pawn = limits.pawn
 
 -- of each kind the side has as many men as its limit allows
 abbrev pub FitsSide : Placement → Side → Limits → Type 0
-FitsSide men side limits = (kind : Kind) → Allows (limit_of limits kind) (count_of men (record { side = side; kind = kind }))
+FitsSide men side limits = (kind : Kind)
+    → Allows (limit_of limits kind) (count_of men (record { side = side; kind = kind }))
 
 -- both sides have as many men of each kind as are allowed
 abbrev pub FitsMaterial : Placement → Limits → Limits → Type 0

@@ -6,8 +6,8 @@ use Rattle.chess.specs.Public.Positions.{State}
 use Rattle.chess.specs.declared.board.man.Man.{Man}
 use Rattle.chess.specs.declared.board.man.CastlingRights.{CastlingRights}
 use Rattle.pgn_criteria.specs.Public.Patterns.{FitsPattern}
-use Rattle.pgn_criteria.specs.declared.condition.Claim.{Claim}
-use Rattle.pgn_criteria.specs.declared.condition.Claim.TheVariants.{Fen, Flip, Material, Turn}
+use Rattle.pgn_criteria.specs.declared.condition.PositionClaim.{PositionClaim}
+use Rattle.pgn_criteria.specs.declared.condition.PositionClaim.TheVariants.{Check, Mate, Stalemate}
 
 -- the man of the same kind of the other side
 abbrev pub other_man : Man → Man
@@ -21,7 +21,8 @@ across s = record { file = s.file; rank = 9 - s.rank }
 abbrev pub beside : Place → Place
 beside s = record { file = 9 - s.file; rank = s.rank }
 
--- the men with sides exchanged and ranks turned: on each square stands the man of the other side of the one across
+-- the men with sides exchanged and ranks turned: on each square stands the man of the other side of
+-- the one across
 unfoldable pub mirrored_men : Placement → Placement
 mirrored_men men = men_of (λ n. option_map other_man (man_at men (across (square_at n))))
 
@@ -54,9 +55,8 @@ abbrev pub FitsEitherWay : Placement → List ℕ → Type 0
 FitsEitherWay men pattern = FitsPattern men pattern ⊎ FitsPattern (flipped_men men) pattern
 
 -- the claims that can be made of the mirror: those on the men and on the side to move
-abbrev pub can_be_mirrored : {T : Type 0} → Claim T → Bool
-can_be_mirrored (Fen pattern) = true
-can_be_mirrored (Flip pattern) = true
-can_be_mirrored (Material white black) = true
-can_be_mirrored (Turn side) = true
-can_be_mirrored claim = false
+abbrev pub can_be_mirrored : {T : Type 0} → PositionClaim T → Bool
+can_be_mirrored Check = false
+can_be_mirrored Mate = false
+can_be_mirrored Stalemate = false
+can_be_mirrored claim = true

@@ -1,4 +1,5 @@
--- Words that fit the moves of a main line. A line `moves` gives the first word to the first move, the next to the next; moves after the
+-- Words that fit the moves of a main line. A line `moves` gives the first word to the first move,
+-- the next to the next; moves after the
 -- last word are free.
 use Rattle.std.specs.Prelude.{◌≡◌, ◌⊎◌, ◌+◌, ◌++◌, ℕ, if◌then◌else◌, List, [], ◌∷◌, codes, Some}
 use Rattle.std.specs.List.{slice_get}
@@ -13,9 +14,11 @@ abbrev pub without_marks : List ℕ → List ℕ
 without_marks [] = []
 without_marks (b ∷ x) = if is_check_mark b then without_marks x else b ∷ without_marks x
 
--- the word is *, which fits any move, or it is the move's standard text in this position (PGN 8.2.3) without its mark
+-- the word is *, which fits any move, or it is the move's standard text in this position (PGN
+-- 8.2.3) without its mark
 abbrev pub FitsWord : State → Move → List ℕ → Type 0
-FitsWord P m word = (word ≡ codes "*") ⊎ ((text : List ℕ) × IsSan P m text × (word ≡ without_marks text))
+FitsWord P m word = (word ≡ codes "*")
+    ⊎ ((text : List ℕ) × IsSan P m text × (word ≡ without_marks text))
 
 -- the main line has a move after so many plies, and the word fits it
 pub record FitsMove (replay : Replay) (plies : ℕ) (word : List ℕ) : Type 0 where
@@ -25,7 +28,8 @@ pub record FitsMove (replay : Replay) (plies : ℕ) (word : List ℕ) : Type 0 w
   pub played : slice_get replay.played plies ≡ Some move
   pub fits : FitsWord position move word
 
--- each word fits its move, the first word the move after so many plies; so there are at least as many moves as words
+-- each word fits its move, the first word the move after so many plies; so there are at least as
+-- many moves as words
 abbrev pub FitMoves : Replay → ℕ → List (List ℕ) → Type 0
 FitMoves replay plies [] = Unit {0}
 FitMoves replay plies (word ∷ more) = FitsMove replay plies word × FitMoves replay (plies + 1) more
@@ -34,9 +38,11 @@ FitMoves replay plies (word ∷ more) = FitsMove replay plies word × FitMoves r
 abbrev pub IsLike : List ℕ → List ℕ → Type 0
 IsLike [] text = text ≡ []
 IsLike (b ∷ word) text =
-    ((b ≡ 42) × ((some rest : List ℕ) × (text ≡ some ++ rest) × IsLike word rest)) ⊎ ((rest : List ℕ) × (text ≡ b ∷ rest) × IsLike word rest)
+    ((b ≡ 42) × ((some rest : List ℕ) × (text ≡ some ++ rest) × IsLike word rest))
+    ⊎ ((rest : List ℕ) × (text ≡ b ∷ rest) × IsLike word rest)
 
--- after so many plies the main line goes on with a move whose standard text (PGN 8.2.3) without its mark is like the word
+-- after so many plies the main line goes on with a move whose standard text (PGN 8.2.3) without its
+-- mark is like the word
 pub record GoesOnBy (replay : Replay) (plies : ℕ) (word : List ℕ) : Type 0 where
   pub position : State
   pub move : Move

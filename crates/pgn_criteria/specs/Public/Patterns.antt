@@ -1,7 +1,11 @@
--- Patterns of positions: eight ranks of items, from rank 8 down to rank 1, with / between. An item is one byte, or a set of men between
--- brackets. It takes some squares that stand side by side, and a rank matches where its eight squares, from the a-file on, can be parted
--- among its items in their order. A text of FEN's first field is a pattern that one placement matches.
-use Rattle.std.specs.Prelude.{◌≡◌, ◌≢◌, ◌≤◌, ◌-◌, ◌++◌, ◌==◌, if◌then◌else◌, ℕ, Bool, true, false, List, [], ◌∷◌, Option, Some, codes, IsTrue}
+-- Patterns of positions: eight ranks of items, from rank 8 down to rank 1, with / between. An item
+-- is one byte, or a set of men between
+-- brackets. It takes some squares that stand side by side, and a rank matches where its eight
+-- squares, from the a-file on, can be parted
+-- among its items in their order. A text of FEN's first field is a pattern that one placement
+-- matches.
+use Rattle.std.specs.Prelude.{◌≡◌, ◌≢◌, ◌≤◌, ◌-◌, ◌++◌, ◌==◌, if◌then◌else◌, ℕ, Bool, true, false}
+use Rattle.std.specs.Prelude.{List, [], ◌∷◌, Option, Some, codes, IsTrue}
 use Rattle.std.specs.List.{list_all}
 use Rattle.chess.specs.Public.Placements.{Placement}
 use Rattle.chess.specs.Public.Letters.{man_letter}
@@ -15,7 +19,8 @@ AreMen letters = (letters ≢ []) × IsTrue (list_all (λ b. has_byte b (codes "
 
 -- the text is an item that takes these squares, which stand side by side
 pub data IsStretch : List ℕ → List (Option Man) → Type 0 where
-  -- what it spells in FEN: a letter of KQRBNPkqrbnp that man, a digit from 1 to 8 that many empty squares
+  -- what it spells in FEN: a letter of KQRBNPkqrbnp that man, a digit from 1 to 8 that many empty
+  -- squares
   spelled : (b : ℕ) (own : List (Option Man)) → IsSquares b own → IsStretch (b ∷ []) own
   -- ? one square, with a man or without
   any : (square : Option Man) → IsStretch (63 ∷ []) (square ∷ [])
@@ -25,25 +30,35 @@ pub data IsStretch : List ℕ → List (Option Man) → Type 0 where
   black : (man : Man) → man.side ≡ Black → IsStretch (97 ∷ []) (Some man ∷ [])
   -- * any number of squares, also none
   many : (own : List (Option Man)) → IsStretch (42 ∷ []) own
-  -- [KQp] one square with one of the men named; [^KQp] one square, with a man or without, that has none of them
-  among : (letters : List ℕ) (man : Man) → AreMen letters → IsTrue (has_byte (man_letter man) letters) → IsStretch (91 ∷ (letters ++ 93 ∷ [])) (Some man ∷ [])
-  other : (letters : List ℕ) (square : Option Man) → AreMen letters → ((man : Man) → square ≡ Some man → has_byte (man_letter man) letters ≡ false) → IsStretch (91 ∷ 94 ∷ (letters ++ 93 ∷ [])) (square ∷ [])
+  -- [KQp] one square with one of the men named; [^KQp] one square, with a man or without, that has
+  -- none of them
+  among : (letters : List ℕ) (man : Man) → AreMen letters
+      → IsTrue (has_byte (man_letter man) letters)
+      → IsStretch (91 ∷ (letters ++ 93 ∷ [])) (Some man ∷ [])
+  other : (letters : List ℕ) (square : Option Man) → AreMen letters
+      → ((man : Man) → square ≡ Some man → has_byte (man_letter man) letters ≡ false)
+      → IsStretch (91 ∷ 94 ∷ (letters ++ 93 ∷ [])) (square ∷ [])
 
--- the items of a text, where it stands in a set or not: what stands from [ through the next ] is one item, and so is each other byte
+-- the items of a text, where it stands in a set or not: what stands from [ through the next ] is
+-- one item, and so is each other byte
 abbrev pub items_where : Bool → List ℕ → List (List ℕ)
 items_where in_set [] = []
-items_where true (b ∷ x) = if b == 93 then (b ∷ []) ∷ items_where false x else before_first b (items_where true x)
-items_where false (b ∷ x) = if b == 91 then before_first b (items_where true x) else (b ∷ []) ∷ items_where false x
+items_where true (b ∷ x) = if b == 93 then (b ∷ []) ∷ items_where false x
+    else before_first b (items_where true x)
+items_where false (b ∷ x) = if b == 91 then before_first b (items_where true x)
+    else (b ∷ []) ∷ items_where false x
 
 -- the squares can be split into stretches that the items take, one each and in their order
 abbrev pub CanBeSplit : List (List ℕ) → List (Option Man) → Type 0
 CanBeSplit [] squares = squares ≡ []
-CanBeSplit (item ∷ items) squares = (own more : List (Option Man)) × (squares ≡ own ++ more) × IsStretch item own × CanBeSplit items more
+CanBeSplit (item ∷ items) squares = (own more : List (Option Man)) × (squares ≡ own ++ more)
+    × IsStretch item own × CanBeSplit items more
 
 -- each rank from rank n down to rank 1 matches its items
 abbrev pub FitRanks : Placement → ℕ → List (List ℕ) → Type 0
 FitRanks men n [] = n ≡ 0
-FitRanks men n (rank ∷ more) = (1 ≤ n) × CanBeSplit (items_where false rank) (row men n) × FitRanks men (n - 1) more
+FitRanks men n (rank ∷ more) = (1 ≤ n) × CanBeSplit (items_where false rank) (row men n)
+    × FitRanks men (n - 1) more
 
 -- the men stand as the pattern says
 abbrev pub FitsPattern : Placement → List ℕ → Type 0
@@ -52,7 +67,9 @@ FitsPattern men pattern = FitRanks men 8 (parted_at 47 pattern)
 -- that many ranks, each of one or more items that take some squares
 abbrev pub AreRanks : ℕ → List (List ℕ) → Type 0
 AreRanks n [] = n ≡ 0
-AreRanks n (rank ∷ more) = (1 ≤ n) × ((rank ≢ []) × (squares : List (Option Man)) × CanBeSplit (items_where false rank) squares) × AreRanks (n - 1) more
+AreRanks n (rank ∷ more) = (1 ≤ n)
+    × ((rank ≢ []) × (squares : List (Option Man)) × CanBeSplit (items_where false rank) squares)
+    × AreRanks (n - 1) more
 
 -- a pattern: eight ranks with / between
 abbrev pub IsPattern : List ℕ → Type 0

@@ -7,21 +7,26 @@ use Rattle.pgn_game.specs.Public.PlyCodes.{PlyCode, code_of, moved}
 use Rattle.pgn_game.specs.Public.Replays.{Replay}
 use Rattle.pgn_criteria.specs.Public.Meeting.{Heading, SomeHold}
 use Rattle.pgn_criteria.specs.Public.Walks.{IsSeenOf}
-use Rattle.pgn_criteria.specs.declared.condition.Condition.{Condition}
+use Rattle.pgn_criteria.specs.Public.Conditions.{Conditions}
 
 -- the codes that stand one after the other in bytes
 abbrev pub codes_in : List ℕ → List PlyCode
 codes_in (a ∷ b ∷ d ∷ rest) = code_of a b d ∷ codes_in rest
 codes_in _ = []
 
--- neither what is seen before the codes nor what is seen after any of them has the fact: the men, the side to move, that it is in check, and that
+-- neither what is seen before the codes nor what is seen after any of them has the fact: the men,
+-- the side to move, that it is in check, and that
 -- it has no move
-abbrev pub NowhereSeen : (Placement → Side → Type 0 → Type 0 → Type 0) → Placement → Side → Type 0 → Type 0 → List PlyCode → Type 0
+abbrev pub NowhereSeen : (Placement → Side → Type 0 → Type 0 → Type 0) → Placement → Side → Type 0
+    → Type 0 → List PlyCode → Type 0
 NowhereSeen fact men turn Checked Stuck [] = ¬ fact men turn Checked Stuck
 NowhereSeen fact men turn Checked Stuck (code ∷ codes) =
-    (¬ fact men turn Checked Stuck) × NowhereSeen fact (moved men code) (opposite turn) (IsTrue code.check) (IsTrue code.stuck) codes
+    (¬ fact men turn Checked Stuck)
+    × NowhereSeen fact (moved men code) (opposite turn) (IsTrue code.check) (IsTrue code.stuck)
+    codes
 
 -- this is seen of a position that meets criteria
-abbrev pub MeetsSeen : List (List (Condition (List ℕ))) → Placement → Side → Type 0 → Type 0 → Type 0
+abbrev pub MeetsSeen : List Conditions → Placement → Side → Type 0 → Type 0 → Type 0
 MeetsSeen criteria men turn Checked Stuck =
-    (P : State) × IsSeenOf P men turn Checked Stuck × (heading : Heading) × (replay : Replay) × (ply : ℕ) × SomeHold heading replay ply P criteria
+    (P : State) × IsSeenOf P men turn Checked Stuck × (heading : Heading) × (replay : Replay)
+    × (ply : ℕ) × SomeHold heading replay ply P criteria

@@ -14,11 +14,12 @@ pub record Sight : Type 0 where
   pub stuck : Bool
 
 -- these men, this side and these two facts are what is seen of the position
-pub record IsSeenOf (P : State) (placed : Placement) (side : Side) (Checked Stuck : Type 0) : Type 0 where
-  pub men : placed ≡ P.men
-  pub turn : side ≡ P.turn
-  pub check : Checked ↔ IsCheck P.men P.turn
-  pub stuck : Stuck ↔ (¬ HasMove P)
+pub record IsSeenOf (P : State) (placed : Placement) (side : Side) (Checked Stuck : Type 0) : Type 0
+  where
+    pub men : placed ≡ P.men
+    pub turn : side ≡ P.turn
+    pub check : Checked ↔ IsCheck P.men P.turn
+    pub stuck : Stuck ↔ (¬ HasMove P)
 
 -- the sight is one of that position
 abbrev pub IsSightOf : State → Sight → Type 0
@@ -26,4 +27,5 @@ IsSightOf P s = IsSeenOf P s.men s.turn (IsTrue s.check) (IsTrue s.stuck)
 
 -- what is seen after one more ply
 abbrev pub stepped : Sight → PlyCode → Sight
-stepped s c = record { men = moved s.men c; turn = opposite s.turn; check = c.check; stuck = c.stuck }
+stepped s c =
+    record { men = moved s.men c; turn = opposite s.turn; check = c.check; stuck = c.stuck }

@@ -21,7 +21,8 @@ fn lets_one_king(limits: &Limits) -> bool
 
 /// Whether the limits of a side bar the one king that it has in every position.
 pub(super) fn let_no_kings(white: &Limits, black: &Limits) -> bool
-    ensures { IsTrue result → (men : Placement) → ((side : Side) → count_of men (king_of side) ≡ 1) → FitsMaterial men white.now black.now → ⊥ }
+    ensures { IsTrue result → (men : Placement) → ((side : Side) → count_of men (king_of side) ≡ 1)
+        → FitsMaterial men white.now black.now → ⊥ }
 {
     if !lets_one_king(white) {
         return true;
@@ -34,7 +35,8 @@ pub(super) fn let_no_kings(white: &Limits, black: &Limits) -> bool
 
 /// How many squares the item takes at least.
 fn least_of(item: Item) -> u8
-    ensures { (text : List ℕ) (own : List (Option Man)) → Reads text item → IsStretch text own → result ≤ length own }
+    ensures { (text : List ℕ) (own : List (Option Man)) → Reads text item → IsStretch text own
+        → result ≤ length own }
 {
     match item {
         Item::Run(_, count) => count,
@@ -44,7 +46,8 @@ fn least_of(item: Item) -> u8
 
 /// How many squares the items take at least. An item that takes any number takes none.
 fn least_in(items: &[u8]) -> u8
-    ensures { (own : List (Option Man)) → CanBeSplit (items_of items.now) own → result ≤ length own }
+    ensures { (own : List (Option Man)) → CanBeSplit (items_of items.now) own
+        → result ≤ length own }
 {
     let mut least = 0u8;
     let mut rest = items;
@@ -61,7 +64,8 @@ fn least_in(items: &[u8]) -> u8
 
 /// Whether the items of a rank may take its eight squares, as far as their number says.
 fn may_take_eight(items: &[u8]) -> bool
-    ensures { result ≡ false → (own : List (Option Man)) → CanBeSplit (items_of items.now) own → length own ≡ 8 → ⊥ }
+    ensures { result ≡ false → (own : List (Option Man)) → CanBeSplit (items_of items.now) own
+        → length own ≡ 8 → ⊥ }
 {
     match size_of(items) {
         Some(size) => size == 8,

@@ -1,6 +1,7 @@
-//! Numbers and dates that are compared with a tag's value, byte by byte where not both are digits alone.
+//! Numbers and dates that are compared with a tag's value, byte by byte where not both are digits
+//! alone.
 use crate::compare::Relation;
-use crate::condition::{Claim, Condition};
+use crate::condition::{GameClaim, Stated};
 
 const ABOVE: &str =
     "tag: ? is above every digit, so unknown values are found; tag NAME <= \"9999\" beside it keeps them out";
@@ -37,7 +38,8 @@ fn bound_of(relation: Relation, is_denied: bool) -> Option<Bound> {
     }
 }
 
-/// Whether the text is a number or a date: it begins with a digit, and has digits, dots, question marks and dashes alone.
+/// Whether the text is a number or a date: it begins with a digit, and has digits, dots, question
+/// marks and dashes alone.
 fn is_number_or_date(text: &[u8]) -> bool {
     let [b'0'..=b'9', rest @ ..] = text else {
         return false;
@@ -52,8 +54,8 @@ fn are_digits(text: &[u8]) -> bool {
 }
 
 /// Whether the condition keeps values of the tag out that are unknown on that side of it.
-fn is_guard(condition: &Condition<Vec<u8>>, tag: &[u8], bound: Bound) -> bool {
-    let Claim::Tag {
+fn is_guard(condition: &Stated<GameClaim<Vec<u8>>>, tag: &[u8], bound: Bound) -> bool {
+    let GameClaim::Tag {
         names,
         relation,
         contents,
@@ -72,10 +74,10 @@ fn is_guard(condition: &Condition<Vec<u8>>, tag: &[u8], bound: Bound) -> bool {
 
 /// Why a condition of an alternative misleads that compares a tag's value with a number or a date.
 pub(super) fn tag_doubt(
-    conditions: &[Condition<Vec<u8>>],
-    condition: &Condition<Vec<u8>>,
+    conditions: &[Stated<GameClaim<Vec<u8>>>],
+    condition: &Stated<GameClaim<&[u8]>>,
 ) -> Option<&'static str> {
-    let Claim::Tag {
+    let GameClaim::Tag {
         names,
         relation,
         contents,

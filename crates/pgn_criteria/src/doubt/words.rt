@@ -63,7 +63,8 @@ fn is_move_text(word: &[u8]) -> bool {
     }
 }
 
-/// Whether a word, in which `*` stands for any bytes, may be a move's standard text. Of one with `*` only its other bytes are asked.
+/// Whether a word, in which `*` stands for any bytes, may be a move's standard text. Of one with
+/// `*` only its other bytes are asked.
 pub(super) fn can_be_move(word: &[u8]) -> bool {
     if !word.contains(&b'*') {
         return is_move_text(word);

@@ -189,7 +189,8 @@ fn before_common<'a>(one: &'a [u8], other: &'a [u8]) -> (&'a [u8], &'a [u8]) {
     (left, right)
 }
 
-/// Whether one word is the other but for one byte that is wrong, missing or too much, or two that are exchanged.
+/// Whether one word is the other but for one byte that is wrong, missing or too much, or two that
+/// are exchanged.
 fn is_near(word: &[u8], key: &[u8]) -> bool {
     let (word, key) = after_common(word, key);
     let (word, key) = before_common(word, key);
@@ -200,7 +201,8 @@ fn is_near(word: &[u8], key: &[u8]) -> bool {
     }
 }
 
-/// What stands right after a key word that a text begins with, if it is a digit or a comparison: a blank is missing.
+/// What stands right after a key word that a text begins with, if it is a digit or a comparison: a
+/// blank is missing.
 fn glued_to_key(text: &[u8]) -> Option<&[u8]> {
     for &(key, _, _) in &KEYS {
         let (rest, missing) = after_common(text, key);
@@ -370,7 +372,8 @@ fn count_stop(text: &[u8], expected: &'static str) -> Stop {
     Stop::before(text, expected)
 }
 
-/// Where a condition on a number of plies that is refused stops, with what is expected in place of its comparison and of its number.
+/// Where a condition on a number of plies that is refused stops, with what is expected in place of
+/// its comparison and of its number.
 fn plies_stop(text: &[u8], comparison: &'static str, count: &'static str) -> Stop {
     let (operator, digits) = split_first(text);
     if comparison_of(operator).is_some() {

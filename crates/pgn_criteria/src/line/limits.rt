@@ -1,12 +1,14 @@
 //! Conditions on the material.
-ghost use Rattle.std.specs.Prelude.{◌≡◌, ◌≢◌, ◌↔◌, ◌≤◌, ◌<◌, [], ℕ, List, length, IsTrue, MatchOption, Option};
+ghost use Rattle.std.specs.Prelude.{◌≡◌, ◌≢◌, ◌↔◌, ◌≤◌, ◌<◌, [], ℕ, List, length, IsTrue};
+ghost use Rattle.std.specs.Prelude.{MatchOption, Option};
 ghost use Rattle.chess.specs.Public.Fen.{has_byte};
 ghost use Rattle.chess.specs.Public.Letters.{kind_letter};
 ghost use Rattle.chess.specs.declared.board.man.Kind.{Kind};
-ghost use Rattle.pgn_criteria.specs.Public.Lines.{SpellsClaim, SpellsLimits};
-ghost use Rattle.pgn_criteria.specs.Private.Reading.{AreEntries, digit_limit, first_limit, limit_after};
+ghost use Rattle.pgn_criteria.specs.Public.Lines.{SpellsPosition, SpellsLimits};
+ghost use Rattle.pgn_criteria.specs.Private.Reading.{AreEntries, digit_limit, first_limit};
+ghost use Rattle.pgn_criteria.specs.Private.Reading.{limit_after};
 ghost use Rattle.pgn_criteria.specs.declared.material.Limits.{Limits};
-ghost use Rattle.pgn_criteria.specs.declared.condition.Claim.TheVariants.{Material};
+ghost use Rattle.pgn_criteria.specs.declared.condition.PositionClaim.TheVariants.{Material};
 
 use crate::material::{Limit, Limits};
 use crate::words::{after_key, split_first};
@@ -40,7 +42,8 @@ fn first_limit(text: &[u8]) -> (Limit, &[u8])
 
 /// The kind of man with that letter.
 fn kind_of(letter: u8) -> Option<Kind>
-    ensures { MatchOption result ((kind : Kind) → letter ≡ kind_letter kind → ⊥) (λ kind. letter ≡ kind_letter kind) }
+    ensures { MatchOption result ((kind : Kind) → letter ≡ kind_letter kind
+        → ⊥) (λ kind. letter ≡ kind_letter kind) }
 {
     match letter {
         b'K' => Some(Kind::King),
@@ -109,7 +112,8 @@ fn limit_in(text: &[u8], kind: Kind) -> Limit
 
 /// The limits that the text spells, if it does.
 pub(super) fn limits_of(text: &[u8]) -> Option<Limits>
-    ensures { MatchOption result ((limits : Limits) → SpellsLimits text.now limits → ⊥) (λ limits. SpellsLimits text.now limits) }
+    ensures { MatchOption result ((limits : Limits) → SpellsLimits text.now limits
+        → ⊥) (λ limits. SpellsLimits text.now limits) }
 {
     if text.is_empty() {
         return None;
@@ -129,7 +133,9 @@ pub(super) fn limits_of(text: &[u8]) -> Option<Limits>
 
 /// The limits for White and for Black of a condition on the material, if the text is one.
 pub(super) fn material_of(text: &[u8]) -> Option<(Limits, Limits)>
-    ensures { MatchOption result ((white black : Limits) → SpellsClaim text.now (Material white black) → ⊥) (λ found. SpellsClaim text.now (Material found.0 found.1)) }
+    ensures { MatchOption result ((white black : Limits)
+        → SpellsPosition text.now (Material white black)
+        → ⊥) (λ found. SpellsPosition text.now (Material found.0 found.1)) }
 {
     let rest = after_key(text, b"material")?;
     let (white, rest) = split_first(rest);

@@ -1,8 +1,10 @@
 //! Conditions on the first moves.
 ghost use Rattle.std.specs.Prelude.{◌≡◌, ◌↔◌, ◌||◌, ◌==◌, ℕ, List, IsTrue, MatchOption};
 ghost use Rattle.std.specs.List.{list_all};
-ghost use Rattle.pgn_criteria.specs.Public.Lines.{SpellsClaim, is_move_byte, IsMoveWord, IsMoveLike, AreMoveWords};
-ghost use Rattle.pgn_criteria.specs.declared.condition.Claim.TheVariants.{Moves, Next, Played};
+ghost use Rattle.pgn_criteria.specs.Public.Lines.{SpellsGame, SpellsMove, is_move_byte, IsMoveWord};
+ghost use Rattle.pgn_criteria.specs.Public.Lines.{IsMoveLike, AreMoveWords};
+ghost use Rattle.pgn_criteria.specs.declared.condition.GameClaim.TheVariants.{Moves};
+ghost use Rattle.pgn_criteria.specs.declared.condition.MoveClaim.TheVariants.{Next, Played};
 
 use crate::words::{after_blanks, after_key, split_word};
 
@@ -52,7 +54,8 @@ fn are_move_words(text: &[u8]) -> bool
 
 /// The words of a condition on the moves, if the text is one.
 pub(super) fn moves_of(text: &[u8]) -> Option<&[u8]>
-    ensures { MatchOption result ((words : List ℕ) → SpellsClaim text.now (Moves words) → ⊥) (λ words. SpellsClaim text.now (Moves words.now)) }
+    ensures { MatchOption result ((words : List ℕ) → SpellsGame text.now (Moves words)
+        → ⊥) (λ words. SpellsGame text.now (Moves words.now)) }
 {
     let words = after_key(text, b"moves")?;
     if are_move_words(words) {
@@ -88,7 +91,8 @@ pub(super) fn is_move_like(word: &[u8]) -> bool
 
 /// The word of a condition on the move that follows, if the text is one.
 pub(super) fn next_of(text: &[u8]) -> Option<&[u8]>
-    ensures { MatchOption result ((word : List ℕ) → SpellsClaim text.now (Next word) → ⊥) (λ word. SpellsClaim text.now (Next word.now)) }
+    ensures { MatchOption result ((word : List ℕ) → SpellsMove text.now (Next word)
+        → ⊥) (λ word. SpellsMove text.now (Next word.now)) }
 {
     let word = after_key(text, b"next")?;
     if is_move_like(word) { Some(word) } else { None }
@@ -96,7 +100,8 @@ pub(super) fn next_of(text: &[u8]) -> Option<&[u8]>
 
 /// The word of a condition on the move that was played, if the text is one.
 pub(super) fn played_of(text: &[u8]) -> Option<&[u8]>
-    ensures { MatchOption result ((word : List ℕ) → SpellsClaim text.now (Played word) → ⊥) (λ word. SpellsClaim text.now (Played word.now)) }
+    ensures { MatchOption result ((word : List ℕ) → SpellsMove text.now (Played word)
+        → ⊥) (λ word. SpellsMove text.now (Played word.now)) }
 {
     let word = after_key(text, b"played")?;
     if is_move_like(word) { Some(word) } else { None }

@@ -2,16 +2,19 @@
 ghost use Rattle.std.specs.Prelude.{◌≡◌, ◌≤◌, ℕ, length, nat_le, IsTrue, MatchOption};
 ghost use Rattle.std.specs.List.{list_all};
 ghost use Rattle.chess.specs.Public.Fen.{is_digit, number_from};
-ghost use Rattle.pgn_criteria.specs.Public.Lines.{SpellsClaim, SpellsCompared, SpellsCount, comparison_text};
+ghost use Rattle.pgn_criteria.specs.Public.Lines.{SpellsGame, SpellsSpan, SpellsCompared};
+ghost use Rattle.pgn_criteria.specs.Public.Lines.{SpellsCount, comparison_text};
 ghost use Rattle.pgn_criteria.specs.declared.compare.Comparison.{Comparison};
-ghost use Rattle.pgn_criteria.specs.declared.condition.Claim.TheVariants.{Plies, For, Count};
+ghost use Rattle.pgn_criteria.specs.declared.condition.GameClaim.TheVariants.{Plies};
+ghost use Rattle.pgn_criteria.specs.declared.condition.SpanClaim.TheVariants.{For, Count};
 
 use crate::compare::Comparison;
 use crate::words::{after_key, split_first};
 
 /// The comparison that is written so.
 pub(super) fn comparison_of(text: &[u8]) -> Option<Comparison>
-    ensures { MatchOption result ((comparison : Comparison) → text.now ≡ comparison_text comparison → ⊥) (λ comparison. text.now ≡ comparison_text comparison) }
+    ensures { MatchOption result ((comparison : Comparison) → text.now ≡ comparison_text comparison
+        → ⊥) (λ comparison. text.now ≡ comparison_text comparison) }
 {
     match text {
         b"=" => Some(Comparison::Equal),
@@ -26,7 +29,8 @@ pub(super) fn comparison_of(text: &[u8]) -> Option<Comparison>
 
 /// The number of plies that the text is, if it is 1 to 4 digits.
 pub(super) fn count_of(text: &[u8]) -> Option<u32>
-    ensures { MatchOption result ((count : ℕ) → SpellsCount text.now count → ⊥) (λ count. SpellsCount text.now count) }
+    ensures { MatchOption result ((count : ℕ) → SpellsCount text.now count
+        → ⊥) (λ count. SpellsCount text.now count) }
 {
     if text.is_empty() || text.len() > 4 {
         return None;
@@ -46,7 +50,9 @@ pub(super) fn count_of(text: &[u8]) -> Option<u32>
 /// The comparison and the number that stand after a key word, if the text is that word with them.
 fn compared_of(text: &[u8], key: &[u8]) -> Option<(Comparison, u32)>
     requires { IsTrue (list_all (λ b. nat_le 33 b) key.now) }
-    ensures { MatchOption result ((comparison : Comparison) (count : ℕ) → SpellsCompared key.now text.now comparison count → ⊥) (λ found. SpellsCompared key.now text.now found.0 found.1) }
+    ensures { MatchOption result ((comparison : Comparison) (count : ℕ)
+        → SpellsCompared key.now text.now comparison count
+        → ⊥) (λ found. SpellsCompared key.now text.now found.0 found.1) }
 {
     let rest = after_key(text, key)?;
     let (operator, digits) = split_first(rest);
@@ -57,21 +63,28 @@ fn compared_of(text: &[u8], key: &[u8]) -> Option<(Comparison, u32)>
 
 /// The comparison and the number of a claim on the plies, if the text is one.
 pub(super) fn plies_of(text: &[u8]) -> Option<(Comparison, u32)>
-    ensures { MatchOption result ((comparison : Comparison) (count : ℕ) → SpellsClaim text.now (Plies comparison count) → ⊥) (λ found. SpellsClaim text.now (Plies found.0 found.1)) }
+    ensures { MatchOption result ((comparison : Comparison) (count : ℕ)
+        → SpellsGame text.now (Plies comparison count)
+        → ⊥) (λ found. SpellsGame text.now (Plies found.0 found.1)) }
 {
     compared_of(text, b"plies")
 }
 
-/// The comparison and the number of a claim on how many plies the other conditions hold at, if the text is one.
+/// The comparison and the number of a claim on how many plies the other conditions hold at, if the
+/// text is one.
 pub(super) fn counted_of(text: &[u8]) -> Option<(Comparison, u32)>
-    ensures { MatchOption result ((comparison : Comparison) (count : ℕ) → SpellsClaim text.now (Count comparison count) → ⊥) (λ found. SpellsClaim text.now (Count found.0 found.1)) }
+    ensures { MatchOption result ((comparison : Comparison) (count : ℕ)
+        → SpellsSpan text.now (Count comparison count)
+        → ⊥) (λ found. SpellsSpan text.now (Count found.0 found.1)) }
 {
     compared_of(text, b"count")
 }
 
-/// The number of a claim that the other conditions hold at so many plies one after the other, if the text is one.
+/// The number of a claim that the other conditions hold at so many plies one after the other, if
+/// the text is one.
 pub(super) fn for_of(text: &[u8]) -> Option<u32>
-    ensures { MatchOption result ((count : ℕ) → SpellsClaim text.now (For count) → ⊥) (λ count. SpellsClaim text.now (For count)) }
+    ensures { MatchOption result ((count : ℕ) → SpellsSpan text.now (For count)
+        → ⊥) (λ count. SpellsSpan text.now (For count)) }
 {
     let digits = after_key(text, b"for")?;
     let count = count_of(digits)?;

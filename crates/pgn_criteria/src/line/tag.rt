@@ -4,20 +4,22 @@ ghost use Rattle.std.specs.List.{list_all};
 ghost use Rattle.chess.specs.Public.Fen.{parted_at};
 ghost use Rattle.pgn_text.specs.Public.Bytes.{is_name_byte};
 ghost use Rattle.pgn_text.specs.Public.Strings.{IsContents};
-ghost use Rattle.pgn_criteria.specs.Public.Lines.{SpellsClaim, IsName, AreNames, CanBeCompared, relation_text};
-ghost use Rattle.pgn_criteria.specs.Private.Stages.{claim_seen};
+ghost use Rattle.pgn_criteria.specs.Public.Lines.{SpellsGame, IsName, AreNames, CanBeCompared};
+ghost use Rattle.pgn_criteria.specs.Public.Lines.{relation_text};
+ghost use Rattle.pgn_criteria.specs.Private.Stages.{game_seen};
 ghost use Rattle.pgn_criteria.specs.declared.compare.Relation.{Relation};
-ghost use Rattle.pgn_criteria.specs.declared.condition.Claim.TheVariants.{Tag};
+ghost use Rattle.pgn_criteria.specs.declared.condition.GameClaim.TheVariants.{Tag};
 
 use crate::compare::Relation;
-use crate::condition::Claim;
+use crate::condition::GameClaim;
 use crate::cut::next_part;
 use crate::words::{after_key, split_first};
 use pgn_text::is_contents;
 
 /// The relation that is written so.
 pub(super) fn relation_of(text: &[u8]) -> Option<Relation>
-    ensures { MatchOption result ((relation : Relation) → text.now ≡ relation_text relation → ⊥) (λ relation. text.now ≡ relation_text relation) }
+    ensures { MatchOption result ((relation : Relation) → text.now ≡ relation_text relation
+        → ⊥) (λ relation. text.now ≡ relation_text relation) }
 {
     match text {
         b"=" => Some(Relation::Equal),
@@ -72,7 +74,9 @@ pub(super) fn are_names(text: &[u8]) -> bool
 
 /// What stands between the quotes of a string, if the text is one.
 pub(super) fn contents_of(text: &[u8]) -> Option<&[u8]>
-    ensures { MatchOption result ((contents : List ℕ) → text.now ≡ 34 ∷ (contents ++ 34 ∷ []) → IsContents contents → ⊥) (λ contents. (text.now ≡ 34 ∷ (contents.now ++ 34 ∷ [])) × IsContents contents.now) }
+    ensures { MatchOption result ((contents : List ℕ) → text.now ≡ 34 ∷ (contents ++ 34 ∷ [])
+        → IsContents contents → ⊥) (λ contents. (text.now ≡ 34 ∷ (contents.now ++ 34 ∷ []))
+        × IsContents contents.now) }
 {
     match text {
         [b'"', contents @ .., b'"'] if is_contents(contents) => Some(contents),
@@ -80,7 +84,8 @@ pub(super) fn contents_of(text: &[u8]) -> Option<&[u8]>
     }
 }
 
-/// The most bytes of a text that values are to contain: as many as a string of a game has (PGN 7). Looking for it stays linear in the value.
+/// The most bytes of a text that values are to contain: as many as a string of a game has (PGN 7).
+/// Looking for it stays linear in the value.
 const MOST_CONTAINED: usize = 255;
 
 /// Whether values can be compared with these contents by the relation.
@@ -91,8 +96,10 @@ pub(super) fn can_be_compared(relation: Relation, contents: &[u8]) -> bool
 }
 
 /// The claim on a tag that the text spells, if it is one.
-pub(super) fn tag_of(text: &[u8]) -> Option<Claim<&[u8]>>
-    ensures { MatchOption result ((names contents : List ℕ) (relation : Relation) → SpellsClaim text.now (Tag names relation contents) → ⊥) (λ found. SpellsClaim text.now (claim_seen (λ bytes. bytes.now) found)) }
+pub(super) fn tag_of(text: &[u8]) -> Option<GameClaim<&[u8]>>
+    ensures { MatchOption result ((names contents : List ℕ) (relation : Relation)
+        → SpellsGame text.now (Tag names relation contents)
+        → ⊥) (λ found. SpellsGame text.now (game_seen (λ bytes. bytes.now) found)) }
 {
     let rest = after_key(text, b"tag")?;
     let (names, rest) = split_first(rest);
@@ -105,7 +112,7 @@ pub(super) fn tag_of(text: &[u8]) -> Option<Claim<&[u8]>>
     if !can_be_compared(relation, contents) {
         return None;
     }
-    Some(Claim::Tag {
+    Some(GameClaim::Tag {
         names,
         relation,
         contents,

@@ -1,6 +1,9 @@
--- What the parts of a run do with the bytes dropped, with one block and with the blocks in a row: the words between the code and
+-- What the parts of a run do with the bytes dropped, with one block and with the blocks in a row:
+-- the words between the code and
 -- those of `Outcomes`.
-use Rattle.std.specs.Prelude.{◌≡◌, ◌⊎◌, ℕ, zero, suc, ◌+◌, ◌<◌, ◌≤◌, Bool, true, false, List, [], ◌∷◌, ◌++◌, length, drop, count_by, Option, None, IfSome, codes, decimal, if◌then◌else◌, ◌==◌}
+use Rattle.std.specs.Prelude.{◌≡◌, ◌⊎◌, ℕ, zero, suc, ◌+◌, ◌<◌, ◌≤◌, Bool, true, false, List, []}
+use Rattle.std.specs.Prelude.{◌∷◌, ◌++◌, length, drop, count_by, Option, None, IfSome, codes}
+use Rattle.std.specs.Prelude.{decimal, if◌then◌else◌, ◌==◌}
 use Rattle.std.specs.Io.KnownBytes.{Appends}
 use Rattle.pgn_text.specs.Public.GameTexts.{GameText, ShowsGame, tag_in}
 use Rattle.pgn_game.specs.Public.Exports.{IsExport}
@@ -9,10 +12,12 @@ use Rattle.pgn_game.specs.Public.GameLines.{IsGameLine}
 use Rattle.pgn_game.specs.Public.PackedGames.{IsRecordOf}
 use Rattle.pgn_game.specs.Public.Replays.{Replay, IsReplay}
 use Rattle.pgn_game.specs.Public.Starts.{fen_tag}
-use Rattle.pgn_extract.specs.Public.Exports.{HasEntry, IsSelected, as_it_stands, faulty_text, line_with, written_lines}
+use Rattle.pgn_extract.specs.Public.Exports.{HasEntry, IsSelected, as_it_stands, faulty_text}
+use Rattle.pgn_extract.specs.Public.Exports.{line_with, written_lines}
 use Rattle.pgn_text.specs.Public.Left.{IsPiece}
 use Rattle.pgn_text.specs.Public.Limits.{depth_limit, largest_offset}
-use Rattle.pgn_text.specs.Public.Marks.{TooLongBlock, MarkedPiece, marked, AreOfBlock, AreMarkedPieces}
+use Rattle.pgn_text.specs.Public.Marks.{TooLongBlock, MarkedPiece, marked, AreOfBlock}
+use Rattle.pgn_text.specs.Public.Marks.{AreMarkedPieces}
 use Rattle.pgn_text.specs.Public.Parts.{Part}
 use Rattle.pgn_text.specs.Public.Pieces as spec
 use Rattle.pgn_text.specs.declared.game.pieces.PieceStart.{PieceStart}
@@ -27,10 +32,13 @@ use Rattle.pgn_text.specs.declared.io.blocks.ReadError.TheVariants as cause
 use Rattle.pgn_extract.specs.Public.Notes.{IsNote, NamesByte}
 use Rattle.pgn_extract.specs.Public.Outcomes.{AppendsFront, Writes, WritesComplete}
 use Rattle.pgn_extract.specs.Public.Index.{fault_text, mark_line}
-use Rattle.pgn_extract.specs.Public.Verdicts.{Verdict, SoundGame, FaultyGame, IsListed, IsExported, IsGameVerdict, IsVerdict, AreVerdicts, output_of, fault_line_of, output_text, fault_lines, is_faulty}
+use Rattle.pgn_extract.specs.Public.Verdicts.{Verdict, SoundGame, FaultyGame, IsListed, IsExported}
+use Rattle.pgn_extract.specs.Public.Verdicts.{IsGameVerdict, IsVerdict, AreVerdicts, output_of}
+use Rattle.pgn_extract.specs.Public.Verdicts.{fault_line_of, output_text, fault_lines, is_faulty}
 use Rattle.pgn_extract.specs.declared.engine.report.Report.{Report}
 use Rattle.pgn_extract.specs.declared.output.outcome.RunError.{RunError}
-use Rattle.pgn_extract.specs.declared.output.outcome.RunError.TheVariants.{Read, Write, OutOfMemory, InputTooLong}
+use Rattle.pgn_extract.specs.declared.output.outcome.RunError.TheVariants.{Read, Write, OutOfMemory}
+use Rattle.pgn_extract.specs.declared.output.outcome.RunError.TheVariants.{InputTooLong}
 use Rattle.pgn_extract.specs.declared.output.outcome.Summary.{Summary}
 use Rattle.pgn_criteria.specs.Public.Meeting.{heading_of, Heading}
 use Rattle.pgn_extract.specs.Public.Aims.{Aim, GameId}
@@ -54,14 +62,15 @@ IsShown limit (Bytes shown) = length shown.now ≤ limit
 IsShown limit (TooLong size) = Unit {0}
 
 -- the report is of these pieces, which are numbered from a number on, and counts them
-pub record Reports (aim : Aim) (report : Report) (number : ℕ) (pieces : List MarkedPiece) : Type 0 where
-  pub verdicts : List Verdict
-  pub each : AreVerdicts aim number pieces verdicts
-  pub output : report.output.items ≡ output_text verdicts
-  pub faults : report.faults.items ≡ fault_lines verdicts
-  pub same : length verdicts ≡ length pieces
-  pub games : report.games ≡ length pieces
-  pub faulty : report.faulty ≡ count_by is_faulty verdicts
+pub record Reports (aim : Aim) (report : Report) (number : ℕ) (pieces : List MarkedPiece) : Type 0
+  where
+    pub verdicts : List Verdict
+    pub each : AreVerdicts aim number pieces verdicts
+    pub output : report.output.items ≡ output_text verdicts
+    pub faults : report.faults.items ≡ fault_lines verdicts
+    pub same : length verdicts ≡ length pieces
+    pub games : report.games ≡ length pieces
+    pub faulty : report.faulty ≡ count_by is_faulty verdicts
 
 -- what is reported is added, and so many pieces counted
 pub record AddsVerdict (old new : Report) (verdict : Verdict) (count : ℕ) : Type 0 where
@@ -73,34 +82,41 @@ pub record AddsVerdict (old new : Report) (verdict : Verdict) (count : ℕ) : Ty
 -- what the listing reports of the game that is given is added; the game isn't counted yet
 abbrev pub AddsListed : Aim → Report → Report → GameId → GameText → Type 0
 AddsListed aim old new id game =
-    (at : ℕ) (parts : List Part) → ShowsGame game at parts → (verdict : Verdict) × IsListed aim verdict id parts × AddsVerdict old new verdict 0
+    (at : ℕ) (parts : List Part) → ShowsGame game at parts
+    → (verdict : Verdict) × IsListed aim verdict id parts × AddsVerdict old new verdict 0
 
 -- where there are no criteria, the ply is listed of a main line with so many plies
 abbrev pub IsPlainEntry : Aim → ℕ → ℕ → Type 0
-IsPlainEntry aim plies ply = (ply ≤ plies) × (aim.min_ply ≤ ply) × (ply ≤ aim.max_ply) × (aim.first ≡ true → ply ≡ aim.min_ply)
+IsPlainEntry aim plies ply = (ply ≤ plies) × (aim.min_ply ≤ ply) × (ply ≤ aim.max_ply)
+    × (aim.first ≡ true → ply ≡ aim.min_ply)
 
 -- the lines that begin with a mark at so many plies in a row
 unfoldable pub lines_from : List ℕ → ℕ → ℕ → List ℕ
 lines_from marked ply zero = []
-lines_from marked ply (suc count) = (marked ++ 32 ∷ decimal ply ++ 10 ∷ []) ++ lines_from marked (ply + 1) count
+lines_from marked ply (suc count) = (marked ++ 32 ∷ decimal ply ++ 10 ∷ [])
+    ++ lines_from marked (ply + 1) count
 
 -- the lines of the entries of any main line with so many plies are added
 abbrev pub AddsPlies : Aim → GameId → ℕ → List ℕ → List ℕ → Type 0
 AddsPlies aim id plies old new =
     (tags : Heading) (replay : Replay) → length replay.positions ≡ plies + 1
-    → (entries : List Entry) × AreListed aim id tags replay entries × (new ≡ old ++ listing aim.name entries)
+    → (entries : List Entry) × AreListed aim id tags replay entries
+    × (new ≡ old ++ listing aim.name entries)
 
 -- the same of a game with this mark, whatever it says
 abbrev pub AddsLines : Aim → List ℕ → ℕ → List ℕ → List ℕ → Type 0
 AddsLines aim marked plies old new =
-    (name : Option (List ℕ)) (id : GameId) → marked ≡ named_mark name id → AddsPlies (record aim { name = name }) id plies old new
+    (name : Option (List ℕ)) (id : GameId) → marked ≡ named_mark name id
+    → AddsPlies (record aim { name = name }) id plies old new
 
--- the text of the game that is given: its export, or the game as it stands, or its line, or its record
+-- the text of the game that is given: its export, or the game as it stands, or its line, or its
+-- record
 abbrev pub IsGivenText : Form → Aim → GameId → GameText → List ℕ → Type 0
 IsGivenText Standard aim id game text = IsExport aim.style game text
 IsGivenText AsItStands aim id game text = text ≡ as_it_stands game.text
 IsGivenText (Line notation) aim id game text =
-    (own : List ℕ) × IsGameLine notation (tag_in fen_tag game.tags) game.elements own × (text ≡ line_with aim.name id own)
+    (own : List ℕ) × IsGameLine notation (tag_in fen_tag game.tags) game.elements own
+    × (text ≡ line_with aim.name id own)
 IsGivenText Record aim id game text = IsRecordOf aim.name id.number id.offset game text
 
 -- the sound game that is given is selected
@@ -110,7 +126,8 @@ IsGameSelected aim game replay = IsSelected aim.select (HasEntry aim (heading_of
 -- what is written of the game that is given: its text where it is selected, and else nothing
 abbrev pub IsGameWritten : Aim → GameId → GameText → Replay → List ℕ → Type 0
 IsGameWritten aim id game replay text =
-    (IsGameSelected aim game replay × IsGivenText aim.form aim id game text) ⊎ ((IsGameSelected aim game replay → ⊥) × (text ≡ []))
+    (IsGameSelected aim game replay × IsGivenText aim.form aim id game text)
+    ⊎ ((IsGameSelected aim game replay → ⊥) × (text ≡ []))
 
 -- the lines of the game that are written are sound, and what is written of it is added
 abbrev pub AddsText : Aim → GameId → GameText → List ℕ → List ℕ → Type 0
@@ -120,7 +137,8 @@ AddsText aim id game old new =
 
 -- the lines of the game that are written have the fault, and nothing is added
 abbrev pub LeavesText : Aim → GameText → List ℕ → List ℕ → Fault → Type 0
-LeavesText aim game old new fault = IsFault (written_lines aim) (tag_in fen_tag game.tags) game.elements fault × (new ≡ old)
+LeavesText aim game old new fault =
+    IsFault (written_lines aim) (tag_in fen_tag game.tags) game.elements fault × (new ≡ old)
 
 -- they are sound, and the text of the game, selected or not, is added
 abbrev pub PutsText : Aim → GameId → GameText → List ℕ → List ℕ → Type 0
@@ -137,51 +155,67 @@ pub record TakesAll (aim : Aim) : Type 0 where
 -- the same of what the export reports
 abbrev pub AddsExported : Aim → Report → Report → GameId → GameText → Type 0
 AddsExported aim old new id game =
-    (at : ℕ) (parts : List Part) → ShowsGame game at parts → (verdict : Verdict) × IsExported aim verdict id parts × AddsVerdict old new verdict 0
+    (at : ℕ) (parts : List Part) → ShowsGame game at parts
+    → (verdict : Verdict) × IsExported aim verdict id parts × AddsVerdict old new verdict 0
 
 -- the same of what the mode reports
 abbrev pub AddsGame : Aim → Report → Report → GameId → GameText → Type 0
 AddsGame aim old new id game =
-    (at : ℕ) (parts : List Part) → ShowsGame game at parts → (verdict : Verdict) × IsGameVerdict aim id parts verdict × AddsVerdict old new verdict 0
+    (at : ℕ) (parts : List Part) → ShowsGame game at parts
+    → (verdict : Verdict) × IsGameVerdict aim id parts verdict × AddsVerdict old new verdict 0
 
 -- what is reported of the piece in the mode is added, and the piece counted
 abbrev pub AddsMark : Aim → Report → Report → ℕ → MarkedPiece → Type 0
-AddsMark aim old new number piece = (verdict : Verdict) × IsVerdict aim number piece verdict × AddsVerdict old new verdict 1
+AddsMark aim old new number piece = (verdict : Verdict) × IsVerdict aim number piece verdict
+    × AddsVerdict old new verdict 1
 
 -- the piece is one of those of the block that begins at the offset
 abbrev pub IsPieceOf : ℕ → List ℕ → spec.Piece → Type 0
 IsPieceOf offset block piece =
-    (before : List spec.Piece) × (after : List spec.Piece) × spec.ArePieces depth_limit (offset == 0) [] (before ++ piece ∷ after) block
+    (before : List spec.Piece) × (after : List spec.Piece)
+    × spec.ArePieces depth_limit (offset == 0) [] (before ++ piece ∷ after) block
 
 -- the same, of the piece that is given of the block that begins at the offset
 abbrev pub AddsPiece : Aim → Report → Report → GameId → List ℕ → Piece → Type 0
 AddsPiece aim old new id block piece =
-    (shown : spec.Piece) → IsPiece piece shown → IsPieceOf id.offset block shown → AddsMark aim old new id.number (marked id.offset shown)
+    (shown : spec.Piece) → IsPiece piece shown → IsPieceOf id.offset block shown
+    → AddsMark aim old new id.number (marked id.offset shown)
 
--- the note names the byte at which the block, which begins at the offset, stops agreeing with games from the place `begin` on
+-- the note names the byte at which the block, which begins at the offset, stops agreeing with games
+-- from the place `begin` on
 abbrev pub NamesBlockStop : Bool → ℕ → List ℕ → ℕ → List ℕ → Type 0
 NamesBlockStop false offset block begin note = Unit {0}
 NamesBlockStop true offset block begin note =
-    (place : ℕ) × IsErrorPosition depth_limit (offset == 0) block begin place × NamesByte (offset + place) note
+    (place : ℕ) × IsErrorPosition depth_limit (offset == 0) block begin place
+    × NamesByte (offset + place) note
 
 -- bytes of the block from the place `begin` on that are no game are reported so
 abbrev pub IsBlockVerdict : Aim → GameId → List ℕ → ℕ → Verdict → Type 0
 IsBlockVerdict aim id block begin verdict =
-    (note : List ℕ) × IsNote aim.explain note × NamesBlockStop aim.explain id.offset block begin note
-    × (verdict ≡ FaultyGame (faulty_text aim.mode aim.select (drop begin block)) (fault_text aim.name (id_at id begin) (codes "unreadable")) note)
+    (note : List ℕ) × IsNote aim.explain note
+    × NamesBlockStop aim.explain id.offset block begin note
+    × (verdict
+    ≡ FaultyGame (faulty_text aim.mode aim.select (drop begin block))
+    (fault_text aim.name (id_at id begin) (codes "unreadable")) note)
 
--- so the index reports the piece whose mark is given, in the block that begins at the offset, where it is chosen
+-- so the index reports the piece whose mark is given, in the block that begins at the offset, where
+-- it is chosen
 abbrev pub IsMarkVerdict : Aim → GameId → List ℕ → PieceStart → Verdict → Type 0
-IsMarkVerdict aim id block (mark.Game place) verdict = verdict ≡ SoundGame (mark_line aim.name (id_at id place))
-IsMarkVerdict aim id block (mark.Unreadable place) verdict = IsBlockVerdict aim id block place verdict
+IsMarkVerdict aim id block (mark.Game place) verdict =
+    verdict ≡ SoundGame (mark_line aim.name (id_at id place))
+IsMarkVerdict aim id block (mark.Unreadable place) verdict =
+    IsBlockVerdict aim id block place verdict
 
 -- and so it does whether it is or not
 abbrev pub IsMarkReport : Aim → GameId → List ℕ → PieceStart → Verdict → Type 0
 IsMarkReport aim id block mark verdict =
-    IfChosen (is_chosen aim.chosen (id_at id (mark_place mark))) (IsMarkVerdict aim id block mark verdict) (verdict ≡ SoundGame [])
+    IfChosen (is_chosen aim.chosen (id_at id (mark_place mark)))
+    (IsMarkVerdict aim id block mark verdict) (verdict ≡ SoundGame [])
 
--- of what is reported of these pieces a beginning is written; the report has the rest, and counts the pieces
-pub record Gathers (aim : Aim) (report : Report) (out out' err err' : Option (List ℕ)) (number : ℕ) (pieces : List MarkedPiece) : Type 0 where
+-- of what is reported of these pieces a beginning is written; the report has the rest, and counts
+-- the pieces
+pub record Gathers (aim : Aim) (report : Report) (out out' err err' : Option (List ℕ)) (number : ℕ)
+    (pieces : List MarkedPiece) : Type 0 where
   pub verdicts : List Verdict
   pub each : AreVerdicts aim number pieces verdicts
   pub first_output : List ℕ
@@ -195,7 +229,8 @@ pub record Gathers (aim : Aim) (report : Report) (out out' err err' : Option (Li
   pub faulty : report.faulty ≡ count_by is_faulty verdicts
 
 -- the same of the pieces of the block
-pub record GathersBlock (aim : Aim) (report : Report) (limit max_depth : ℕ) (id : GameId) (block : List ℕ) (out out' err err' : Option (List ℕ)) : Type 0 where
+pub record GathersBlock (aim : Aim) (report : Report) (limit max_depth : ℕ) (id : GameId)
+    (block : List ℕ) (out out' err err' : Option (List ℕ)) : Type 0 where
   pub own : List MarkedPiece
   pub each : AreOfBlock limit max_depth id.offset block own
   pub written : Gathers aim report out out' err err' id.number own
@@ -217,7 +252,8 @@ abbrev pub too_long_piece : ℕ → MarkedPiece
 too_long_piece offset = record { offset = offset; kind = TooLongBlock }
 
 -- the pieces of the block are reported and counted
-pub record WritesBlock (aim : Aim) (limit max_depth : ℕ) (id : GameId) (block : List ℕ) (out out' err err' : Option (List ℕ)) (summary : Summary) : Type 0 where
+pub record WritesBlock (aim : Aim) (limit max_depth : ℕ) (id : GameId) (block : List ℕ)
+    (out out' err err' : Option (List ℕ)) (summary : Summary) : Type 0 where
   pub own : List MarkedPiece
   pub each : AreOfBlock limit max_depth id.offset block own
   pub verdicts : List Verdict
@@ -228,7 +264,8 @@ pub record WritesBlock (aim : Aim) (limit max_depth : ℕ) (id : GameId) (block 
   pub few : length own ≤ length block
 
 -- each of the two grew by a beginning of what is reported of the first of the pieces
-pub record Begins (aim : Aim) (out out' err err' : Option (List ℕ)) (number : ℕ) (pieces : List MarkedPiece) : Type 0 where
+pub record Begins (aim : Aim) (out out' err err' : Option (List ℕ)) (number : ℕ)
+    (pieces : List MarkedPiece) : Type 0 where
   pub before : List MarkedPiece
   pub after : List MarkedPiece
   pub parted : pieces ≡ before ++ after
@@ -238,7 +275,8 @@ pub record Begins (aim : Aim) (out out' err err' : Option (List ℕ)) (number : 
   pub faults : AppendsFront err err' (fault_lines verdicts)
 
 -- what is reported is a beginning of what is to be reported of the block's pieces
-pub record BeginsBlock (aim : Aim) (limit max_depth : ℕ) (id : GameId) (block : List ℕ) (out out' err err' : Option (List ℕ)) : Type 0 where
+pub record BeginsBlock (aim : Aim) (limit max_depth : ℕ) (id : GameId) (block : List ℕ)
+    (out out' err err' : Option (List ℕ)) : Type 0 where
   pub own : List MarkedPiece
   pub each : AreOfBlock limit max_depth id.offset block own
   pub written : Begins aim out out' err err' id.number own
@@ -257,7 +295,8 @@ pub record DropsSome (left left' : Option (List ℕ)) (moved moved' most : ℕ) 
   pub within : length dropped ≤ most
 
 -- all bytes that were left are read, and their pieces reported and counted
-pub record EndsBlocks (aim : Aim) (limit max_depth : ℕ) (id : GameId) (left left' : Option (List ℕ)) (moved moved' : ℕ) (out out' err err' : Option (List ℕ)) (summary : Summary) : Type 0 where
+pub record EndsBlocks (aim : Aim) (limit max_depth : ℕ) (id : GameId) (left left' : Option (List ℕ))
+    (moved moved' : ℕ) (out out' err err' : Option (List ℕ)) (summary : Summary) : Type 0 where
   pub read : List ℕ
   pub reads : Reads left left' moved moved' read
   pub all : IfSome left (λ whole. whole ≡ read)
@@ -269,8 +308,10 @@ pub record EndsBlocks (aim : Aim) (limit max_depth : ℕ) (id : GameId) (left le
   pub games : summary.games ≡ length pieces
   pub faulty : summary.faulty ≡ count_by is_faulty verdicts
 
--- one byte past the largest offset is read, and the pieces of the complete blocks before it are reported
-pub record WritesUpToEnd (aim : Aim) (limit max_depth : ℕ) (id : GameId) (read : List ℕ) (out out' err err' : Option (List ℕ)) : Type 0 where
+-- one byte past the largest offset is read, and the pieces of the complete blocks before it are
+-- reported
+pub record WritesUpToEnd (aim : Aim) (limit max_depth : ℕ) (id : GameId) (read : List ℕ)
+    (out out' err err' : Option (List ℕ)) : Type 0 where
   pub kept : List ℕ
   pub byte : ℕ
   pub parted : read ≡ kept ++ byte ∷ []
@@ -278,13 +319,15 @@ pub record WritesUpToEnd (aim : Aim) (limit max_depth : ℕ) (id : GameId) (read
   pub written : WritesComplete aim limit max_depth id kept out out' err err'
 
 -- the same of all pieces of the bytes
-pub record BeginsFirst (aim : Aim) (limit max_depth : ℕ) (id : GameId) (bytes : List ℕ) (out out' err err' : Option (List ℕ)) : Type 0 where
+pub record BeginsFirst (aim : Aim) (limit max_depth : ℕ) (id : GameId) (bytes : List ℕ)
+    (out out' err err' : Option (List ℕ)) : Type 0 where
   pub pieces : List MarkedPiece
   pub each : AreMarkedPieces limit max_depth id.offset bytes pieces
   pub written : Begins aim out out' err err' id.number pieces
 
 -- what stands after an error, of the bytes read and those that were left
-abbrev pub StandsOver : Aim → ℕ → ℕ → GameId → Option (List ℕ) → List ℕ → Option (List ℕ) → Option (List ℕ) → Option (List ℕ) → Option (List ℕ) → RunError → Type 0
+abbrev pub StandsOver : Aim → ℕ → ℕ → GameId → Option (List ℕ) → List ℕ → Option (List ℕ)
+    → Option (List ℕ) → Option (List ℕ) → Option (List ℕ) → RunError → Type 0
 StandsOver aim limit max_depth id left read out out' err err' Read =
     WritesComplete aim limit max_depth id read out out' err err'
 StandsOver aim limit max_depth id left read out out' err err' InputTooLong =
@@ -295,7 +338,8 @@ StandsOver aim limit max_depth id left read out out' err err' OutOfMemory =
     IfSome left (λ whole. BeginsFirst aim limit max_depth id whole out out' err err')
 
 -- the blocks were read and reported in part, and then something failed
-pub record BreaksOff (aim : Aim) (limit max_depth : ℕ) (id : GameId) (left left' : Option (List ℕ)) (moved moved' : ℕ) (out out' err err' : Option (List ℕ)) (error : RunError) : Type 0 where
+pub record BreaksOff (aim : Aim) (limit max_depth : ℕ) (id : GameId) (left left' : Option (List ℕ))
+    (moved moved' : ℕ) (out out' err err' : Option (List ℕ)) (error : RunError) : Type 0 where
   pub read : List ℕ
   pub reads : Reads left left' moved moved' read
   pub size : id.offset + length read ≤ largest_offset + 1

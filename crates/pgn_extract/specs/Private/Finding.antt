@@ -1,5 +1,7 @@
--- The entries of a game, found while its main line is played: what is found so far, and what is left completes the whole.
-use Rattle.std.specs.Prelude.{◌≡◌, ◌↔◌, ◌<◌, ◌≤◌, ◌++◌, ◌∷◌, ℕ, Bool, true, false, List, [], length, Option, Some, None, MatchOption, IsTrue, codes}
+-- The entries of a game, found while its main line is played: what is found so far, and what is
+-- left completes the whole.
+use Rattle.std.specs.Prelude.{◌≡◌, ◌↔◌, ◌<◌, ◌≤◌, ◌++◌, ◌∷◌, ℕ, Bool, true, false, List, [], length}
+use Rattle.std.specs.Prelude.{Option, Some, None, MatchOption, IsTrue, codes}
 use Rattle.chess.specs.Public.Fen.{IsFen}
 use Rattle.chess.specs.Public.Positions.{State}
 use Rattle.chess.specs.declared.moves.Move.{Move}
@@ -12,7 +14,7 @@ use Rattle.pgn_game.specs.Public.Replays.{Replay, IsReplay, IsSomeReplay, IsSoun
 use Rattle.pgn_game.specs.Public.Starts.{fen_tag, IsStart}
 use Rattle.pgn_game.specs.declared.replays.replayer.Lines.TheVariants.{Main}
 use Rattle.pgn_criteria.specs.Public.Meeting.{heading_of, Meets}
-use Rattle.pgn_criteria.specs.declared.condition.Condition.{Condition}
+use Rattle.pgn_criteria.specs.Public.Conditions.{Conditions, no_conditions}
 use Rattle.pgn_extract.specs.Public.Aims.{Aim, GameId, IsMet, IsWanted, IsEntry}
 use Rattle.pgn_extract.specs.Public.Exports.{HasEntry}
 use Rattle.pgn_extract.specs.Public.GameReports.{plies_of, AreChosen, AreListed}
@@ -33,13 +35,15 @@ abbrev pub IsOfSomeGame : Replay → Type 0
 IsOfSomeGame replay = (game : GameText) × IsOfGame game replay
 
 -- a game is asked in place of the criteria: the same plies of its main line are met
-abbrev pub AsksFor : Aim → GameText → List (List (Condition (List ℕ))) → Type 0
+abbrev pub AsksFor : Aim → GameText → List Conditions → Type 0
 AsksFor aim game asked =
-    (replay : Replay) → IsOfGame game replay → (ply : ℕ) → ply < length replay.positions → Meets (heading_of game) replay ply asked ↔ IsMet aim.criteria (heading_of game) replay ply
+    (replay : Replay) → IsOfGame game replay → (ply : ℕ) → ply < length replay.positions
+    → Meets (heading_of game) replay ply asked ↔ IsMet aim.criteria (heading_of game) replay ply
 
--- what is asked where criteria may be missing: then every position is met, by one alternative without conditions
-abbrev pub asked_of : Option (List (List (Condition (List ℕ)))) → List (List (Condition (List ℕ)))
-asked_of None = [] ∷ []
+-- what is asked where criteria may be missing: then every position is met, by one alternative
+-- without conditions
+abbrev pub asked_of : Option (List Conditions) → List Conditions
+asked_of None = no_conditions ∷ []
 asked_of (Some asked) = asked
 
 -- what is shown of a position where its text is asked for
@@ -50,89 +54,123 @@ ShowsPosition true P shown = (text : List ℕ) × IsFen P text × (shown ≡ 32 
 -- what is shown of the next move where it is asked for
 abbrev pub ShowsNext : Bool → PlayedLine → List ℕ → Type 0
 ShowsNext false line shown = shown ≡ []
-ShowsNext true line shown = (text : List ℕ) × IsNextText line.position line.words text × (shown ≡ 32 ∷ text)
+ShowsNext true line shown = (text : List ℕ) × IsNextText line.position line.words text
+    × (shown ≡ 32 ∷ text)
 
 -- what is shown where the line stands
 abbrev pub ShowsHere : Fields → PlayedLine → List ℕ → Type 0
-ShowsHere fields line shown = (fen : List ℕ) × (next : List ℕ) × ShowsPosition fields.fen line.position fen × ShowsNext fields.next line next × (shown ≡ fen ++ next)
+ShowsHere fields line shown = (fen : List ℕ) × (next : List ℕ)
+    × ShowsPosition fields.fen line.position fen × ShowsNext fields.next line next
+    × (shown ≡ fen ++ next)
 
 -- the rest of the line has the fault, and something may be added already
 abbrev pub StopsInLine : PlayedLine → List ℕ → List ℕ → Fault → Type 0
-StopsInLine line old new fault = IsMoveFault line.position line.plies line.words fault × (more : List ℕ) × (new ≡ old ++ more)
+StopsInLine line old new fault = IsMoveFault line.position line.plies line.words fault
+    × (more : List ℕ) × (new ≡ old ++ more)
 
 -- the lines of the entries of the game are added
 abbrev pub AddsEntries : Aim → GameId → GameText → List ℕ → List ℕ → Type 0
 AddsEntries aim id game old new =
     (replay : Replay) × IsReplay Main (tag_in fen_tag game.tags) game.elements replay
-    × (entries : List Entry) × AreListed aim id (heading_of game) replay entries × (new ≡ old ++ listing aim.name entries)
+    × (entries : List Entry) × AreListed aim id (heading_of game) replay entries
+    × (new ≡ old ++ listing aim.name entries)
 
 -- the game has the fault, and something may be added already
 abbrev pub StopsAtFault : GameText → List ℕ → List ℕ → Fault → Type 0
-StopsAtFault game old new fault = IsFault Main (tag_in fen_tag game.tags) game.elements fault × (more : List ℕ) × (new ≡ old ++ more)
+StopsAtFault game old new fault = IsFault Main (tag_in fen_tag game.tags) game.elements fault
+    × (more : List ℕ) × (new ≡ old ++ more)
 
--- the positions and moves of the whole main line are those before, and then those that are left of the line
+-- the positions and moves of the whole main line are those before, and then those that are left of
+-- the line
 abbrev pub GoesOnWith : PlayedLine → List State → List Move → List State → List Move → Type 0
 GoesOnWith line before played positions moves =
-    (later : List State) × (more : List Move) × IsMainLine line.position line.words later more × (positions ≡ before ++ later) × (moves ≡ played ++ more)
+    (later : List State) × (more : List Move) × IsMainLine line.position line.words later more
+    × (positions ≡ before ++ later) × (moves ≡ played ++ more)
 
--- the game is played up to the line: these are the positions before the one that is reached and the moves between them, and what is left
+-- the game is played up to the line: these are the positions before the one that is reached and the
+-- moves between them, and what is left
 -- completes the whole
-pub record IsPlayedTo (fen : Option (List ℕ)) (items : List Item) (line : PlayedLine) (before : List State) (played : List Move) : Type 0 where
+pub record IsPlayedTo (fen : Option (List ℕ)) (items : List Item) (line : PlayedLine)
+    (before : List State) (played : List Move) : Type 0 where
   pub start : State
   pub is_start : IsStart fen start
   pub count : length before ≡ line.plies
   pub moves : length played ≡ line.plies
-  pub parts : (positions : List State) (all : List Move) → IsMainLine start (main_words items 0) positions all → GoesOnWith line before played positions all
-  pub completes : (later : List State) (more : List Move) → IsMainLine line.position line.words later more
+  pub parts : (positions : List State) (all : List Move)
+      → IsMainLine start (main_words items 0) positions all
+      → GoesOnWith line before played positions all
+  pub completes : (later : List State) (more : List Move)
+      → IsMainLine line.position line.words later more
       → IsMainLine start (main_words items 0) (before ++ later) (played ++ more)
-  pub faults : (fault : Fault) → IsMoveFault line.position line.plies line.words fault → IsMoveFault start 0 (main_words items 0) fault
+  pub faults : (fault : Fault) → IsMoveFault line.position line.plies line.words fault
+      → IsMoveFault start 0 (main_words items 0) fault
 
--- the entries at these positions are found, and their lines added; once it isn't on, no later ply is an entry
-pub record Finds (aim : Aim) (id : GameId) (game : GameText) (asked : List State) (old new : List ℕ) (on : Bool) : Type 0 where
+-- the entries at these positions are found, and their lines added; once it isn't on, no later ply
+-- is an entry
+pub record Finds (aim : Aim) (id : GameId) (game : GameText) (asked : List State) (old new : List ℕ)
+    (on : Bool) : Type 0 where
   pub found : List Entry
   pub written : new ≡ old ++ listing aim.name found
-  pub completes : (replay : Replay) → IsOfGame game replay → (rest : List State) → replay.positions ≡ asked ++ rest → (later : List Entry)
-      → AreChosen id (IsEntry aim (heading_of game) replay) (AreFields aim.fields replay) (plies_of (length asked) rest) later
+  pub completes : (replay : Replay) → IsOfGame game replay → (rest : List State)
+      → replay.positions ≡ asked ++ rest → (later : List Entry)
+      → AreChosen id (IsEntry aim (heading_of game) replay) (AreFields aim.fields replay)
+      (plies_of (length asked) rest) later
       → AreListed aim id (heading_of game) replay (found ++ later)
-  pub quiet : on ≡ true → aim.first ≡ true → (replay : Replay) → IsOfGame game replay → (rest : List State) → replay.positions ≡ asked ++ rest
+  pub quiet : on ≡ true → aim.first ≡ true → (replay : Replay) → IsOfGame game replay
+      → (rest : List State) → replay.positions ≡ asked ++ rest
       → (n : ℕ) → n < length asked → IsWanted aim (heading_of game) replay n → ⊥
-  pub shut : on ≡ false → (replay : Replay) → IsOfGame game replay → (rest : List State) → replay.positions ≡ asked ++ rest
-      → (n : ℕ) → length asked ≤ n → n < length replay.positions → IsEntry aim (heading_of game) replay n → ⊥
+  pub shut : on ≡ false → (replay : Replay) → IsOfGame game replay → (rest : List State)
+      → replay.positions ≡ asked ++ rest
+      → (n : ℕ) → length asked ≤ n → n < length replay.positions
+      → IsEntry aim (heading_of game) replay n → ⊥
 
 -- at the next position no entry is left out
-abbrev pub GoesOn : Aim → GameId → List (List (Condition (List ℕ))) → PlayedLine → List ℕ → List ℕ → Bool → Bool → Type 0
+abbrev pub GoesOn : Aim → GameId → List Conditions → PlayedLine → List ℕ → List ℕ → Bool → Bool
+    → Type 0
 GoesOn aim id asked line old new on still =
-    (game : GameText) → AsksFor aim game asked → (before : List State) (played : List Move) (text : List ℕ)
+    (game : GameText) → AsksFor aim game asked
+    → (before : List State) (played : List Move) (text : List ℕ)
     → IsPlayedTo (tag_in fen_tag game.tags) game.elements line before played
-    → Finds aim id game before text old on → Finds aim id game (before ++ line.position ∷ []) text new still
+    → Finds aim id game before text old on
+    → Finds aim id game (before ++ line.position ∷ []) text new still
 
--- the main line of the game is kept, and after so many plies, of which it is said whether they are met, no entry is left out
+-- the main line of the game is kept, and after so many plies, of which it is said whether they are
+-- met, no entry is left out
 abbrev pub GoesOnAt : Aim → GameId → Replay → ℕ → Bool → List ℕ → List ℕ → Bool → Bool → Type 0
 GoesOnAt aim id kept ply met old new on still =
-    (game : GameText) → IsOfGame game kept → (IsTrue met ↔ IsMet aim.criteria (heading_of game) kept ply)
-    → (before : List State) (P : State) (rest : List State) → kept.positions ≡ before ++ P ∷ rest → length before ≡ ply
-    → (text : List ℕ) → Finds aim id game before text old on → Finds aim id game (before ++ P ∷ []) text new still
+    (game : GameText) → IsOfGame game kept
+    → (IsTrue met ↔ IsMet aim.criteria (heading_of game) kept ply)
+    → (before : List State) (P : State) (rest : List State) → kept.positions ≡ before ++ P ∷ rest
+    → length before ≡ ply
+    → (text : List ℕ) → Finds aim id game before text old on
+    → Finds aim id game (before ++ P ∷ []) text new still
 
 -- the main line of the game is sound, and has an entry or has none
 abbrev pub IsChosen : Aim → GameText → Bool → Type 0
 IsChosen aim game has =
     IsSoundGame Main (tag_in fen_tag game.tags) game.elements
-    × ((replay : Replay) → IsOfGame game replay → IsTrue has ↔ HasEntry aim (heading_of game) replay)
+    × ((replay : Replay) → IsOfGame game replay
+    → IsTrue has ↔ HasEntry aim (heading_of game) replay)
 
 -- the position that is reached is wanted or not
-abbrev pub WantsHere : Aim → List (List (Condition (List ℕ))) → PlayedLine → Bool → Type 0
+abbrev pub WantsHere : Aim → List Conditions → PlayedLine → Bool → Type 0
 WantsHere aim asked line wanted =
     (game : GameText) → AsksFor aim game asked → (before : List State) → length before ≡ line.plies
-    → (replay : Replay) → IsOfGame game replay → (rest : List State) → replay.positions ≡ before ++ line.position ∷ rest → IsTrue wanted ↔ IsWanted aim (heading_of game) replay (length before)
+    → (replay : Replay) → IsOfGame game replay → (rest : List State)
+    → replay.positions ≡ before ++ line.position ∷ rest
+    → IsTrue wanted ↔ IsWanted aim (heading_of game) replay (length before)
 
 -- of these positions this is the first that is wanted
 abbrev pub IsFirstWanted : Aim → GameText → List State → Option ℕ → Type 0
 IsFirstWanted aim game asked found =
-    (replay : Replay) → IsOfGame game replay → (rest : List State) → replay.positions ≡ asked ++ rest → MatchOption found
+    (replay : Replay) → IsOfGame game replay → (rest : List State)
+    → replay.positions ≡ asked ++ rest → MatchOption found
     ((n : ℕ) → n < length asked → IsWanted aim (heading_of game) replay n → ⊥)
-    (λ n. (n < length asked) × IsWanted aim (heading_of game) replay n × ((m : ℕ) → m < n → IsWanted aim (heading_of game) replay m → ⊥))
+    (λ n. (n < length asked) × IsWanted aim (heading_of game) replay n
+    × ((m : ℕ) → m < n → IsWanted aim (heading_of game) replay m → ⊥))
 
-abbrev pub SeeksOn : Aim → List (List (Condition (List ℕ))) → PlayedLine → Option ℕ → Option ℕ → Type 0
+abbrev pub SeeksOn : Aim → List Conditions → PlayedLine → Option ℕ → Option ℕ → Type 0
 SeeksOn aim asked line found next =
-    (game : GameText) → AsksFor aim game asked → (before : List State) → length before ≡ line.plies → IsFirstWanted aim game before found
+    (game : GameText) → AsksFor aim game asked → (before : List State) → length before ≡ line.plies
+    → IsFirstWanted aim game before found
     → IsFirstWanted aim game (before ++ line.position ∷ []) next

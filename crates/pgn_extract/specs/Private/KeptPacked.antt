@@ -10,7 +10,8 @@ use Rattle.pgn_extract.specs.Private.Packed.{EachOfRecord}
 
 -- each game that has the record starts from this position
 abbrev pub IsStartOf : RawRecord → State → Type 0
-IsStartOf raw start = EachOfRecord raw (λ game replay packed. IsStart (tag_in fen_tag game.tags) start)
+IsStartOf raw start =
+    EachOfRecord raw (λ game replay packed. IsStart (tag_in fen_tag game.tags) start)
 
 -- a line of legal moves is kept, and it is the main line of each game that has the record
 pub record IsKeptOf (raw : RawRecord) (kept : Replay) : Type 0 where

@@ -1,6 +1,7 @@
 -- The main line of a game, whose positions are asked one after the other: what is known where it
 -- stands, and what a finder hands on.
-use Rattle.std.specs.Prelude.{◌≡◌, ◌↔◌, ◌<◌, ◌≤◌, ◌+◌, ◌++◌, ◌∷◌, ℕ, Bool, true, false, List, [], length, Option, IsTrue, decimal}
+use Rattle.std.specs.Prelude.{◌≡◌, ◌↔◌, ◌<◌, ◌≤◌, ◌+◌, ◌++◌, ◌∷◌, ℕ, Bool, true, false, List, []}
+use Rattle.std.specs.Prelude.{length, Option, IsTrue, decimal}
 use Rattle.chess.specs.Public.Positions.{State}
 use Rattle.pgn_text.specs.Public.GameTexts.{GameText, tag_in}
 use Rattle.pgn_game.specs.Public.Faults.{Fault, IsFault}
@@ -83,7 +84,8 @@ IsNeverMet aim game before P =
     (n : ℕ) → length before ≤ n → n < length replay.positions
     → IsMet aim.criteria (heading_of game) replay n → ⊥)
 
--- the entries at these positions are found and handed on; once it isn't on, no later ply is an entry
+-- the entries at these positions are found and handed on; once it isn't on, no later ply is an
+-- entry
 pub record Finds (aim : Aim) (id : GameId) (game : GameText) (Got : List Entry → Type 0)
     (asked : List State) (on : Bool) : Type 0 where
   pub found : List Entry
@@ -91,7 +93,7 @@ pub record Finds (aim : Aim) (id : GameId) (game : GameText) (Got : List Entry �
   pub completes : (replay : Replay) → IsOfGame game replay → (rest : List State)
       → replay.positions ≡ asked ++ rest → (later : List Entry)
       → AreChosen id (IsEntry aim (heading_of game) replay) (AreFields aim.fields replay)
-          (plies_of (length asked) rest) later
+      (plies_of (length asked) rest) later
       → AreListed aim id (heading_of game) replay (found ++ later)
   pub quiet : on ≡ true → aim.first ≡ true → (replay : Replay) → IsOfGame game replay
       → (rest : List State) → replay.positions ≡ asked ++ rest
@@ -113,7 +115,7 @@ Asks {S} Gets settings fields At old new on still =
     → At (aim_with settings fields name) game before P → (start : S)
     → Finds (aim_with settings fields name) id game (λ got. Gets start got old) before on
     → Finds (aim_with settings fields name) id game (λ got. Gets start got new)
-        (before ++ P ∷ []) still
+    (before ++ P ∷ []) still
 
 -- each game at whose start the line stands has this fault
 abbrev pub Fails : (Aim → GameText → List State → State → Type 0) → Settings → Fields → Fault

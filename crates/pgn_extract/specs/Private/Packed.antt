@@ -1,4 +1,5 @@
--- The lines of a packed game: in the mode of the index its mark, else those of the entries of the text that it was packed from.
+-- The lines of a packed game: in the mode of the index its mark, else those of the entries of the
+-- text that it was packed from.
 use Rattle.std.specs.Prelude.{◌≡◌, ◌++◌, ◌∷◌, ℕ, Bool, List, [], length, Some, ◌==◌, ◌/◌, ◌%◌}
 use Rattle.std.specs.List.{slice_get}
 use Rattle.chess.specs.Public.Positions.{State}
@@ -11,7 +12,7 @@ use Rattle.pgn_game.specs.Public.Starts.{fen_tag}
 use Rattle.pgn_game.specs.declared.replays.replayer.Lines.TheVariants.{Main}
 use Rattle.pgn_criteria.specs.Public.Meeting.{heading_of}
 use Rattle.pgn_criteria.specs.Public.Walks.{Sight, IsSightOf}
-use Rattle.pgn_criteria.specs.declared.condition.Condition.{Condition}
+use Rattle.pgn_criteria.specs.Public.Conditions.{Conditions}
 use Rattle.pgn_extract.specs.Public.Aims.{Aim, GameId}
 use Rattle.pgn_extract.specs.Private.Finding.{AsksFor, Finds}
 use Rattle.pgn_extract.specs.Public.GameReports.{AreListed}
@@ -26,16 +27,20 @@ raw_id raw = game_id raw.number raw.offset
 -- the lines of a record are added to the text, of whatever packed game it is
 abbrev pub PutsRecord : Aim → RawRecord → List ℕ → List ℕ → Type 0
 PutsRecord aim raw old new =
-    (own : List ℕ) × (new ≡ old ++ own) × ((packed : PackedGame) → FitsRecord packed → raw_of packed ≡ raw → AreRecordLines aim.mode aim packed own)
+    (own : List ℕ) × (new ≡ old ++ own)
+    × ((packed : PackedGame) → FitsRecord packed → raw_of packed ≡ raw
+    → AreRecordLines aim.mode aim packed own)
 
 -- no game has the record, and the text stays as it was
 abbrev pub LeavesRecord : RawRecord → List ℕ → List ℕ → Type 0
-LeavesRecord raw old new = (new ≡ old) × ((packed : PackedGame) → FitsRecord packed → raw_of packed ≡ raw → IsOfNoGame packed)
+LeavesRecord raw old new = (new ≡ old)
+    × ((packed : PackedGame) → FitsRecord packed → raw_of packed ≡ raw → IsOfNoGame packed)
 
 -- Private words: how far the lines of a record are added.
 
 -- the record is that of the game with this replay
-pub record IsOfRecord (raw : RawRecord) (game : GameText) (replay : Replay) (packed : PackedGame) : Type 0 where
+pub record IsOfRecord (raw : RawRecord) (game : GameText) (replay : Replay)
+    (packed : PackedGame) : Type 0 where
   pub fits : FitsRecord packed
   pub shows : raw_of packed ≡ raw
   pub text : IsGameText game
@@ -44,7 +49,8 @@ pub record IsOfRecord (raw : RawRecord) (game : GameText) (replay : Replay) (pac
 
 -- so it is of each game that has the record
 abbrev pub EachOfRecord : RawRecord → (GameText → Replay → PackedGame → Type 0) → Type 0
-EachOfRecord raw So = (game : GameText) (replay : Replay) (packed : PackedGame) → IsOfRecord raw game replay packed → So game replay packed
+EachOfRecord raw So = (game : GameText) (replay : Replay) (packed : PackedGame)
+    → IsOfRecord raw game replay packed → So game replay packed
 
 -- no game has the record
 abbrev pub HasNoText : RawRecord → Type 0
@@ -71,16 +77,22 @@ pub record ShowsInitial (raw : RawRecord) (sight : Sight) : Type 0 where
 
 -- the position is seen from which each game that has the record starts
 abbrev pub StartsThere : RawRecord → Sight → Type 0
-StartsThere raw sight = EachOfRecord raw (λ game replay packed. (P : State) × (slice_get replay.positions 0 ≡ Some P) × IsSightOf P sight)
+StartsThere raw sight =
+    EachOfRecord raw (λ game replay packed. (P : State) × (slice_get replay.positions 0 ≡ Some P)
+    × IsSightOf P sight)
 
 -- at the position that is seen no entry is left out
-abbrev pub GoesOnSeen : Aim → GameId → List (List (Condition (List ℕ))) → Sight → ℕ → List ℕ → List ℕ → Bool → Bool → Type 0
+abbrev pub GoesOnSeen : Aim → GameId → List Conditions → Sight → ℕ → List ℕ → List ℕ → Bool → Bool
+    → Type 0
 GoesOnSeen aim id asked sight ply old new on still =
-    (game : GameText) → AsksFor aim game asked → (before : List State) (P : State) → length before ≡ ply → IsSightOf P sight
-    → (text : List ℕ) → Finds aim id game before text old on → Finds aim id game (before ++ P ∷ []) text new still
+    (game : GameText) → AsksFor aim game asked → (before : List State) (P : State)
+    → length before ≡ ply → IsSightOf P sight
+    → (text : List ℕ) → Finds aim id game before text old on
+    → Finds aim id game (before ++ P ∷ []) text new still
 
 -- the lines of the entries of each game that has the record are added
 abbrev pub ListsRecord : Aim → RawRecord → List ℕ → List ℕ → Type 0
 ListsRecord aim raw old new =
     Grows old new × EachOfRecord raw (λ game replay packed.
-    (entries : List Entry) × AreListed aim (raw_id raw) (heading_of game) replay entries × (new ≡ old ++ listing raw.name entries))
+    (entries : List Entry) × AreListed aim (raw_id raw) (heading_of game) replay entries
+    × (new ≡ old ++ listing raw.name entries))

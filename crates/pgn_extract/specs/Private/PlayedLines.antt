@@ -5,13 +5,13 @@ use Rattle.chess.specs.declared.moves.Move.{Move}
 use Rattle.pgn_text.specs.Public.GameTexts.{GameText, tag_in}
 use Rattle.pgn_game.specs.Public.PlayedLines.{PlayedLine}
 use Rattle.pgn_game.specs.Public.Starts.{fen_tag}
-use Rattle.pgn_criteria.specs.declared.condition.Condition.{Condition}
+use Rattle.pgn_criteria.specs.Public.Conditions.{Conditions}
 use Rattle.pgn_extract.specs.Public.Aims.{Aim}
 use Rattle.pgn_extract.specs.Private.Finding.{AsksFor, IsPlayedTo}
 use Rattle.pgn_extract.specs.Private.Lines.{Stands}
 
 -- the game is played up to here, and is asked in place of the aim's criteria
-pub record IsPlayedWith (line : PlayedLine) (asked : List (List (Condition (List ℕ)))) (aim : Aim)
+pub record IsPlayedWith (line : PlayedLine) (asked : List Conditions) (aim : Aim)
     (game : GameText) (before : List State) (P : State) : Type 0 where
   pub asks : AsksFor aim game asked
   pub here : P ≡ line.position

@@ -11,10 +11,15 @@ use Rattle.pgn_extract.specs.Public.Aims.{Aim}
 use Rattle.pgn_extract.specs.Public.Outcomes.{AppendsFront}
 use Rattle.pgn_extract.specs.Public.Searching.{ArePackLines}
 use Rattle.pgn_extract.specs.declared.packed.searching.SearchError.{SearchError}
-use Rattle.pgn_extract.specs.declared.packed.searching.SearchError.TheVariants.{Read, Write, OutOfMemory, InputTooLong, BadPack}
+use Rattle.pgn_extract.specs.declared.packed.searching.SearchError.TheVariants.{Read, Write}
+use Rattle.pgn_extract.specs.declared.packed.searching.SearchError.TheVariants.{OutOfMemory}
+use Rattle.pgn_extract.specs.declared.packed.searching.SearchError.TheVariants.{InputTooLong}
+use Rattle.pgn_extract.specs.declared.packed.searching.SearchError.TheVariants.{BadPack}
 
--- these records are read, the last of them the one that is held; their lines are written in part, and the text has the rest of them
-pub record HasSearched (aim : Aim) (window : Window) (left left' out out' : Option (List ℕ)) (text : List ℕ) (count : ℕ) : Type 0 where
+-- these records are read, the last of them the one that is held; their lines are written in part,
+-- and the text has the rest of them
+pub record HasSearched (aim : Aim) (window : Window) (left left' out out' : Option (List ℕ))
+    (text : List ℕ) (count : ℕ) : Type 0 where
   pub before : List PackedGame
   pub fit : AllByRecursion FitsRecord before
   pub counted : count ≡ length before
@@ -39,6 +44,8 @@ search_error_of cause.InputTooLong place = InputTooLong
 search_error_of cause.BadPack place = BadPack place
 
 -- what is gathered is written, and the error stands; or the write failed
-abbrev pub PutsRest : SearchError → Option (List ℕ) → Option (List ℕ) → Bool → List ℕ → SearchError → Type 0
+abbrev pub PutsRest : SearchError → Option (List ℕ) → Option (List ℕ) → Bool → List ℕ → SearchError
+    → Type 0
 PutsRest error out out' faulted text result =
-    ((result ≡ error) × (faulted ≡ false) × Appends out out' text) ⊎ ((result ≡ Write) × (faulted ≡ true) × AppendsFront out out' text)
+    ((result ≡ error) × (faulted ≡ false) × Appends out out' text)
+    ⊎ ((result ≡ Write) × (faulted ≡ true) × AppendsFront out out' text)

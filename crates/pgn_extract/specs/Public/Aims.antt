@@ -3,7 +3,7 @@ use Rattle.std.specs.Prelude.{◌≡◌, ◌<◌, ◌≤◌, ℕ, Bool, true, Li
 use Rattle.pgn_game.specs.Public.Replays.{Replay}
 use Rattle.pgn_game.specs.declared.exports.style.Style.{Style}
 use Rattle.pgn_criteria.specs.Public.Meeting.{Heading, Meets}
-use Rattle.pgn_criteria.specs.declared.condition.Condition.{Condition}
+use Rattle.pgn_criteria.specs.Public.Conditions.{Conditions}
 use Rattle.pgn_extract.specs.declared.settings.Fields.{Fields}
 use Rattle.pgn_extract.specs.declared.settings.Form.{Form}
 use Rattle.pgn_extract.specs.declared.settings.Mode.{Mode}
@@ -11,13 +11,14 @@ use Rattle.pgn_extract.specs.declared.settings.Select.{Select}
 use Rattle.pgn_extract.specs.declared.settings.Settings.{Settings}
 pub use Rattle.pgn_extract.specs.declared.marks.GameId.{GameId}
 
--- what is to be reported of each piece, and the name that its lines have, if they have one; where marks are chosen, nothing is of the pieces that have
+-- what is to be reported of each piece, and the name that its lines have, if they have one; where
+-- marks are chosen, nothing is of the pieces that have
 -- none of them; the criteria are alternatives of conditions
 pub record Aim : Type 0 where
   pub name : Option (List ℕ)
   pub chosen : Option (List GameId)
   pub mode : Mode
-  pub criteria : Option (List (List (Condition (List ℕ))))
+  pub criteria : Option (List Conditions)
   pub min_ply : ℕ
   pub max_ply : ℕ
   pub first : Bool
@@ -44,16 +45,20 @@ aim_of settings = record {
   explain = settings.explain;
 }
 
--- the position after so many plies of a main line meets the criteria; without criteria every one does
-abbrev pub IsMet : Option (List (List (Condition (List ℕ)))) → Heading → Replay → ℕ → Type 0
+-- the position after so many plies of a main line meets the criteria; without criteria every one
+-- does
+abbrev pub IsMet : Option (List Conditions) → Heading → Replay → ℕ → Type 0
 IsMet None tags replay ply = Unit {0}
 IsMet (Some criteria) tags replay ply = Meets tags replay ply criteria
 
 -- the ply is within the bounds, both included, and its position meets the criteria
 abbrev pub IsWanted : Aim → Heading → Replay → ℕ → Type 0
-IsWanted aim tags replay ply = (aim.min_ply ≤ ply) × (ply ≤ aim.max_ply) × IsMet aim.criteria tags replay ply
+IsWanted aim tags replay ply = (aim.min_ply ≤ ply) × (ply ≤ aim.max_ply)
+    × IsMet aim.criteria tags replay ply
 
--- the ply is listed: it is wanted, and where only the first of each game is to be listed, none before it in the game is
+-- the ply is listed: it is wanted, and where only the first of each game is to be listed, none
+-- before it in the game is
 abbrev pub IsEntry : Aim → Heading → Replay → ℕ → Type 0
 IsEntry aim tags replay ply =
-    IsWanted aim tags replay ply × (aim.first ≡ true → (before : ℕ) → before < ply → IsWanted aim tags replay before → ⊥)
+    IsWanted aim tags replay ply
+    × (aim.first ≡ true → (before : ℕ) → before < ply → IsWanted aim tags replay before → ⊥)

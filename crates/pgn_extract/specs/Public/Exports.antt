@@ -1,9 +1,12 @@
--- The export of a text: of its games whose lines can be replayed, those that have an entry, each in the standard's form for export. Or those that
--- have none, or its faulty pieces; or each game as it stands, on a line of its own, or as the record of a pack.
+-- The export of a text: of its games whose lines can be replayed, those that have an entry, each in
+-- the standard's form for export. Or those that
+-- have none, or its faulty pieces; or each game as it stands, on a line of its own, or as the
+-- record of a pack.
 use Rattle.std.specs.Prelude.{◌≡◌, ℕ, ◌+◌, ◌<◌, List, [], ◌∷◌, ◌++◌, length, codes, Option}
 use Rattle.pgn_text.specs.Public.GameTexts.{GameText, IsGameText, ShowsGame}
 use Rattle.pgn_text.specs.Public.Games.{items_of, first_tag}
-use Rattle.pgn_text.specs.Public.Marks.{PieceKind, ReadableGame, UnreadableRest, TooLongBlock, MarkedPiece}
+use Rattle.pgn_text.specs.Public.Marks.{PieceKind, ReadableGame, UnreadableRest, TooLongBlock}
+use Rattle.pgn_text.specs.Public.Marks.{MarkedPiece}
 use Rattle.pgn_text.specs.Public.Parts.{Part, spelled}
 use Rattle.pgn_game.specs.Public.Exports.{IsExport, lines_with}
 use Rattle.pgn_game.specs.Public.Faults.{Fault}
@@ -44,45 +47,57 @@ HasEntry aim tags replay = (ply : ℕ) × (ply < length replay.positions) × IsE
 
 -- the text is the export of the game that these parts make
 abbrev pub IsExportOf : Style → List Part → List ℕ → Type 0
-IsExportOf style parts text = (game : GameText) × IsGameText game × ShowsGame game game.at parts × IsExport style game text
+IsExportOf style parts text = (game : GameText) × IsGameText game × ShowsGame game game.at parts
+    × IsExport style game text
 
 -- bytes of a text as they stand there, and two line feeds
 abbrev pub as_it_stands : List ℕ → List ℕ
 as_it_stands bytes = bytes ++ 10 ∷ 10 ∷ []
 
--- a sound game is selected: by its having an entry, or by its having none; and none is where the faulty ones are
+-- a sound game is selected: by its having an entry, or by its having none; and none is where the
+-- faulty ones are
 abbrev pub IsSelected : Select → Type 0 → Type 0
 IsSelected Matching entry = entry
 IsSelected Others entry = entry → ⊥
 IsSelected Faulty entry = ⊥
 
--- a game on a line of its own: its mark, after the name of its file where lines have one, its start and its moves
+-- a game on a line of its own: its mark, after the name of its file where lines have one, its start
+-- and its moves
 abbrev pub line_with : Option (List ℕ) → GameId → List ℕ → List ℕ
 line_with name id own = (titled (codes ":") name ++ mark id) ++ 32 ∷ own ++ 10 ∷ []
 
 abbrev pub IsGameLineOf : Notation → Aim → GameId → List Part → List ℕ → Type 0
 IsGameLineOf notation aim id parts text =
-    (own : List ℕ) × IsGameLine notation (first_tag fen_tag parts) (items_of parts) own × (text ≡ line_with aim.name id own)
+    (own : List ℕ) × IsGameLine notation (first_tag fen_tag parts) (items_of parts) own
+    × (text ≡ line_with aim.name id own)
 
--- the text is the record of the game that these parts make, under the name of its file where lines have one
+-- the text is the record of the game that these parts make, under the name of its file where lines
+-- have one
 abbrev pub IsGameRecordOf : Aim → GameId → List Part → List ℕ → Type 0
 IsGameRecordOf aim id parts text =
-    (game : GameText) × IsGameText game × ShowsGame game game.at parts × IsRecordOf aim.name id.number id.offset game text
+    (game : GameText) × IsGameText game × ShowsGame game game.at parts
+    × IsRecordOf aim.name id.number id.offset game text
 
--- the text of a game that is selected: its export, or the game as it stands, or its line, or its record
+-- the text of a game that is selected: its export, or the game as it stands, or its line, or its
+-- record
 abbrev pub IsTextOf : Form → Aim → GameId → List Part → List ℕ → Type 0
 IsTextOf Standard aim id parts text = IsExportOf aim.style parts text
 IsTextOf AsItStands aim id parts text = text ≡ as_it_stands (spelled parts)
 IsTextOf (Line notation) aim id parts text = IsGameLineOf notation aim id parts text
 IsTextOf Record aim id parts text = IsGameRecordOf aim id parts text
 
--- what is written of a sound game: its text where it is selected, once however many entries it has, and else nothing
-pub data IsWritten (aim : Aim) (id : GameId) (parts : List Part) (replay : Replay) (text : List ℕ) : Type 0 where
-  selected : IsSelected aim.select (HasEntry aim (heading_in parts) replay) → IsTextOf aim.form aim id parts text
+-- what is written of a sound game: its text where it is selected, once however many entries it has,
+-- and else nothing
+pub data IsWritten (aim : Aim) (id : GameId) (parts : List Part) (replay : Replay)
+    (text : List ℕ) : Type 0 where
+  selected : IsSelected aim.select (HasEntry aim (heading_in parts) replay)
+      → IsTextOf aim.form aim id parts text
       → IsWritten aim id parts replay text
-  unselected : (IsSelected aim.select (HasEntry aim (heading_in parts) replay) → ⊥) → text ≡ [] → IsWritten aim id parts replay text
+  unselected : (IsSelected aim.select (HasEntry aim (heading_in parts) replay) → ⊥) → text ≡ []
+      → IsWritten aim id parts replay text
 
--- what a mode writes of faulty bytes: where the export selects them, the bytes as they stand, and else nothing
+-- what a mode writes of faulty bytes: where the export selects them, the bytes as they stand, and
+-- else nothing
 abbrev pub faulty_text : Mode → Select → List ℕ → List ℕ
 faulty_text modes.Index select bytes = []
 faulty_text modes.List select bytes = []
@@ -92,21 +107,26 @@ faulty_text modes.Export Faulty bytes = as_it_stands bytes
 
 -- what is written of a game, sound or faulty
 pub data IsGameExport (aim : Aim) (id : GameId) (parts : List Part) (text : List ℕ) : Type 0 where
-  sound : (replay : Replay) → IsReplayOf (written_lines aim) parts replay → IsWritten aim id parts replay text
+  sound : (replay : Replay) → IsReplayOf (written_lines aim) parts replay
+      → IsWritten aim id parts replay text
       → IsGameExport aim id parts text
-  faulty : (fault : Fault) → IsFaultOf (written_lines aim) parts fault → text ≡ faulty_text modes.Export aim.select (spelled parts)
+  faulty : (fault : Fault) → IsFaultOf (written_lines aim) parts fault
+      → text ≡ faulty_text modes.Export aim.select (spelled parts)
       → IsGameExport aim id parts text
 
--- what is written of a piece that is chosen: nothing of a block over the limit, whose bytes are not kept
+-- what is written of a piece that is chosen: nothing of a block over the limit, whose bytes are not
+-- kept
 abbrev pub IsPieceExport : Aim → GameId → PieceKind → List ℕ → Type 0
 IsPieceExport aim id (ReadableGame parts) text = IsGameExport aim id parts text
 IsPieceExport aim id (UnreadableRest bytes) text = text ≡ faulty_text modes.Export aim.select bytes
 IsPieceExport aim id TooLongBlock text = text ≡ []
 
--- what is written of pieces in a row that are numbered from a number on: that of the first, where it is chosen, and then that of the others
+-- what is written of pieces in a row that are numbered from a number on: that of the first, where
+-- it is chosen, and then that of the others
 abbrev pub AreExports : Aim → ℕ → List MarkedPiece → List ℕ → Type 0
 AreExports aim number [] text = text ≡ []
 AreExports aim number (piece ∷ more) text =
     (own : List ℕ) × (rest : List ℕ) × (text ≡ own ++ rest)
-    × IfChosen (is_chosen aim.chosen (id_of number piece)) (IsPieceExport aim (id_of number piece) piece.kind own) (own ≡ [])
+    × IfChosen (is_chosen aim.chosen (id_of number piece))
+    (IsPieceExport aim (id_of number piece) piece.kind own) (own ≡ [])
     × AreExports aim (number + 1) more rest

@@ -1,4 +1,5 @@
--- What is reported of a game that can be read: the entries that it lists where it is sound, and else its first fault.
+-- What is reported of a game that can be read: the entries that it lists where it is sound, and
+-- else its first fault.
 use Rattle.std.specs.Prelude.{ℕ, ◌+◌, List, [], ◌∷◌, ◌++◌, codes, decimal}
 use Rattle.chess.specs.Public.Positions.{State}
 use Rattle.pgn_text.specs.Public.Games.{items_of, first_tag}
@@ -23,17 +24,21 @@ IsFaultOf lines parts fault = IsFault lines (first_tag fen_tag parts) (items_of 
 abbrev pub cause_text : Fault → List ℕ
 cause_text BadStart = codes "bad position"
 cause_text (IllegalMove word ply) = codes "illegal move " ++ word ++ codes " at ply " ++ decimal ply
-cause_text (AmbiguousMove word ply) = codes "ambiguous move " ++ word ++ codes " at ply " ++ decimal ply
+cause_text (AmbiguousMove word ply) = codes "ambiguous move " ++ word ++ codes " at ply "
+    ++ decimal ply
 
 -- the plies of positions in a row, of which the first stands at the ply
 abbrev pub plies_of : ℕ → List State → List ℕ
 plies_of ply [] = []
 plies_of ply (position ∷ more) = ply ∷ plies_of (ply + 1) more
 
--- of a game with this mark these are the entries at those of the plies that have the fact, in their order, each with what is shown of its ply
-pub data AreChosen (id : GameId) (P : ℕ → Type 0) (S : ℕ → List ℕ → Type 0) : List ℕ → List Entry → Type 0 where
+-- of a game with this mark these are the entries at those of the plies that have the fact, in their
+-- order, each with what is shown of its ply
+pub data AreChosen (id : GameId) (P : ℕ → Type 0) (S : ℕ → List ℕ → Type 0) : List ℕ → List Entry
+    → Type 0 where
   none : AreChosen id P S [] []
-  keep : (ply : ℕ) (shown all : List ℕ) (chosen : List Entry) → P ply → S ply shown → AreChosen id P S all chosen
+  keep : (ply : ℕ) (shown all : List ℕ) (chosen : List Entry) → P ply → S ply shown
+      → AreChosen id P S all chosen
       → AreChosen id P S (ply ∷ all) (record { id = id; ply = ply; shown = shown } ∷ chosen)
   leave : (ply : ℕ) (all : List ℕ) (chosen : List Entry) → (P ply → ⊥) → AreChosen id P S all chosen
       → AreChosen id P S (ply ∷ all) chosen
@@ -41,4 +46,5 @@ pub data AreChosen (id : GameId) (P : ℕ → Type 0) (S : ℕ → List ℕ → 
 -- the entries that a sound game with these tags lists, of its positions from ply 0 on
 abbrev pub AreListed : Aim → GameId → Heading → Replay → List Entry → Type 0
 AreListed aim id tags replay entries =
-    AreChosen id (IsEntry aim tags replay) (AreFields aim.fields replay) (plies_of 0 replay.positions) entries
+    AreChosen id (IsEntry aim tags replay) (AreFields aim.fields replay)
+    (plies_of 0 replay.positions) entries

@@ -1,5 +1,6 @@
 -- The mark that a text gives, as after `--from` and `--until`.
-use Rattle.std.specs.Prelude.{ℕ, ◌+◌, ◌^◌, ◌≤◌, Bool, ◌&&◌, ◌==◌, nat_le, if◌then◌else◌, List, length, take, drop, position, Option, Some, None}
+use Rattle.std.specs.Prelude.{ℕ, ◌+◌, ◌^◌, ◌≤◌, Bool, ◌&&◌, ◌==◌, nat_le, if◌then◌else◌, List}
+use Rattle.std.specs.Prelude.{length, take, drop, position, Option, Some, None}
 use Rattle.std.specs.List.{list_all}
 use Rattle.chess.specs.Public.Fen.{is_digit, number_from}
 use Rattle.pgn_text.specs.Public.Limits.{largest_offset}
@@ -7,11 +8,13 @@ use Rattle.pgn_extract.specs.declared.marks.GameId.{GameId}
 
 -- 1 to 19 digits
 abbrev pub is_number : List ℕ → Bool
-is_number digits = (nat_le 1 (length digits) && nat_le (length digits) 19) && list_all is_digit digits
+is_number digits = (nat_le 1 (length digits) && nat_le (length digits) 19)
+    && list_all is_digit digits
 
 -- the number that they write, of at most 2^62; any other text writes none
 abbrev pub number_in : List ℕ → Option ℕ
-number_in digits = if is_number digits && nat_le (number_from 0 digits) (2 ^ 62) then Some (number_from 0 digits) else None
+number_in digits = if is_number digits && nat_le (number_from 0 digits) (2 ^ 62)
+    then Some (number_from 0 digits) else None
 
 -- which game it is: the one with this number, whose first byte stands at this offset
 abbrev pub game_id : ℕ → ℕ → GameId

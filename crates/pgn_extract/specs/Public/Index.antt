@@ -1,5 +1,6 @@
 -- Marks, the index of a text, and the lines that report faulty games.
-use Rattle.std.specs.Prelude.{ℕ, ◌+◌, List, [], ◌∷◌, ◌++◌, Option, Some, None, map, codes, chars, encode_utf8_all, decimal, nat_lt, ◌&&◌, ◌||◌, if◌then◌else◌}
+use Rattle.std.specs.Prelude.{ℕ, ◌+◌, List, [], ◌∷◌, ◌++◌, Option, Some, None, map, codes, chars}
+use Rattle.std.specs.Prelude.{encode_utf8_all, decimal, nat_lt, ◌&&◌, ◌||◌, if◌then◌else◌}
 use Rattle.pgn_text.specs.Public.Marks.{ReadableGame, UnreadableRest, TooLongBlock, MarkedPiece}
 use Rattle.pgn_extract.specs.Public.Choices.{id_of, is_chosen}
 use Rattle.pgn_extract.specs.declared.marks.GameId.{GameId}
@@ -21,10 +22,12 @@ abbrev pub titled : List ℕ → Option (List ℕ) → List ℕ
 titled gap None = []
 titled gap (Some name) = name ++ gap
 
--- what reports a faulty game on a line of its own: the name of its file where lines have one, its mark and the cause
+-- what reports a faulty game on a line of its own: the name of its file where lines have one, its
+-- mark and the cause
 abbrev pub fault_text : Option (List ℕ) → GameId → List ℕ → List ℕ
 fault_text name id cause =
-    codes "pgn-extract: " ++ titled (codes ": ") name ++ codes "game " ++ mark id ++ codes ": " ++ cause ++ 10 ∷ []
+    codes "pgn-extract: " ++ titled (codes ": ") name ++ codes "game " ++ mark id ++ codes ": "
+    ++ cause ++ 10 ∷ []
 
 -- the line of a game in the index: its mark, after the name of its file where lines have one
 abbrev pub mark_line : Option (List ℕ) → GameId → List ℕ
@@ -42,4 +45,5 @@ index_line name number piece = elim piece.kind [
 abbrev pub index : Option (List GameId) → Option (List ℕ) → ℕ → List MarkedPiece → List ℕ
 index chosen name number [] = []
 index chosen name number (piece ∷ more) =
-    (if is_chosen chosen (id_of number piece) then index_line name number piece else []) ++ index chosen name (number + 1) more
+    (if is_chosen chosen (id_of number piece) then index_line name number piece else [])
+    ++ index chosen name (number + 1) more

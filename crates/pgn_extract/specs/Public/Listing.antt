@@ -1,5 +1,8 @@
--- The listing of a text: the plies of its sound games whose position is looked for, each by the mark of its game.
-use Rattle.std.specs.Prelude.{◌≡◌, ◌↔◌, ◌⊎◌, ℕ, ◌+◌, ◌<◌, nat_le, List, [], ◌∷◌, ◌++◌, length, Option, Some, MatchOption, Bool, true, false, not, ◌&&◌, codes, decimal}
+-- The listing of a text: the plies of its sound games whose position is looked for, each by the
+-- mark of its game.
+use Rattle.std.specs.Prelude.{◌≡◌, ◌↔◌, ◌⊎◌, ℕ, ◌+◌, ◌<◌, nat_le, List, [], ◌∷◌, ◌++◌, length}
+use Rattle.std.specs.Prelude.{Option, Some, MatchOption, Bool, true, false, not, ◌&&◌, codes}
+use Rattle.std.specs.Prelude.{decimal}
 use Rattle.std.specs.List.{Contains, filter, slice_get}
 use Rattle.chess.specs.Public.Fen.{IsFen}
 use Rattle.chess.specs.Public.Positions.{State}
@@ -24,28 +27,34 @@ pub record Entry : Type 0 where
 
 -- its line, `N@O P` and what it shows, after the name of its file where lines have one
 abbrev pub entry_line : Option (List ℕ) → Entry → List ℕ
-entry_line name entry = (titled (codes ":") name ++ mark entry.id) ++ 32 ∷ decimal entry.ply ++ (entry.shown ++ 10 ∷ [])
+entry_line name entry = (titled (codes ":") name ++ mark entry.id) ++ 32 ∷ decimal entry.ply
+    ++ (entry.shown ++ 10 ∷ [])
 
 -- the lines of entries
 abbrev pub listing : Option (List ℕ) → List Entry → List ℕ
 listing name [] = []
 listing name (entry ∷ more) = entry_line name entry ++ listing name more
 
--- what is shown of the position after so many plies of a main line, where its text is asked for: a blank, and its text in FEN
+-- what is shown of the position after so many plies of a main line, where its text is asked for: a
+-- blank, and its text in FEN
 abbrev pub IsFenField : Bool → Replay → ℕ → List ℕ → Type 0
 IsFenField false replay ply shown = shown ≡ []
 IsFenField true replay ply shown =
-    (position : State) × (text : List ℕ) × (slice_get replay.positions ply ≡ Some position) × IsFen position text × (shown ≡ 32 ∷ text)
+    (position : State) × (text : List ℕ) × (slice_get replay.positions ply ≡ Some position)
+    × IsFen position text × (shown ≡ 32 ∷ text)
 
--- the text of the move that is played after so many plies of a main line: its standard text, and `-` where none is played
+-- the text of the move that is played after so many plies of a main line: its standard text, and
+-- `-` where none is played
 abbrev pub IsNextMove : List State → List Move → ℕ → List ℕ → Type 0
 IsNextMove positions played ply text =
-    MatchOption (slice_get played ply) (text ≡ codes "-") (λ m. (position : State) × (slice_get positions ply ≡ Some position) × IsSan position m text)
+    MatchOption (slice_get played ply) (text ≡ codes "-") (λ m. (position : State)
+    × (slice_get positions ply ≡ Some position) × IsSan position m text)
 
 -- what is shown of that move where it is asked for: a blank, and its text
 abbrev pub IsNextField : Bool → Replay → ℕ → List ℕ → Type 0
 IsNextField false replay ply shown = shown ≡ []
-IsNextField true replay ply shown = (text : List ℕ) × IsNextMove replay.positions replay.played ply text × (shown ≡ 32 ∷ text)
+IsNextField true replay ply shown = (text : List ℕ)
+    × IsNextMove replay.positions replay.played ply text × (shown ≡ 32 ∷ text)
 
 -- neither is asked for, so that the line ends after the ply
 abbrev pub is_plain : Fields → Bool
@@ -54,9 +63,11 @@ is_plain fields = not fields.fen && not fields.next
 -- what a line shows after a ply of a main line: the position there, and then the move
 abbrev pub AreFields : Fields → Replay → ℕ → List ℕ → Type 0
 AreFields fields replay ply shown =
-    (fen : List ℕ) × (next : List ℕ) × IsFenField fields.fen replay ply fen × IsNextField fields.next replay ply next × (shown ≡ fen ++ next)
+    (fen : List ℕ) × (next : List ℕ) × IsFenField fields.fen replay ply fen
+    × IsNextField fields.next replay ply next × (shown ≡ fen ++ next)
 
--- the heading of the game that parts make: for a name, the contents of the first tag with it; and the result that they end with
+-- the heading of the game that parts make: for a name, the contents of the first tag with it; and
+-- the result that they end with
 abbrev pub heading_in : List Part → Heading
 heading_in parts = record { named = λ name. first_tag name parts; result = result_of parts }
 
@@ -64,32 +75,39 @@ heading_in parts = record { named = λ name. first_tag name parts; result = resu
 abbrev pub IsMainReplayOf : List Part → Replay → Type 0
 IsMainReplayOf parts replay = IsMainReplay (first_tag fen_tag parts) (items_of parts) replay
 
--- the entry names a sound game that is chosen, by its place among the pieces and the offset of its first byte, and a ply of its main line that is
+-- the entry names a sound game that is chosen, by its place among the pieces and the offset of its
+-- first byte, and a ply of its main line that is
 -- listed, and shows what is asked for of the ply
-pub record IsPlyOfGame (aim : Aim) (number : ℕ) (pieces : List MarkedPiece) (entry : Entry) : Type 0 where
-  pub place : ℕ
-  pub parts : List Part
-  pub replay : Replay
-  pub game : slice_get pieces place ≡ Some (record { offset = entry.id.offset; kind = ReadableGame parts })
-  pub numbered : entry.id.number ≡ number + place
-  pub chosen : is_chosen aim.chosen entry.id ≡ true
-  pub is_replay : IsMainReplayOf parts replay
-  pub within : entry.ply < length replay.positions
-  pub listed : IsEntry aim (heading_in parts) replay entry.ply
-  pub shows : AreFields aim.fields replay entry.ply entry.shown
+pub record IsPlyOfGame (aim : Aim) (number : ℕ) (pieces : List MarkedPiece) (entry : Entry) : Type 0
+  where
+    pub place : ℕ
+    pub parts : List Part
+    pub replay : Replay
+    pub game : slice_get pieces place
+        ≡ Some (record { offset = entry.id.offset; kind = ReadableGame parts })
+    pub numbered : entry.id.number ≡ number + place
+    pub chosen : is_chosen aim.chosen entry.id ≡ true
+    pub is_replay : IsMainReplayOf parts replay
+    pub within : entry.ply < length replay.positions
+    pub listed : IsEntry aim (heading_in parts) replay entry.ply
+    pub shows : AreFields aim.fields replay entry.ply entry.shown
 
 -- the first entry is of an earlier game, or of the same and at a lower ply
 abbrev pub IsEarlier : Entry → Entry → Type 0
-IsEarlier first second = (first.id.number < second.id.number) ⊎ ((first.id.number ≡ second.id.number) × (first.ply < second.ply))
+IsEarlier first second = (first.id.number < second.id.number)
+    ⊎ ((first.id.number ≡ second.id.number) × (first.ply < second.ply))
 
 -- each entry is earlier than all after it, so none is there twice
 abbrev pub Ascend : List Entry → Type 0
 Ascend [] = Unit {0}
-Ascend (entry ∷ more) = ((later : Entry) → Contains more later → IsEarlier entry later) × Ascend more
+Ascend (entry ∷ more) = ((later : Entry) → Contains more later → IsEarlier entry later)
+    × Ascend more
 
--- the entries of pieces that are numbered from a number on: exactly the plies of the chosen sound games among them that are listed, each once, in
+-- the entries of pieces that are numbered from a number on: exactly the plies of the chosen sound
+-- games among them that are listed, each once, in
 -- the order of the games and their plies
-pub record AreEntries (aim : Aim) (number : ℕ) (pieces : List MarkedPiece) (entries : List Entry) : Type 0 where
+pub record AreEntries (aim : Aim) (number : ℕ) (pieces : List MarkedPiece)
+    (entries : List Entry) : Type 0 where
   pub exact : (entry : Entry) → (Contains entries entry ↔ IsPlyOfGame aim number pieces entry)
   pub ascend : Ascend entries
 

@@ -10,21 +10,25 @@ use Rattle.pgn_extract.specs.Public.Aims.{Aim, GameId}
 abbrev pub AppendsFront : Option (List ℕ) → Option (List ℕ) → List ℕ → Type 0
 AppendsFront old new bytes = (size : ℕ) × Appends old new (take size bytes)
 
--- the pieces are reported so in the mode, and the output and standard error grew by what is reported
-pub record Writes (aim : Aim) (out out' err err' : Option (List ℕ)) (number : ℕ) (pieces : List MarkedPiece) (verdicts : List Verdict) : Type 0 where
+-- the pieces are reported so in the mode, and the output and standard error grew by what is
+-- reported
+pub record Writes (aim : Aim) (out out' err err' : Option (List ℕ)) (number : ℕ)
+    (pieces : List MarkedPiece) (verdicts : List Verdict) : Type 0 where
   pub each : AreVerdicts aim number pieces verdicts
   pub output : Appends out out' (output_text verdicts)
   pub faults : Appends err err' (fault_lines verdicts)
 
 -- the pieces of the complete blocks of some bytes are reported, and nothing else
-pub record WritesComplete (aim : Aim) (limit max_depth : ℕ) (id : GameId) (bytes : List ℕ) (out out' err err' : Option (List ℕ)) : Type 0 where
+pub record WritesComplete (aim : Aim) (limit max_depth : ℕ) (id : GameId) (bytes : List ℕ)
+    (out out' err err' : Option (List ℕ)) : Type 0 where
   pub pieces : List MarkedPiece
   pub each : AreCompletePieces limit max_depth id.offset bytes pieces
   pub verdicts : List Verdict
   pub written : Writes aim out out' err err' id.number pieces verdicts
 
 -- each of the two grew by a beginning of what is reported of all pieces of the bytes
-pub record BeginsAll (aim : Aim) (limit max_depth : ℕ) (id : GameId) (bytes : List ℕ) (out out' err err' : Option (List ℕ)) : Type 0 where
+pub record BeginsAll (aim : Aim) (limit max_depth : ℕ) (id : GameId) (bytes : List ℕ)
+    (out out' err err' : Option (List ℕ)) : Type 0 where
   pub pieces : List MarkedPiece
   pub each : AreMarkedPieces limit max_depth id.offset bytes pieces
   pub verdicts : List Verdict

@@ -1,9 +1,11 @@
 -- What the options of the command line ask for, and which of them are refused.
-use Rattle.std.specs.Prelude.{Bool, false, true, not, ◌&&◌, ◌||◌, if◌then◌else◌, is_some, is_none, ◌==◌, ℕ, ◌-◌, ◌^◌, nat_lt, length, List, [], ◌∷◌, ◌++◌, Option, Some, None, codes, option_map, unwrap_or}
+use Rattle.std.specs.Prelude.{Bool, false, true, not, ◌&&◌, ◌||◌, if◌then◌else◌, is_some, is_none}
+use Rattle.std.specs.Prelude.{◌==◌, ℕ, ◌-◌, ◌^◌, nat_lt, length, List, [], ◌∷◌, ◌++◌, Option, Some}
+use Rattle.std.specs.Prelude.{None, codes, option_map, unwrap_or}
 use Rattle.std.specs.List.{list_all}
 use Rattle.pgn_game.specs.declared.exports.notation.Notation.TheVariants.{San, Uci}
 use Rattle.pgn_game.specs.declared.exports.style.Style.{Style}
-use Rattle.pgn_criteria.specs.declared.condition.Condition.{Condition}
+use Rattle.pgn_criteria.specs.Public.Conditions.{Conditions}
 use Rattle.pgn_extract.specs.Public.Aims.{Aim, GameId}
 use Rattle.pgn_extract.specs.Public.GivenMarks.{game_id, mark_in}
 use Rattle.pgn_extract.specs.declared.app.command.Request.{Request}
@@ -18,11 +20,13 @@ use Rattle.pgn_extract.specs.declared.settings.Select.TheVariants.{Matching, Oth
 
 -- what is written: a list, an index, or games
 abbrev pub asked_mode : Request → Mode
-asked_mode request = if request.list then modes.List else (if request.index then modes.Index else modes.Export)
+asked_mode request = if request.list then modes.List
+    else (if request.index then modes.Index else modes.Export)
 
 -- which games are written
 abbrev pub asked_select : Request → Select
-asked_select request = if request.others then Others else (if request.faulty then Faulty else Matching)
+asked_select request = if request.others then Others
+    else (if request.faulty then Faulty else Matching)
 
 -- how a game is written: as a record, on a line with its moves, as it stands, or in the standard's
 -- form
@@ -46,7 +50,7 @@ asked_style request = record {
 
 -- all that a run is to do, with notes or without, with these criteria, and of the pieces with these
 -- marks; its lines have no name yet
-abbrev pub asked : Bool → Request → Option (List (List (Condition (List ℕ)))) → Option (List GameId)
+abbrev pub asked : Bool → Request → Option (List Conditions) → Option (List GameId)
     → Aim
 asked noted request criteria chosen = record {
   name = None;
@@ -123,7 +127,8 @@ is_one_line text = list_all (λ byte. not (byte == 10) && not (byte == 13)) text
 -- the line of a text that is no mark; where refusals have notes, with what a mark is
 abbrev pub bad_mark : Bool → List ℕ
 bad_mark false = codes "pgn-extract: bad mark\n"
-bad_mark true = codes "pgn-extract: bad mark\n  a mark is N@O, as --index prints it; 1@0 is the first game's\n"
+bad_mark true =
+    codes "pgn-extract: bad mark\n  a mark is N@O, as --index prints it; 1@0 is the first game's\n"
 
 -- a refusal: whether it applies, and its line
 pub record Refusal : Type 0 where
@@ -157,7 +162,8 @@ option_refusals request =
     ∷ record {
       applies = request.packed
           && (has_fields request || gives_mark request || request.with_names || request.no_names);
-      line = codes "pgn-extract: --packed goes with none of --fen, --next, --from, --until, --at, --with-names and --no-names\n";
+      line = codes
+          "pgn-extract: --packed goes with none of --fen, --next, --from, --until, --at, --with-names and --no-names\n";
     }
     ∷ record {
       applies = has_fields request && not request.list;
@@ -165,7 +171,8 @@ option_refusals request =
     }
     ∷ record {
       applies = (request.others || request.faulty || request.as_is) && has_mode request;
-      line = codes "pgn-extract: --others, --faulty and --as-is go with neither --list nor --index\n";
+      line = codes
+          "pgn-extract: --others, --faulty and --as-is go with neither --list nor --index\n";
     }
     ∷ record {
       applies = request.others && request.faulty;
@@ -173,8 +180,10 @@ option_refusals request =
     }
     ∷ record {
       applies = request.pack
-          && (has_mode request || has_moves request || request.faulty || request.as_is || has_style request);
-      line = codes "pgn-extract: --pack goes with none of --list, --index, --moves, --uci, --faulty, --as-is, -C, -N, -V, --keep-commands, --roster and -w\n";
+          && (has_mode request || has_moves request || request.faulty || request.as_is
+          || has_style request);
+      line = codes
+          "pgn-extract: --pack goes with none of --list, --index, --moves, --uci, --faulty, --as-is, -C, -N, -V, --keep-commands, --roster and -w\n";
     }
     ∷ record {
       applies = request.moves && request.uci;
@@ -182,7 +191,8 @@ option_refusals request =
     }
     ∷ record {
       applies = has_moves request && (has_mode request || request.faulty || request.as_is);
-      line = codes "pgn-extract: --moves and --uci go with none of --list, --index, --faulty and --as-is\n";
+      line = codes
+          "pgn-extract: --moves and --uci go with none of --list, --index, --faulty and --as-is\n";
     }
     ∷ file_refusals request
 

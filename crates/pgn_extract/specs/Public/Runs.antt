@@ -1,5 +1,8 @@
--- The words of the contract of `run`, in the order in which they are best read: what is asked, what is met, and what stands then.
-use Rattle.std.specs.Prelude.{◌≡◌, ◌↔◌, ◌⊎◌, ℕ, ◌^◌, ◌<◌, ◌≤◌, Bool, true, false, List, length, take, drop, count_by, Option, Result, IfSome, IfOk, IfErr, OnOk, IsErrOf}
+-- The words of the contract of `run`, in the order in which they are best read: what is asked, what
+-- is met, and what stands then.
+use Rattle.std.specs.Prelude.{◌≡◌, ◌↔◌, ◌⊎◌, ℕ, ◌^◌, ◌<◌, ◌≤◌, Bool, true, false, List, length}
+use Rattle.std.specs.Prelude.{take, drop, count_by, Option, Result, IfSome, IfOk, IfErr, OnOk}
+use Rattle.std.specs.Prelude.{IsErrOf}
 use Rattle.std.specs.Io.KnownBytes.{Appends}
 use Rattle.pgn_text.specs.Public.Limits.{block_limit, depth_limit, largest_offset}
 use Rattle.pgn_text.specs.Public.Marks.{MarkedPiece, AreMarkedPieces}
@@ -10,7 +13,8 @@ use Rattle.pgn_extract.specs.Public.Outcomes.{Writes, WritesComplete, BeginsAll}
 use Rattle.pgn_extract.specs.Public.Resuming.{IsMarkAmong}
 use Rattle.pgn_extract.specs.Public.Verdicts.{Verdict, is_faulty}
 use Rattle.pgn_extract.specs.declared.output.outcome.RunError.{RunError}
-use Rattle.pgn_extract.specs.declared.output.outcome.RunError.TheVariants.{Read, Write, OutOfMemory, InputTooLong}
+use Rattle.pgn_extract.specs.declared.output.outcome.RunError.TheVariants.{Read, Write, OutOfMemory}
+use Rattle.pgn_extract.specs.declared.output.outcome.RunError.TheVariants.{InputTooLong}
 use Rattle.pgn_extract.specs.declared.output.outcome.Summary.{Summary}
 use Rattle.pgn_extract.specs.declared.settings.Mode.TheVariants as mode
 use Rattle.pgn_extract.specs.declared.settings.Settings.{Settings}
@@ -18,7 +22,8 @@ use Rattle.pgn_extract.specs.Public.GivenMarks.{IsGameMark, game_id}
 
 -- What is asked.
 
--- what is to be reported of each piece, the limits, the number of the first piece, and how many bytes are passed over first
+-- what is to be reported of each piece, the limits, the number of the first piece, and how many
+-- bytes are passed over first
 pub record Job : Type 0 where
   pub aim : Aim
   pub limit : ℕ
@@ -26,14 +31,22 @@ pub record Job : Type 0 where
   pub id : GameId
 
 abbrev pub job_at : Settings → ℕ → ℕ → Job
-job_at settings number offset = record { aim = aim_of settings; limit = block_limit; max_depth = depth_limit; id = game_id number offset }
+job_at settings number offset =
+    record {
+      aim = aim_of settings;
+      limit = block_limit;
+      max_depth = depth_limit;
+      id =
+          game_id number offset;
+    }
 
 abbrev pub job_of : Settings → Job
 job_of settings = job_at settings settings.number settings.offset
 
 -- What is met.
 
--- a reader or a writer: the bytes that it has left or holds, where they are known; whether a call to it failed, how many bytes went through
+-- a reader or a writer: the bytes that it has left or holds, where they are known; whether a call
+-- to it failed, how many bytes went through
 -- it, and whether the last call was a good flush
 pub record Stream : Type 0 where
   pub bytes : Option (List ℕ)
@@ -52,20 +65,34 @@ pub record Io : Type 0 where
   pub err : Passage
 
 abbrev pub stream_of : {T : Type 0} → (T → Option (List ℕ)) → Tallied T → Stream
-stream_of bytes tally = record { bytes = bytes tally.inner; faulted = tally.faulted; moved = tally.moved; flushed = tally.flushed }
+stream_of bytes tally =
+    record {
+      bytes = bytes tally.inner;
+      faulted = tally.faulted;
+      moved = tally.moved;
+      flushed =
+          tally.flushed;
+    }
 
 abbrev pub passage : {T : Type 0} → (T → Option (List ℕ)) → Tallied T → Tallied T → Passage
 passage bytes old new = record { old = stream_of bytes old; new = stream_of bytes new }
 
-abbrev pub io_of : {R O E : Type 0} → (R → Option (List ℕ)) → (O → Option (List ℕ)) → (E → Option (List ℕ))
+abbrev pub io_of : {R O E : Type 0} → (R → Option (List ℕ)) → (O → Option (List ℕ))
+    → (E → Option (List ℕ))
     → Tallied R → Tallied R → Tallied O → Tallied O → Tallied E → Tallied E → Io
 io_of left out_bytes err_bytes input input' out out' err err' =
-    record { input = passage left input input'; out = passage out_bytes out out'; err = passage err_bytes err err' }
+    record {
+      input = passage left input input';
+      out = passage out_bytes out out';
+      err =
+          passage err_bytes err err';
+    }
 
 -- nothing has failed, no byte is read, and the run begins at a mark
 abbrev pub IsReady : {R O E : Type 0} → Job → Tallied R → Tallied O → Tallied E → Type 0
 IsReady job input out err =
-    (input.faulted ≡ false) × (out.faulted ≡ false) × (err.faulted ≡ false) × (input.moved ≡ 0) × IsGameMark job.id
+    (input.faulted ≡ false) × (out.faulted ≡ false) × (err.faulted ≡ false) × (input.moved ≡ 0)
+    × IsGameMark job.id
 
 -- What stands then. Of an input whose bytes are known:
 abbrev pub OnInput : Io → (List ℕ → Type 0) → Type 0
@@ -73,7 +100,8 @@ OnInput io P = IfSome io.input.old.bytes P
 
 -- the pieces of the input from the offset on
 abbrev pub ArePieces : Job → List ℕ → List MarkedPiece → Type 0
-ArePieces job whole pieces = AreMarkedPieces job.limit job.max_depth job.id.offset (drop job.id.offset whole) pieces
+ArePieces job whole pieces =
+    AreMarkedPieces job.limit job.max_depth job.id.offset (drop job.id.offset whole) pieces
 
 -- the stream grew by these bytes
 abbrev pub Adds : Passage → List ℕ → Type 0
@@ -81,9 +109,12 @@ Adds stream bytes = Appends stream.old.bytes stream.new.bytes bytes
 
 -- the pieces are reported so, and the output and standard error grew by what is reported
 abbrev pub AreWritten : Job → Io → List MarkedPiece → List Verdict → Type 0
-AreWritten job io pieces verdicts = Writes job.aim io.out.old.bytes io.out.new.bytes io.err.old.bytes io.err.new.bytes job.id.number pieces verdicts
+AreWritten job io pieces verdicts =
+    Writes job.aim io.out.old.bytes io.out.new.bytes io.err.old.bytes io.err.new.bytes job.id.number
+    pieces verdicts
 
--- At `Ok`: all pieces are reported and counted, the input is not too long, and both writers are flushed.
+-- At `Ok`: all pieces are reported and counted, the input is not too long, and both writers are
+-- flushed.
 pub record Completes (job : Job) (io : Io) (whole : List ℕ) (summary : Summary) : Type 0 where
   pub size : length whole ≤ largest_offset
   pub pieces : List MarkedPiece
@@ -94,10 +125,12 @@ pub record Completes (job : Job) (io : Io) (whole : List ℕ) (summary : Summary
   pub faulty : summary.faulty ≡ count_by is_faulty verdicts
 
 abbrev pub Completed : Job → Io → Summary → Type 0
-Completed job io summary = OnInput io (λ whole. Completes job io whole summary) × (io.out.new.flushed ≡ true) × (io.err.new.flushed ≡ true)
+Completed job io summary = OnInput io (λ whole. Completes job io whole summary)
+    × (io.out.new.flushed ≡ true) × (io.err.new.flushed ≡ true)
 
 -- In the mode of the listing the output grew by exactly the listing of their entries; and where the
--- run began at a mark of the whole input, by exactly the lines of the whole listing from that game on.
+-- run began at a mark of the whole input, by exactly the lines of the whole listing from that game
+-- on.
 pub record Lists (job : Job) (io : Io) (whole : List ℕ) : Type 0 where
   pub pieces : List MarkedPiece
   pub each : ArePieces job whole pieces
@@ -111,19 +144,23 @@ pub record Lists (job : Job) (io : Io) (whole : List ℕ) : Type 0 where
 abbrev pub Listed : Job → Io → Type 0
 Listed job io = OnInput io (λ whole. job.aim.mode ≡ mode.List → Lists job io whole)
 
--- At an error: the pieces of the complete blocks among some bytes from the offset on are reported, and nothing else;
+-- At an error: the pieces of the complete blocks among some bytes from the offset on are reported,
+-- and nothing else;
 abbrev pub IsCompleteOf : Job → Io → List ℕ → Type 0
 IsCompleteOf job io bytes =
-    WritesComplete job.aim job.limit job.max_depth job.id (drop job.id.offset bytes) io.out.old.bytes io.out.new.bytes io.err.old.bytes io.err.new.bytes
+    WritesComplete job.aim job.limit job.max_depth job.id (drop job.id.offset bytes)
+    io.out.old.bytes io.out.new.bytes io.err.old.bytes io.err.new.bytes
 
 -- or a beginning of the whole report is written.
 abbrev pub IsBegun : Job → Io → List ℕ → Type 0
 IsBegun job io whole =
-    BeginsAll job.aim job.limit job.max_depth job.id (drop job.id.offset whole) io.out.old.bytes io.out.new.bytes io.err.old.bytes io.err.new.bytes
+    BeginsAll job.aim job.limit job.max_depth job.id (drop job.id.offset whole) io.out.old.bytes
+    io.out.new.bytes io.err.old.bytes io.err.new.bytes
 
 abbrev pub Stops : RunError → Job → Io → List ℕ → Type 0
 Stops Read job io whole = IsCompleteOf job io (take io.input.new.moved whole)
-Stops InputTooLong job io whole = (largest_offset < length whole) × IsCompleteOf job io (take largest_offset whole)
+Stops InputTooLong job io whole = (largest_offset < length whole)
+    × IsCompleteOf job io (take largest_offset whole)
 Stops Write job io whole = IsBegun job io whole
 Stops OutOfMemory job io whole = IsBegun job io whole
 

@@ -1,6 +1,8 @@
 -- Runs over several files: they write what a run over each file alone writes, in the order of the
 -- files.
-use Rattle.std.specs.Prelude.{◌≡◌, ◌≢◌, ◌==◌, ◌&&◌, if◌then◌else◌, ℕ, Bool, true, false, List, [], ◌∷◌, ◌++◌, All, map, length, take, count_by, Option, Some, codes, decimal, is_some}
+use Rattle.std.specs.Prelude.{◌≡◌, ◌≢◌, ◌==◌, ◌&&◌, if◌then◌else◌, ℕ, Bool, true, false, List, []}
+use Rattle.std.specs.Prelude.{◌∷◌, ◌++◌, All, map, length, take, count_by, Option, Some, codes}
+use Rattle.std.specs.Prelude.{decimal, is_some}
 use Rattle.std.specs.declared.io.ErrorKind.{ErrorKind}
 use Rattle.std.specs.declared.io.ErrorKind.TheVariants.{OutOfMemory}
 use Rattle.pgn_text.specs.Public.Marks.{MarkedPiece}
@@ -8,10 +10,12 @@ use Rattle.pgn_extract.specs.Public.Aims.{aim_of}
 use Rattle.pgn_extract.specs.Public.Index.{shown_name, titled}
 use Rattle.pgn_extract.specs.Public.Outcomes.{AppendsFront}
 use Rattle.pgn_extract.specs.Public.Runs.{Adds, Job, ArePieces, Passage, Stops, Stream, job_of}
-use Rattle.pgn_extract.specs.Public.Verdicts.{Verdict, AreVerdicts, fault_lines, is_faulty, output_text}
+use Rattle.pgn_extract.specs.Public.Verdicts.{Verdict, AreVerdicts, fault_lines, is_faulty}
+use Rattle.pgn_extract.specs.Public.Verdicts.{output_text}
 use Rattle.pgn_extract.specs.declared.app.files.Task.{Task}
 use Rattle.pgn_extract.specs.declared.output.outcome.RunError.{RunError}
-use Rattle.pgn_extract.specs.declared.output.outcome.RunError.TheVariants.{Read, Write, InputTooLong}
+use Rattle.pgn_extract.specs.declared.output.outcome.RunError.TheVariants.{Read, Write}
+use Rattle.pgn_extract.specs.declared.output.outcome.RunError.TheVariants.{InputTooLong}
 use Rattle.pgn_extract.specs.declared.output.outcome.RunError.TheVariants as errors
 use Rattle.pgn_extract.specs.declared.output.outcome.Summary.{Summary}
 
@@ -66,7 +70,10 @@ order_of task = record { job = job_of task.settings; end = task.end; summary = t
 -- with the name for the path
 abbrev pub order_at : Task → List ℕ → Order
 order_at task path = record {
-  job = record (job_of task.settings) { aim = record (aim_of task.settings) { name = name_at task.with_names path task.settings.name } };
+  job = record (job_of task.settings) {
+    aim =
+        record (aim_of task.settings) { name = name_at task.with_names path task.settings.name };
+  };
   end = task.end;
   summary = task.summary;
 }
@@ -147,12 +154,13 @@ WritesPaths order known paths out err =
 -- What stands where a run over files ends early.
 
 -- of what is written of a path, both grew by a beginning
-pub record BeginsPath (order : Order) (path : List ℕ) (at : AtPath) (out err : Passage) : Type 0 where
-  pub output : List ℕ
-  pub report : List ℕ
-  pub is : IsOfPath order path at output report
-  pub outputs : AppendsFront out.old.bytes out.new.bytes output
-  pub reports : AppendsFront err.old.bytes err.new.bytes report
+pub record BeginsPath (order : Order) (path : List ℕ) (at : AtPath) (out err : Passage) : Type 0
+  where
+    pub output : List ℕ
+    pub report : List ℕ
+    pub is : IsOfPath order path at output report
+    pub outputs : AppendsFront out.old.bytes out.new.bytes output
+    pub reports : AppendsFront err.old.bytes err.new.bytes report
 
 -- a run over the file ended with the error, and left what it says
 abbrev pub StopsInFile : RunError → Order → AtPath → Passage → Passage → Type 0

@@ -1,6 +1,7 @@
 -- What a run reports of the pieces of a text, in each of its modes.
 use Rattle.std.specs.Prelude.{◌≡◌, ℕ, ◌+◌, Bool, true, false, List, [], ◌∷◌, ◌++◌, map, codes}
-use Rattle.pgn_text.specs.Public.Marks.{PieceKind, ReadableGame, UnreadableRest, TooLongBlock, MarkedPiece}
+use Rattle.pgn_text.specs.Public.Marks.{PieceKind, ReadableGame, UnreadableRest, TooLongBlock}
+use Rattle.pgn_text.specs.Public.Marks.{MarkedPiece}
 use Rattle.pgn_text.specs.Public.Parts.{Part, spelled}
 use Rattle.pgn_game.specs.Public.Faults.{Fault}
 use Rattle.pgn_game.specs.Public.Replays.{Replay}
@@ -19,7 +20,8 @@ use Rattle.pgn_extract.specs.declared.settings.Mode.TheVariants as modes
 pub data Verdict : Type 0 where
   -- it is sound in the mode: these bytes go to the output
   SoundGame : List ℕ → Verdict
-  -- it is faulty in the mode: these bytes go to the output, this line to standard error, and this note after it
+  -- it is faulty in the mode: these bytes go to the output, this line to standard error, and this
+  -- note after it
   FaultyGame : List ℕ → List ℕ → List ℕ → Verdict
 
 -- what goes to the output
@@ -52,23 +54,30 @@ abbrev pub fault_lines : List Verdict → List ℕ
 fault_lines [] = []
 fault_lines (verdict ∷ more) = fault_line_of verdict ++ fault_lines more
 
--- the game is reported in the listing: where it is sound, by the lines of the entries that it lists, else by the line of its fault
+-- the game is reported in the listing: where it is sound, by the lines of the entries that it
+-- lists, else by the line of its fault
 abbrev pub IsListed : Aim → Verdict → GameId → List Part → Type 0
 IsListed aim (SoundGame text) id parts =
-    (replay : Replay) × (entries : List Entry) × IsReplayOf Main parts replay × AreListed aim id (heading_in parts) replay entries × (text ≡ listing aim.name entries)
+    (replay : Replay) × (entries : List Entry) × IsReplayOf Main parts replay
+    × AreListed aim id (heading_in parts) replay entries × (text ≡ listing aim.name entries)
 IsListed aim (FaultyGame text line note) id parts =
-    (fault : Fault) × IsFaultOf Main parts fault × (line ≡ fault_text aim.name id (cause_text fault)) × IsNote aim.explain note × (text ≡ [])
+    (fault : Fault) × IsFaultOf Main parts fault
+    × (line ≡ fault_text aim.name id (cause_text fault)) × IsNote aim.explain note × (text ≡ [])
 
--- the game is reported in the export: where it is sound in the lines that are written, by what is written of it, else by the line of its fault,
+-- the game is reported in the export: where it is sound in the lines that are written, by what is
+-- written of it, else by the line of its fault,
 -- and by its bytes where the faulty ones are selected
 abbrev pub IsExported : Aim → Verdict → GameId → List Part → Type 0
 IsExported aim (SoundGame text) id parts =
-    (replay : Replay) × IsReplayOf (written_lines aim) parts replay × IsWritten aim id parts replay text
+    (replay : Replay) × IsReplayOf (written_lines aim) parts replay
+    × IsWritten aim id parts replay text
 IsExported aim (FaultyGame text line note) id parts =
-    (fault : Fault) × IsFaultOf (written_lines aim) parts fault × (line ≡ fault_text aim.name id (cause_text fault)) × IsNote aim.explain note
+    (fault : Fault) × IsFaultOf (written_lines aim) parts fault
+    × (line ≡ fault_text aim.name id (cause_text fault)) × IsNote aim.explain note
     × (text ≡ faulty_text modes.Export aim.select (spelled parts))
 
--- a game that can be read is reported so in a mode: in the index by its mark, in the listing and in the export as above
+-- a game that can be read is reported so in a mode: in the index by its mark, in the listing and in
+-- the export as above
 abbrev pub IsVerdictIn : Mode → Aim → GameId → List Part → Verdict → Type 0
 IsVerdictIn modes.Index aim id parts verdict = verdict ≡ SoundGame (mark_line aim.name id)
 IsVerdictIn modes.List aim id parts verdict = IsListed aim verdict id parts
@@ -78,34 +87,43 @@ IsVerdictIn modes.Export aim id parts verdict = IsExported aim verdict id parts
 abbrev pub IsGameVerdict : Aim → GameId → List Part → Verdict → Type 0
 IsGameVerdict aim id parts verdict = IsVerdictIn aim.mode aim id parts verdict
 
--- the piece is faulty: these bytes go to the output, this line to standard error, and a note after it where explanations are asked for
+-- the piece is faulty: these bytes go to the output, this line to standard error, and a note after
+-- it where explanations are asked for
 abbrev pub IsReportedBy : Aim → List ℕ → List ℕ → Verdict → Type 0
-IsReportedBy aim text line verdict = (note : List ℕ) × IsNote aim.explain note × (verdict ≡ FaultyGame text line note)
+IsReportedBy aim text line verdict = (note : List ℕ) × IsNote aim.explain note
+    × (verdict ≡ FaultyGame text line note)
 
--- bytes that begin at the offset and are no game are reported so: by this line, and where explanations are asked for a note that names the byte at
--- which they stop agreeing with games; and they stand in the output where the faulty ones are selected
+-- bytes that begin at the offset and are no game are reported so: by this line, and where
+-- explanations are asked for a note that names the byte at
+-- which they stop agreeing with games; and they stand in the output where the faulty ones are
+-- selected
 abbrev pub IsUnreadableVerdict : Aim → ℕ → List ℕ → List ℕ → Verdict → Type 0
 IsUnreadableVerdict aim offset bytes line verdict =
     (note : List ℕ) × IsNote aim.explain note × NamesStop aim.explain offset bytes note
     × (verdict ≡ FaultyGame (faulty_text aim.mode aim.select bytes) line note)
 
--- a piece that is chosen is reported so, by what it is: what can't be read is reported by the same line in each mode
+-- a piece that is chosen is reported so, by what it is: what can't be read is reported by the same
+-- line in each mode
 abbrev pub IsPieceVerdict : PieceKind → Aim → GameId → Verdict → Type 0
 IsPieceVerdict (ReadableGame parts) aim id verdict = IsGameVerdict aim id parts verdict
 IsPieceVerdict (UnreadableRest bytes) aim id verdict =
     IsUnreadableVerdict aim id.offset bytes (fault_text aim.name id (codes "unreadable")) verdict
-IsPieceVerdict TooLongBlock aim id verdict = IsReportedBy aim [] (fault_text aim.name id (codes "too long")) verdict
+IsPieceVerdict TooLongBlock aim id verdict =
+    IsReportedBy aim [] (fault_text aim.name id (codes "too long")) verdict
 
--- the piece with this number is reported so in the mode: where it is not chosen, nothing goes anywhere
+-- the piece with this number is reported so in the mode: where it is not chosen, nothing goes
+-- anywhere
 abbrev pub IsVerdict : Aim → ℕ → MarkedPiece → Verdict → Type 0
 IsVerdict aim number piece verdict =
-    IfChosen (is_chosen aim.chosen (id_of number piece)) (IsPieceVerdict piece.kind aim (id_of number piece) verdict) (verdict ≡ SoundGame [])
+    IfChosen (is_chosen aim.chosen (id_of number piece))
+    (IsPieceVerdict piece.kind aim (id_of number piece) verdict) (verdict ≡ SoundGame [])
 
 -- the pieces in a row, which are numbered from a number on, are reported so one after the other
 abbrev pub AreVerdicts : Aim → ℕ → List MarkedPiece → List Verdict → Type 0
 AreVerdicts aim number [] verdicts = verdicts ≡ []
 AreVerdicts aim number (piece ∷ more) verdicts =
-    (own : Verdict) × (rest : List Verdict) × (verdicts ≡ own ∷ rest) × IsVerdict aim number piece own × AreVerdicts aim (number + 1) more rest
+    (own : Verdict) × (rest : List Verdict) × (verdicts ≡ own ∷ rest)
+    × IsVerdict aim number piece own × AreVerdicts aim (number + 1) more rest
 
 -- the same is reported but for the notes, and all the same where no explanations are asked for
 pub record IsSameReport (aim : Aim) (reported others : List Verdict) : Type 0 where

@@ -168,7 +168,8 @@ impl MarksFile {
 
     /// The marks, and what may be said of them at the end.
     pub fn into_marks(self) -> (Marks, Unmarked)
-        ensures { (id : GameId) → is_among result.0 id ≡ is_among (map given_of self.pairs.items) id }
+        ensures { (id : GameId) → is_among result.0 id
+            ≡ is_among (map given_of self.pairs.items) id }
     {
         let MarksFile {
             names,

@@ -1,5 +1,6 @@
 //! What stands on standard error of a whole run: its summary, or why it failed.
-ghost use Rattle.std.specs.Prelude.{◌≡◌, ◌↔◌, ◌⊎◌, ◌++◌, false, true, codes, IfErr, IfOk, IsErrOf, OnErr, OnOk};
+ghost use Rattle.std.specs.Prelude.{◌≡◌, ◌↔◌, ◌⊎◌, ◌++◌, false, true, codes, IfErr, IfOk, IsErrOf};
+ghost use Rattle.std.specs.Prelude.{OnErr, OnOk};
 ghost use Rattle.std.specs.Io.KnownBytes.{Appends};
 ghost use Rattle.pgn_extract.specs.Public.Index.{titled};
 ghost use Rattle.pgn_extract.specs.Public.Outcomes.{AppendsFront};
@@ -116,7 +117,8 @@ pub fn put_summary<E: Write>(
         (summary_text name.now summary.now)) }
     ensures left { OnErr result (AppendsFront (E.contents err.old.inner) (E.contents err.new.inner)
         (summary_text name.now summary.now)) }
-    ensures only { IfErr result (λ error. (error ≡ RunError.Write) ⊎ (error ≡ RunError.OutOfMemory)) }
+    ensures only { IfErr result (λ error. (error ≡ RunError.Write)
+        ⊎ (error ≡ RunError.OutOfMemory)) }
     ensures fault { IsErrOf result RunError.Write ↔ (err.new.faulted ≡ true) }
 {
     let line = summary_line(alloc, name, summary)?;

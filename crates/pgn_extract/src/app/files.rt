@@ -1,5 +1,6 @@
 //! The files of the command line, each of which is read as if it were the only one.
-ghost use Rattle.std.specs.Prelude.{◌≡◌, ◌≢◌, ◌↔◌, ◌⊎◌, ◌≤◌, ◌^◌, ◌||◌, ℕ, List, [], false, true, is_none, IfErr, IfOk, IfSome, OnErr, OnOk, IsErrOf};
+ghost use Rattle.std.specs.Prelude.{◌≡◌, ◌≢◌, ◌↔◌, ◌⊎◌, ◌≤◌, ◌^◌, ◌||◌, ℕ, List, [], false, true};
+ghost use Rattle.std.specs.Prelude.{is_none, IfErr, IfOk, IfSome, OnErr, OnOk, IsErrOf};
 ghost use Rattle.std.specs.Io.KnownBytes.{Keeps};
 ghost use Rattle.std.specs.List.{list_any};
 ghost use Rattle.std.specs.IoError.{error_kind};
@@ -7,7 +8,11 @@ ghost use Rattle.pgn_text.specs.Public.Limits.{largest_offset};
 ghost use Rattle.pgn_extract.specs.Private.RunParts.{WritesPath};
 ghost use Rattle.pgn_extract.specs.Public.Outcomes.{AppendsFront};
 ghost use Rattle.pgn_extract.specs.Public.Runs.{Adds, passage};
-ghost use Rattle.pgn_extract.specs.Public.Several.{AtPath, FileOf, Unknown, AreKnown, IsOpened, IsRefused, NamesUnopened, StopsAmong, StopsAtPath, WritesPaths, WritesRead, is_no_file, order_at, order_of, own_summary, paths_of};
+ghost use Rattle.pgn_extract.specs.Public.Several.{AtPath, FileOf, Unknown, AreKnown, IsOpened};
+ghost use Rattle.pgn_extract.specs.Public.Several.{IsRefused, NamesUnopened, StopsAmong};
+ghost use Rattle.pgn_extract.specs.Public.Several.{StopsAtPath, WritesPaths, WritesRead};
+ghost use Rattle.pgn_extract.specs.Public.Several.{is_no_file, order_at, order_of, own_summary};
+ghost use Rattle.pgn_extract.specs.Public.Several.{paths_of};
 
 use crate::app::endings::put_summary;
 use crate::engine::run_skipping;
@@ -40,8 +45,10 @@ pub trait Files {
 
     /// Opens the file at `path`. An error of the kind `OutOfMemory` means that memory ran out.
     fn open(&mut self, path: &str) -> io::Result<Self::Input>
-        ensures opened { IfOk result (λ input. IsOpened (known self.old path.now) (Self.Input.remaining input)) }
-        ensures refused { IfErr result (λ error. IsRefused (known self.old path.now) (error_kind error)) }
+        ensures opened { IfOk result (λ input.
+            IsOpened (known self.old path.now) (Self.Input.remaining input)) }
+        ensures refused { IfErr result (λ error.
+            IsRefused (known self.old path.now) (error_kind error)) }
         ensures kept { (own : List ℕ) → known self.new own ≡ known self.old own };
 
     /// Opens a file of criteria, by its path or, of an example, by its name. Errors are those of
@@ -160,7 +167,8 @@ fn put_own_summary<E: Write>(
         (own_summary task.now.summary task.now.settings.name own.now)) }
     ensures left { OnErr result (AppendsFront (E.contents err.old.inner) (E.contents err.new.inner)
         (own_summary task.now.summary task.now.settings.name own.now)) }
-    ensures only { IfErr result (λ error. (error ≡ RunError.Write) ⊎ (error ≡ RunError.OutOfMemory)) }
+    ensures only { IfErr result (λ error. (error ≡ RunError.Write)
+        ⊎ (error ≡ RunError.OutOfMemory)) }
     ensures fault { IsErrOf result RunError.Write ↔ (err.new.faulted ≡ true) }
 {
     if task.summary && task.settings.name.is_some() {
@@ -182,11 +190,14 @@ where
     requires number { (1 ≤ task.now.settings.number) × (task.now.settings.number ≤ 2 ^ 62) }
     requires offset { task.now.settings.offset ≤ largest_offset }
     ensures read { OnOk result (IfSome (I.remaining input)
-        (λ text. WritesRead (order_of task.now) text (passage O.contents out.old out.new) (passage E.contents err.old err.new))) }
+        (λ text.
+        WritesRead (order_of task.now) text (passage O.contents out.old out.new)
+        (passage E.contents err.old err.new))) }
     ensures stopped { IfErr result (λ error. IfSome (I.remaining input) (λ text. (path : List ℕ)
         → StopsAtPath error (order_of task.now) path (FileOf text)
         (passage O.contents out.old out.new) (passage E.contents err.old err.new))) }
-    ensures faults { IsErrOf result RunError.Write ↔ ((out.new.faulted ≡ true) ⊎ (err.new.faulted ≡ true)) }
+    ensures faults { IsErrOf result RunError.Write
+        ↔ ((out.new.faulted ≡ true) ⊎ (err.new.faulted ≡ true)) }
 {
     let mut input = Tally::new(input.take(task.end));
     let own = run_skipping(task.alloc, &mut input, out, err, &task.settings)?;
@@ -203,12 +214,14 @@ pub(crate) fn put_unopened<E: Write>(
 ) -> Result<(), RunError>
     requires { err.old.faulted ≡ false }
     ensures memory { OnOk result (error_kind error.now ≢ ErrorKind.OutOfMemory) }
-    ensures line { OnOk result ((line : List ℕ) × NamesUnopened path.now line × Adds (passage E.contents err.old err.new) line) }
+    ensures line { OnOk result ((line : List ℕ) × NamesUnopened path.now line
+        × Adds (passage E.contents err.old err.new) line) }
     ensures left { OnErr result ((line : List ℕ) × NamesUnopened path.now line
         × AppendsFront (E.contents err.old.inner) (E.contents err.new.inner) line) }
     ensures kept { error_kind error.now ≡ ErrorKind.OutOfMemory
         → Keeps (E.contents err.old.inner) (E.contents err.new.inner) }
-    ensures only { IfErr result (λ error. (error ≡ RunError.Write) ⊎ (error ≡ RunError.OutOfMemory)) }
+    ensures only { IfErr result (λ error. (error ≡ RunError.Write)
+        ⊎ (error ≡ RunError.OutOfMemory)) }
     ensures fault { IsErrOf result RunError.Write ↔ (err.new.faulted ≡ true) }
 {
     if error.kind() == ErrorKind::OutOfMemory {
@@ -245,9 +258,11 @@ where
     requires sound { (out.old.faulted ≡ false) × (err.old.faulted ≡ false) }
     requires number { (1 ≤ task.old.settings.number) × (task.old.settings.number ≤ 2 ^ 62) }
     requires offset { task.old.settings.offset ≤ largest_offset }
-    ensures written { OnOk result (F.known files.old path.now ≢ Unknown → WritesPath (order_at task.old path.now) path.now (F.known files.old path.now)
+    ensures written { OnOk result (F.known files.old path.now ≢ Unknown
+        → WritesPath (order_at task.old path.now) path.now (F.known files.old path.now)
         (passage O.contents out.old out.new) (passage E.contents err.old err.new)) }
-    ensures unopened { IfOk result (λ ran. F.known files.old path.now ≢ Unknown → is_none ran ≡ is_no_file (F.known files.old path.now)) }
+    ensures unopened { IfOk result (λ ran. F.known files.old path.now ≢ Unknown
+        → is_none ran ≡ is_no_file (F.known files.old path.now)) }
     ensures stopped { IfErr result (λ error. F.known files.old path.now ≢ Unknown
         → StopsAtPath error (order_at task.old path.now) path.now (F.known files.old path.now)
         (passage O.contents out.old out.new) (passage E.contents err.old err.new)) }
@@ -255,7 +270,8 @@ where
     ensures orders { (own : List ℕ) → order_at task.new own ≡ order_at task.old own }
     ensures number { task.new.settings.number ≡ task.old.settings.number }
     ensures offset { task.new.settings.offset ≡ task.old.settings.offset }
-    ensures faults { IsErrOf result RunError.Write ↔ ((out.new.faulted ≡ true) ⊎ (err.new.faulted ≡ true)) }
+    ensures faults { IsErrOf result RunError.Write
+        ↔ ((out.new.faulted ≡ true) ⊎ (err.new.faulted ≡ true)) }
 {
     name_file(task, path)?;
     match files.open(path) {
@@ -284,13 +300,16 @@ where
     requires number { (1 ≤ task.old.settings.number) × (task.old.settings.number ≤ 2 ^ 62) }
     requires offset { task.old.settings.offset ≤ largest_offset }
     ensures written { OnOk result (AreKnown (F.known files.old) (paths_of task.old)
-        → WritesPaths (order_at task.old) (F.known files.old) (paths_of task.old) (passage O.contents out.old out.new) (passage E.contents err.old err.new)) }
+        → WritesPaths (order_at task.old) (F.known files.old) (paths_of task.old)
+        (passage O.contents out.old out.new) (passage E.contents err.old err.new)) }
     ensures unopened { IfOk result (λ total. AreKnown (F.known files.old) (paths_of task.old)
-        → total.unopened ≡ list_any (λ path. is_no_file (F.known files.old path)) (paths_of task.old)) }
+        → total.unopened
+        ≡ list_any (λ path. is_no_file (F.known files.old path)) (paths_of task.old)) }
     ensures stopped { IfErr result (λ error. AreKnown (F.known files.old) (paths_of task.old)
         → StopsAmong (order_at task.old) (F.known files.old) (paths_of task.old) error
         (passage O.contents out.old out.new) (passage E.contents err.old err.new)) }
-    ensures faults { IsErrOf result RunError.Write ↔ ((out.new.faulted ≡ true) ⊎ (err.new.faulted ≡ true)) }
+    ensures faults { IsErrOf result RunError.Write
+        ↔ ((out.new.faulted ≡ true) ⊎ (err.new.faulted ≡ true)) }
 {
     let mut total = Total::NONE;
     let paths = task.paths;

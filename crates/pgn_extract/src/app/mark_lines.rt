@@ -1,6 +1,8 @@
 //! The marks at the beginnings of lines.
-ghost use Rattle.std.specs.Prelude.{◌≡◌, ◌<◌, ◌++◌, ℕ, List, codes, length, not, option_map, position, IfOk, IfSome};
-ghost use Rattle.pgn_extract.specs.Private.MarkLines.{front_mark, is_mark_byte, line_mark, mark_of_rest, rest_after};
+ghost use Rattle.std.specs.Prelude.{◌≡◌, ◌<◌, ◌++◌, ℕ, List, codes, length, not, option_map};
+ghost use Rattle.std.specs.Prelude.{position, IfOk, IfSome};
+ghost use Rattle.pgn_extract.specs.Private.MarkLines.{front_mark, is_mark_byte, line_mark};
+ghost use Rattle.pgn_extract.specs.Private.MarkLines.{mark_of_rest, rest_after};
 
 use crate::app::mark::read_mark;
 use crate::marks::GameId;
@@ -129,7 +131,8 @@ fn ends_well(text: &[u8], is_report: bool) -> bool {
     }
 }
 
-/// Whether it is a line that stands beside the marks of a run: a blank line, a note, or the summary.
+/// Whether it is a line that stands beside the marks of a run: a blank line, a note, or the
+/// summary.
 pub fn is_beside(line: &[u8]) -> bool {
     line.starts_with(b"  ") || line.trim_ascii().is_empty() || is_summary(line)
 }

@@ -3,8 +3,11 @@ ghost use Rattle.std.specs.Prelude.{◌≡◌, ◌||◌, true, option_map, IfErr
 ghost use Rattle.pgn_extract.specs.Public.Aims.{aim_of};
 ghost use Rattle.pgn_extract.specs.Public.GivenMarks.{IsGameMark};
 ghost use Rattle.pgn_extract.specs.Public.Listing.{is_plain};
-ghost use Rattle.pgn_extract.specs.Public.Requests.{asked, asked_form, asked_mode, asked_select, asked_style, asks_names};
-ghost use Rattle.pgn_extract.specs.Public.Requests.{bad_mark, begin_of, end_of, file_refusals, first_line, gives_mark, has_style, option_refusals, refused};
+ghost use Rattle.pgn_extract.specs.Public.Requests.{asked, asked_form, asked_mode, asked_select};
+ghost use Rattle.pgn_extract.specs.Public.Requests.{asked_style, asks_names};
+ghost use Rattle.pgn_extract.specs.Public.Requests.{bad_mark, begin_of, end_of, file_refusals};
+ghost use Rattle.pgn_extract.specs.Public.Requests.{first_line, gives_mark, has_style};
+ghost use Rattle.pgn_extract.specs.Public.Requests.{option_refusals, refused};
 
 use crate::app::command::{DEFAULT_WIDTH, Request};
 use crate::app::conditions::are_lines;

@@ -4,7 +4,8 @@ ghost use Rattle.pgn_extract.specs.Private.PackStops.{StopsAmongPacks, StopsAtPa
 ghost use Rattle.pgn_extract.specs.Public.Aims.{aim_of};
 ghost use Rattle.pgn_extract.specs.Public.Listing.{is_plain};
 ghost use Rattle.pgn_extract.specs.Public.Runs.{Stream, passage, stream_of};
-ghost use Rattle.pgn_extract.specs.Public.Searching.{IndexesWhatWasPacked, ListsWhatWasPacked, Searches};
+ghost use Rattle.pgn_extract.specs.Public.Searching.{IndexesWhatWasPacked, ListsWhatWasPacked};
+ghost use Rattle.pgn_extract.specs.Public.Searching.{Searches};
 ghost use Rattle.pgn_extract.specs.Public.Several.{Unknown, AreKnown};
 ghost use Rattle.pgn_extract.specs.Private.SeveralPacks.{SearchesPath, SearchesPaths, pack_paths};
 ghost use Rattle.pgn_extract.specs.declared.packed.searching.Searched.{Searched};

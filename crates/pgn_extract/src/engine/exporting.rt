@@ -1,5 +1,6 @@
 //! Which games are exported, and how.
-ghost use Rattle.std.specs.Prelude.{◌≡◌, ◌↔◌, ◌++◌, ℕ, List, MatchResult, IfErr, IfSome, OnOk, IsTrue, option_map};
+ghost use Rattle.std.specs.Prelude.{◌≡◌, ◌↔◌, ◌++◌, ℕ, List, MatchResult, IfErr, IfSome, OnOk};
+ghost use Rattle.std.specs.Prelude.{IsTrue, option_map};
 ghost use Rattle.pgn_text.specs.Public.GameTexts.{GameText, tag_in};
 ghost use Rattle.pgn_game.specs.Public.Exports.{lines_with};
 ghost use Rattle.pgn_game.specs.Public.Faults.{IsFault};
@@ -8,14 +9,15 @@ ghost use Rattle.pgn_game.specs.Public.Replays.{IsSoundGame, Replay, fault_of};
 ghost use Rattle.pgn_game.specs.Public.Starts.{fen_tag};
 ghost use Rattle.pgn_game.specs.declared.replays.replayer.Lines.TheVariants.{Main};
 ghost use Rattle.pgn_extract.specs.Public.Aims.{aim_of};
-ghost use Rattle.pgn_extract.specs.Private.Blockwise.{AddsText, IsGameSelected, LeavesText, PutsText, TakesAll};
-ghost use Rattle.pgn_extract.specs.Public.Exports.{HasEntry, as_it_stands, faulty_text, line_with, written_lines};
+ghost use Rattle.pgn_extract.specs.Private.Blockwise.{AddsText, IsGameSelected, LeavesText};
+ghost use Rattle.pgn_extract.specs.Private.Blockwise.{PutsText, TakesAll};
+ghost use Rattle.pgn_extract.specs.Public.Exports.{HasEntry, as_it_stands, faulty_text, line_with};
+ghost use Rattle.pgn_extract.specs.Public.Exports.{written_lines};
 ghost use Rattle.pgn_extract.specs.Private.Finding.{IsChosen, StopsAtFault};
 ghost use Rattle.pgn_criteria.specs.Public.Meeting.{heading_of};
 ghost use Rattle.pgn_extract.specs.declared.settings.Form.TheVariants.{AsItStands, Line, Record};
 
-use crate::entries::GameContext;
-use crate::entries::has_entry;
+use crate::entries::{GameContext, has_entry};
 use crate::output::texts::push_named_mark;
 use crate::settings::{Form, Mode, Select, Settings};
 use pgn_game::pack::{GameOrigin, push_record};
@@ -54,7 +56,8 @@ fn push_as_is(text: &mut Vec<u8>, bytes: &[u8]) -> Result<(), AllocError>
     text.extend_from_slice(b"\n\n")
 }
 
-/// Appends what is written of a faulty piece with these bytes: they, where the export selects the faulty ones.
+/// Appends what is written of a faulty piece with these bytes: they, where the export selects the
+/// faulty ones.
 pub fn push_faulty(
     text: &mut Vec<u8>,
     mode: Mode,
@@ -74,7 +77,8 @@ pub fn push_faulty(
 
 /// Whether a sound game is selected that has an entry or has none.
 fn is_selected(settings: &Settings, has: bool) -> bool
-    ensures { (game : GameText) (replay : Replay) → (IsTrue has ↔ HasEntry (aim_of settings.now) (heading_of game) replay)
+    ensures { (game : GameText) (replay : Replay)
+        → (IsTrue has ↔ HasEntry (aim_of settings.now) (heading_of game) replay)
         → IsTrue result ↔ IsGameSelected (aim_of settings.now) game replay }
 {
     match settings.select {
@@ -84,7 +88,8 @@ fn is_selected(settings: &Settings, has: bool) -> bool
     }
 }
 
-/// Whether each sound game is written, whatever its moves: ply 0 is looked for, and nothing else is asked.
+/// Whether each sound game is written, whatever its moves: ply 0 is looked for, and nothing else is
+/// asked.
 pub fn takes_all(settings: &Settings) -> bool
     ensures { IsTrue result → TakesAll (aim_of settings.now) }
 {
@@ -99,7 +104,9 @@ fn first_fault<'a>(
     fault: GameFault<'a>,
 ) -> GameFault<'a>
     requires { IfSome (fault_of fault) (IsFault Main (tag_in fen_tag game.now.tags) game.now.elements) }
-    ensures { IfSome (fault_of result) (IsFault (written_lines (aim_of settings.now)) (tag_in fen_tag game.now.tags) game.now.elements) }
+    ensures { IfSome (fault_of result)
+        (IsFault (written_lines (aim_of settings.now)) (tag_in fen_tag game.now.tags)
+        game.now.elements) }
 {
     match written_lines(settings) {
         Lines::Main => fault,
@@ -110,7 +117,8 @@ fn first_fault<'a>(
     }
 }
 
-/// Whether the lines that are written are sound, of a game whose main line is; or their first fault.
+/// Whether the lines that are written are sound, of a game whose main line is; or their first
+/// fault.
 fn check_written<'a>(
     alloc: Global,
     settings: &Settings,
@@ -118,8 +126,12 @@ fn check_written<'a>(
 ) -> Result<(), GameFault<'a>>
     requires { IsSoundGame Main (tag_in fen_tag game.now.tags) game.now.elements }
     ensures { MatchResult result
-        (λ _. IsSoundGame (written_lines (aim_of settings.now)) (tag_in fen_tag game.now.tags) game.now.elements)
-        (λ fault. IfSome (fault_of fault) (IsFault (written_lines (aim_of settings.now)) (tag_in fen_tag game.now.tags) game.now.elements)) }
+        (λ _. IsSoundGame (written_lines (aim_of settings.now)) (tag_in fen_tag game.now.tags)
+        game.now.elements)
+        (λ fault.
+        IfSome (fault_of fault)
+        (IsFault (written_lines (aim_of settings.now)) (tag_in fen_tag game.now.tags)
+        game.now.elements)) }
 {
     match written_lines(settings) {
         Lines::Main => Ok(()),
@@ -127,16 +139,20 @@ fn check_written<'a>(
     }
 }
 
-/// Appends the line of a game, with its moves in this notation; where its main line is faulty or memory is refused, some bytes of it.
+/// Appends the line of a game, with its moves in this notation; where its main line is faulty or
+/// memory is refused, some bytes of it.
 fn push_game_line<'a>(
     text: &mut Vec<u8>,
     context: GameContext<'_>,
     notation: Notation,
     game: &RawGame<'a>,
 ) -> Result<(), GameFault<'a>>
-    ensures text { OnOk result ((line : List ℕ) × IsGameLine notation (tag_in fen_tag game.now.tags) game.now.elements line
-        × (text.new.items ≡ text.old.items ++ line_with context.entry.settings.now.name context.entry.own line)) }
-    ensures fault { IfErr result (λ fault. IfSome (fault_of fault) (StopsAtFault game.now text.old.items text.new.items)) }
+    ensures text { OnOk result ((line : List ℕ)
+        × IsGameLine notation (tag_in fen_tag game.now.tags) game.now.elements line
+        × (text.new.items ≡ text.old.items
+        ++ line_with context.entry.settings.now.name context.entry.own line)) }
+    ensures fault { IfErr result (λ fault.
+        IfSome (fault_of fault) (StopsAtFault game.now text.old.items text.new.items)) }
 {
     let GameContext {
         alloc,
@@ -150,7 +166,8 @@ fn push_game_line<'a>(
     Ok(())
 }
 
-/// Appends the line of a game, with its moves in this notation; or answers the fault of its main line, and nothing is appended.
+/// Appends the line of a game, with its moves in this notation; or answers the fault of its main
+/// line, and nothing is appended.
 fn put_game_line<'a>(
     text: &mut Vec<u8>,
     context: GameContext<'_>,
@@ -159,8 +176,11 @@ fn put_game_line<'a>(
 ) -> Result<(), GameFault<'a>>
     requires { context.settings.now.form ≡ Line notation }
     ensures { MatchResult result
-        (λ _. PutsText (aim_of context.entry.settings.now) context.entry.own game.now text.old.items text.new.items)
-        (λ fault. IfSome (fault_of fault) (LeavesText (aim_of context.entry.settings.now) game.now text.old.items text.new.items)) }
+        (λ _. PutsText (aim_of context.entry.settings.now) context.entry.own game.now text.old.items
+        text.new.items)
+        (λ fault.
+        IfSome (fault_of fault)
+        (LeavesText (aim_of context.entry.settings.now) game.now text.old.items text.new.items)) }
 {
     let length = text.len();
     match push_game_line(text, context, notation, game) {
@@ -190,8 +210,11 @@ fn put_game_record<'a>(
 ) -> Result<(), GameFault<'a>>
     requires { context.settings.now.form ≡ Record }
     ensures { MatchResult result
-        (λ _. PutsText (aim_of context.entry.settings.now) context.entry.own game.now text.old.items text.new.items)
-        (λ fault. IfSome (fault_of fault) (LeavesText (aim_of context.entry.settings.now) game.now text.old.items text.new.items)) }
+        (λ _. PutsText (aim_of context.entry.settings.now) context.entry.own game.now text.old.items
+        text.new.items)
+        (λ fault.
+        IfSome (fault_of fault)
+        (LeavesText (aim_of context.entry.settings.now) game.now text.old.items text.new.items)) }
 {
     let GameContext {
         alloc,
@@ -206,7 +229,8 @@ fn put_game_record<'a>(
     push_record(alloc, &origin, game, text)
 }
 
-/// Appends a game as it stands, if the lines that are written are sound; or answers their first fault.
+/// Appends a game as it stands, if the lines that are written are sound; or answers their first
+/// fault.
 fn put_as_is<'a>(
     alloc: Global,
     text: &mut Vec<u8>,
@@ -214,9 +238,12 @@ fn put_as_is<'a>(
     game: &RawGame<'a>,
 ) -> Result<(), GameFault<'a>>
     ensures { MatchResult result
-        (λ _. IsSoundGame (written_lines (aim_of settings.now)) (tag_in fen_tag game.now.tags) game.now.elements
+        (λ _. IsSoundGame (written_lines (aim_of settings.now)) (tag_in fen_tag game.now.tags)
+        game.now.elements
         × (text.new.items ≡ text.old.items ++ as_it_stands game.now.text))
-        (λ fault. IfSome (fault_of fault) (LeavesText (aim_of settings.now) game.now text.old.items text.new.items)) }
+        (λ fault.
+        IfSome (fault_of fault)
+        (LeavesText (aim_of settings.now) game.now text.old.items text.new.items)) }
 {
     match check_lines(alloc, game, written_lines(settings)) {
         Ok(()) => {
@@ -227,7 +254,8 @@ fn put_as_is<'a>(
     }
 }
 
-/// Appends the text of a game, played while it is written: its export, its line, its record, or the game as it stands. Where one of the lines that are
+/// Appends the text of a game, played while it is written: its export, its line, its record, or the
+/// game as it stands. Where one of the lines that are
 /// written is faulty, the first fault is answered, and nothing is appended.
 fn put_text<'a>(
     text: &mut Vec<u8>,
@@ -235,8 +263,11 @@ fn put_text<'a>(
     game: &RawGame<'a>,
 ) -> Result<(), GameFault<'a>>
     ensures { MatchResult result
-        (λ _. PutsText (aim_of context.entry.settings.now) context.entry.own game.now text.old.items text.new.items)
-        (λ fault. IfSome (fault_of fault) (LeavesText (aim_of context.entry.settings.now) game.now text.old.items text.new.items)) }
+        (λ _. PutsText (aim_of context.entry.settings.now) context.entry.own game.now text.old.items
+        text.new.items)
+        (λ fault.
+        IfSome (fault_of fault)
+        (LeavesText (aim_of context.entry.settings.now) game.now text.old.items text.new.items)) }
 {
     let GameContext {
         alloc,
@@ -261,7 +292,8 @@ fn is_as_it_stands(settings: &Settings) -> bool
     }
 }
 
-/// Appends the text of a game whose main line is sound and has an entry or none, if it is selected; or answers the first fault of the
+/// Appends the text of a game whose main line is sound and has an entry or none, if it is selected;
+/// or answers the first fault of the
 /// lines that are written.
 fn put_chosen<'a>(
     text: &mut Vec<u8>,
@@ -271,8 +303,11 @@ fn put_chosen<'a>(
 ) -> Result<(), GameFault<'a>>
     requires { IsChosen (aim_of context.settings.now) game.now has }
     ensures { MatchResult result
-        (λ _. AddsText (aim_of context.entry.settings.now) context.entry.own game.now text.old.items text.new.items)
-        (λ fault. IfSome (fault_of fault) (LeavesText (aim_of context.entry.settings.now) game.now text.old.items text.new.items)) }
+        (λ _. AddsText (aim_of context.entry.settings.now) context.entry.own game.now text.old.items
+        text.new.items)
+        (λ fault.
+        IfSome (fault_of fault)
+        (LeavesText (aim_of context.entry.settings.now) game.now text.old.items text.new.items)) }
 {
     let GameContext {
         alloc,
@@ -290,15 +325,19 @@ fn put_chosen<'a>(
     put_text(text, context, game)
 }
 
-/// Appends the text of a game, if the lines that are written are sound and it is selected by its entries; or answers their first fault.
+/// Appends the text of a game, if the lines that are written are sound and it is selected by its
+/// entries; or answers their first fault.
 fn put_by_entry<'a>(
     text: &mut Vec<u8>,
     context: GameContext<'a>,
     game: &RawGame<'a>,
 ) -> Result<(), GameFault<'a>>
     ensures { MatchResult result
-        (λ _. AddsText (aim_of context.entry.settings.now) context.entry.own game.now text.old.items text.new.items)
-        (λ fault. IfSome (fault_of fault) (LeavesText (aim_of context.entry.settings.now) game.now text.old.items text.new.items)) }
+        (λ _. AddsText (aim_of context.entry.settings.now) context.entry.own game.now text.old.items
+        text.new.items)
+        (λ fault.
+        IfSome (fault_of fault)
+        (LeavesText (aim_of context.entry.settings.now) game.now text.old.items text.new.items)) }
 {
     let GameContext {
         alloc,
@@ -311,7 +350,8 @@ fn put_by_entry<'a>(
     }
 }
 
-/// Appends the text of a game, if the lines that are written are sound and it is selected: its export, its line, its record, or the game as it stands.
+/// Appends the text of a game, if the lines that are written are sound and it is selected: its
+/// export, its line, its record, or the game as it stands.
 /// Where one of these lines is faulty, the first fault is answered, and nothing is appended.
 pub fn put_selected<'a>(
     text: &mut Vec<u8>,
@@ -319,8 +359,11 @@ pub fn put_selected<'a>(
     game: &RawGame<'a>,
 ) -> Result<(), GameFault<'a>>
     ensures { MatchResult result
-        (λ _. AddsText (aim_of context.entry.settings.now) context.entry.own game.now text.old.items text.new.items)
-        (λ fault. IfSome (fault_of fault) (LeavesText (aim_of context.entry.settings.now) game.now text.old.items text.new.items)) }
+        (λ _. AddsText (aim_of context.entry.settings.now) context.entry.own game.now text.old.items
+        text.new.items)
+        (λ fault.
+        IfSome (fault_of fault)
+        (LeavesText (aim_of context.entry.settings.now) game.now text.old.items text.new.items)) }
 {
     let GameContext {
         alloc,

@@ -1,9 +1,12 @@
-//! The pieces of one block, reported in turn: what is gathered is written once it is large, and at the block's end.
-ghost use Rattle.std.specs.Prelude.{◌≡◌, ◌⊎◌, ℕ, ◌^◌, ◌≤◌, false, List, length, IfOk, IfErr, OnOk, OnErr};
+//! The pieces of one block, reported in turn: what is gathered is written once it is large, and at
+//! the block's end.
+ghost use Rattle.std.specs.Prelude.{◌≡◌, ◌⊎◌, ℕ, ◌^◌, ◌≤◌, false, List, length, IfOk, IfErr, OnOk};
+ghost use Rattle.std.specs.Prelude.{OnErr};
 ghost use Rattle.pgn_text.specs.Public.Limits.{block_limit, largest_offset};
 ghost use Rattle.pgn_text.specs.Public.Windows.{Shows};
 ghost use Rattle.pgn_extract.specs.Private.Blockwise.{IsShown};
-ghost use Rattle.pgn_extract.specs.Private.RunParts.{AddsFront, BeginsPieces, GathersPieces, PassesOn, WriteFaultsAre, WritesPieces};
+ghost use Rattle.pgn_extract.specs.Private.RunParts.{AddsFront, BeginsPieces, GathersPieces};
+ghost use Rattle.pgn_extract.specs.Private.RunParts.{PassesOn, WriteFaultsAre, WritesPieces};
 ghost use Rattle.pgn_extract.specs.Public.Runs.{Adds, job_at, passage};
 ghost use Rattle.pgn_extract.specs.declared.settings.Mode.TheVariants.{Index};
 
@@ -59,7 +62,8 @@ fn put_report<O: Write, E: Write>(
     ensures err { OnErr result (AddsFront (passage O.contents out.old out.new) report.now.output.items
         × AddsFront (passage E.contents err.old err.new) report.now.faults.items) }
     ensures only { IfErr result (λ error. error ≡ RunError.Write) }
-    ensures faults { WriteFaultsAre result (passage O.contents out.old out.new) (passage E.contents err.old err.new) }
+    ensures faults { WriteFaultsAre result (passage O.contents out.old out.new)
+        (passage E.contents err.old err.new) }
 {
     write_all(out, &report.output)?;
     write_all(err, &report.faults)
@@ -73,11 +77,14 @@ fn put_texts<O: Write, E: Write>(
     report: &mut Report,
 ) -> Result<(), RunError>
     requires sound { (out.old.faulted ≡ false) × (err.old.faulted ≡ false) }
-    ensures ok { OnOk result (PassesOn report.old report.new (passage O.contents out.old out.new) (passage E.contents err.old err.new)) }
+    ensures ok { OnOk result
+        (PassesOn report.old report.new (passage O.contents out.old out.new)
+        (passage E.contents err.old err.new)) }
     ensures err { OnErr result (AddsFront (passage O.contents out.old out.new) report.old.output.items
         × AddsFront (passage E.contents err.old err.new) report.old.faults.items) }
     ensures only { IfErr result (λ error. error ≡ RunError.Write) }
-    ensures faults { WriteFaultsAre result (passage O.contents out.old out.new) (passage E.contents err.old err.new) }
+    ensures faults { WriteFaultsAre result (passage O.contents out.old out.new)
+        (passage E.contents err.old err.new) }
 {
     put_report(out, err, report)?;
     report.clear_texts();
@@ -92,11 +99,14 @@ fn put_large<O: Write, E: Write>(
     report: &mut Report,
 ) -> Result<(), RunError>
     requires sound { (out.old.faulted ≡ false) × (err.old.faulted ≡ false) }
-    ensures ok { OnOk result (PassesOn report.old report.new (passage O.contents out.old out.new) (passage E.contents err.old err.new)) }
+    ensures ok { OnOk result
+        (PassesOn report.old report.new (passage O.contents out.old out.new)
+        (passage E.contents err.old err.new)) }
     ensures err { OnErr result (AddsFront (passage O.contents out.old out.new) report.old.output.items
         × AddsFront (passage E.contents err.old err.new) report.old.faults.items) }
     ensures only { IfErr result (λ error. error ≡ RunError.Write) }
-    ensures faults { WriteFaultsAre result (passage O.contents out.old out.new) (passage E.contents err.old err.new) }
+    ensures faults { WriteFaultsAre result (passage O.contents out.old out.new)
+        (passage E.contents err.old err.new) }
 {
     if report.is_large() {
         put_texts(out, err, report)
@@ -118,12 +128,17 @@ fn report_marks<'a, O: Write, E: Write>(
     requires number { work.number ≤ 2 ^ 63 }
     requires offset { work.block.offset ≤ largest_offset }
     requires size { length bytes.now ≤ block_limit }
-    ensures done { OnOk result (GathersPieces (job_at work.entry.settings.now work.entry.number work.entry.block.offset) report.new
+    ensures done { OnOk result
+        (GathersPieces (job_at work.entry.settings.now work.entry.number work.entry.block.offset)
+        report.new
         (passage O.contents out.old out.new) (passage E.contents err.old err.new) bytes.now) }
-    ensures stopped { OnErr result (BeginsPieces (job_at work.entry.settings.now work.entry.number work.entry.block.offset)
+    ensures stopped { OnErr result
+        (BeginsPieces (job_at work.entry.settings.now work.entry.number work.entry.block.offset)
         (passage O.contents out.old out.new) (passage E.contents err.old err.new) bytes.now) }
-    ensures only { IfErr result (λ error. (error ≡ RunError.Write) ⊎ (error ≡ RunError.OutOfMemory)) }
-    ensures faults { WriteFaultsAre result (passage O.contents out.old out.new) (passage E.contents err.old err.new) }
+    ensures only { IfErr result (λ error. (error ≡ RunError.Write)
+        ⊎ (error ≡ RunError.OutOfMemory)) }
+    ensures faults { WriteFaultsAre result (passage O.contents out.old out.new)
+        (passage E.contents err.old err.new) }
 {
     let offset = work.block.offset;
     report.clear();
@@ -155,12 +170,17 @@ fn report_games<'a, O: Write, E: Write>(
     requires number { work.number ≤ 2 ^ 63 }
     requires offset { work.block.offset ≤ largest_offset }
     requires size { length bytes.now ≤ block_limit }
-    ensures done { OnOk result (GathersPieces (job_at work.entry.settings.now work.entry.number work.entry.block.offset) report.new
+    ensures done { OnOk result
+        (GathersPieces (job_at work.entry.settings.now work.entry.number work.entry.block.offset)
+        report.new
         (passage O.contents out.old out.new) (passage E.contents err.old err.new) bytes.now) }
-    ensures stopped { OnErr result (BeginsPieces (job_at work.entry.settings.now work.entry.number work.entry.block.offset)
+    ensures stopped { OnErr result
+        (BeginsPieces (job_at work.entry.settings.now work.entry.number work.entry.block.offset)
         (passage O.contents out.old out.new) (passage E.contents err.old err.new) bytes.now) }
-    ensures only { IfErr result (λ error. (error ≡ RunError.Write) ⊎ (error ≡ RunError.OutOfMemory)) }
-    ensures faults { WriteFaultsAre result (passage O.contents out.old out.new) (passage E.contents err.old err.new) }
+    ensures only { IfErr result (λ error. (error ≡ RunError.Write)
+        ⊎ (error ≡ RunError.OutOfMemory)) }
+    ensures faults { WriteFaultsAre result (passage O.contents out.old out.new)
+        (passage E.contents err.old err.new) }
 {
     let offset = work.block.offset;
     report.clear();
@@ -193,11 +213,16 @@ fn report_block<'a, O: Write, E: Write>(
     requires offset { work.block.offset ≤ largest_offset }
     requires size { IsShown block_limit work.block.body }
     ensures done { OnOk result ((bytes : List ℕ) → Shows block_limit work.entry.block.body bytes
-        → GathersPieces (job_at work.entry.settings.now work.entry.number work.entry.block.offset) report.new (passage O.contents out.old out.new) (passage E.contents err.old err.new) bytes) }
+        → GathersPieces (job_at work.entry.settings.now work.entry.number work.entry.block.offset)
+        report.new (passage O.contents out.old out.new) (passage E.contents err.old err.new)
+        bytes) }
     ensures stopped { OnErr result ((bytes : List ℕ) → Shows block_limit work.entry.block.body bytes
-        → BeginsPieces (job_at work.entry.settings.now work.entry.number work.entry.block.offset) (passage O.contents out.old out.new) (passage E.contents err.old err.new) bytes) }
-    ensures only { IfErr result (λ error. (error ≡ RunError.Write) ⊎ (error ≡ RunError.OutOfMemory)) }
-    ensures faults { WriteFaultsAre result (passage O.contents out.old out.new) (passage E.contents err.old err.new) }
+        → BeginsPieces (job_at work.entry.settings.now work.entry.number work.entry.block.offset)
+        (passage O.contents out.old out.new) (passage E.contents err.old err.new) bytes) }
+    ensures only { IfErr result (λ error. (error ≡ RunError.Write)
+        ⊎ (error ≡ RunError.OutOfMemory)) }
+    ensures faults { WriteFaultsAre result (passage O.contents out.old out.new)
+        (passage E.contents err.old err.new) }
 {
     let Block { offset, body } = work.block;
     match body {
@@ -226,12 +251,17 @@ pub fn put_block<'a, O: Write, E: Write>(
     requires number { work.number ≤ 2 ^ 63 }
     requires offset { work.block.offset ≤ largest_offset }
     requires size { IsShown block_limit work.block.body }
-    ensures done { IfOk result (λ summary. (bytes : List ℕ) → Shows block_limit work.entry.block.body bytes
-        → WritesPieces (job_at work.entry.settings.now work.entry.number work.entry.block.offset) (passage O.contents out.old out.new) (passage E.contents err.old err.new) bytes summary) }
+    ensures done { IfOk result (λ summary. (bytes : List ℕ)
+        → Shows block_limit work.entry.block.body bytes
+        → WritesPieces (job_at work.entry.settings.now work.entry.number work.entry.block.offset)
+        (passage O.contents out.old out.new) (passage E.contents err.old err.new) bytes summary) }
     ensures stopped { OnErr result ((bytes : List ℕ) → Shows block_limit work.entry.block.body bytes
-        → BeginsPieces (job_at work.entry.settings.now work.entry.number work.entry.block.offset) (passage O.contents out.old out.new) (passage E.contents err.old err.new) bytes) }
-    ensures only { IfErr result (λ error. (error ≡ RunError.Write) ⊎ (error ≡ RunError.OutOfMemory)) }
-    ensures faults { WriteFaultsAre result (passage O.contents out.old out.new) (passage E.contents err.old err.new) }
+        → BeginsPieces (job_at work.entry.settings.now work.entry.number work.entry.block.offset)
+        (passage O.contents out.old out.new) (passage E.contents err.old err.new) bytes) }
+    ensures only { IfErr result (λ error. (error ≡ RunError.Write)
+        ⊎ (error ≡ RunError.OutOfMemory)) }
+    ensures faults { WriteFaultsAre result (passage O.contents out.old out.new)
+        (passage E.contents err.old err.new) }
 {
     report_block(out, err, report, work)?;
     put_report(out, err, report)?;

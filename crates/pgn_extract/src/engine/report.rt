@@ -1,10 +1,13 @@
 //! What is reported of the pieces of one block, piece by piece.
-ghost use Rattle.std.specs.Prelude.{◌≡◌, ℕ, List, None, Some, true, MatchResult, IfSome, ◌+◌, ◌^◌, ◌<◌, ◌≤◌, [], ◌∷◌, length, codes, not, OnOk};
+ghost use Rattle.std.specs.Prelude.{◌≡◌, ℕ, List, None, Some, true, MatchResult, IfSome, ◌+◌, ◌^◌};
+ghost use Rattle.std.specs.Prelude.{◌<◌, ◌≤◌, [], ◌∷◌, length, codes, not, OnOk};
 ghost use Rattle.pgn_text.specs.Public.Left.{piece_place};
 ghost use Rattle.pgn_text.specs.Public.LeftMarks.{mark_place};
 ghost use Rattle.pgn_extract.specs.Public.Aims.{aim_of};
 ghost use Rattle.pgn_extract.specs.Public.Choices.{is_chosen};
-ghost use Rattle.pgn_extract.specs.Private.Blockwise.{Reports, AddsVerdict, AddsGame, AddsListed, AddsExported, AddsPiece, IsBlockVerdict, IsMarkReport, too_long_piece};
+ghost use Rattle.pgn_extract.specs.Private.Blockwise.{Reports, AddsVerdict, AddsGame, AddsListed};
+ghost use Rattle.pgn_extract.specs.Private.Blockwise.{AddsExported, AddsPiece, IsBlockVerdict};
+ghost use Rattle.pgn_extract.specs.Private.Blockwise.{IsMarkReport, too_long_piece};
 ghost use Rattle.pgn_extract.specs.Public.Index.{fault_text};
 ghost use Rattle.pgn_extract.specs.Public.Listing.{is_plain};
 ghost use Rattle.pgn_extract.specs.Public.GameReports.{cause_text};
@@ -26,10 +29,12 @@ use pgn_game::{GameFault, Lines, count_plies};
 use pgn_text::{Piece, PieceStart, RawGame};
 use std::alloc::{AllocError, Global};
 
-/// So many bytes of both texts together are large: a report that has them is written before its block ends.
+/// So many bytes of both texts together are large: a report that has them is written before its
+/// block ends.
 const LARGE: usize = 1 << 20;
 
-/// What is reported of pieces in a row, and their counts. One is made for a run, and filled anew for each block.
+/// What is reported of pieces in a row, and their counts. One is made for a run, and filled anew
+/// for each block.
 #[derive(Drop)]
 pub struct Report {
     /// What goes to the output.
@@ -144,8 +149,12 @@ impl Report {
     ) -> Result<(), AllocError>
         requires faulty { self.old.faulty + 1 < 2 ^ 64 }
         requires room { site.origin.offset + length site.block.now < 2 ^ 64 }
-        ensures { OnOk result ((own : Fault) × (note : List ℕ) × (fault_of fault.entry ≡ Some own) × IsNote context.entry.settings.now.explain note
-            × AddsVerdict self.old self.new (FaultyGame [] (fault_text context.entry.settings.now.name context.entry.own (cause_text own)) note) 0) }
+        ensures { OnOk result ((own : Fault) × (note : List ℕ) × (fault_of fault.entry ≡ Some own)
+            × IsNote context.entry.settings.now.explain note
+            × AddsVerdict self.old self.new
+            (FaultyGame []
+            (fault_text context.entry.settings.now.name context.entry.own (cause_text own))
+            note) 0) }
     {
         let GameContext {
             alloc,
@@ -167,7 +176,8 @@ impl Report {
         push_players(alloc, &mut self.faults, game.text())
     }
 
-    /// Adds what the listing reports of a game whose positions are asked: the lines of its entries, or of its fault.
+    /// Adds what the listing reports of a game whose positions are asked: the lines of its entries,
+    /// or of its fault.
     fn add_entries<'a>(
         &mut self,
         context: GameContext<'a>,
@@ -176,7 +186,9 @@ impl Report {
     ) -> Result<(), AllocError>
         requires faulty { self.old.faulty + 1 < 2 ^ 64 }
         requires room { site.origin.offset + length site.block.now < 2 ^ 64 }
-        ensures { OnOk result (AddsListed (aim_of context.entry.settings.now) self.old self.new context.entry.own game.now) }
+        ensures { OnOk result
+            (AddsListed (aim_of context.entry.settings.now) self.old self.new context.entry.own
+            game.now) }
     {
         let length = self.output.len();
         match push_entries(&mut self.output, context, game) {
@@ -188,7 +200,8 @@ impl Report {
         }
     }
 
-    /// Adds what the listing reports of a game where neither criteria nor fields are given: the lines of its plies within the bounds, or of its fault.
+    /// Adds what the listing reports of a game where neither criteria nor fields are given: the
+    /// lines of its plies within the bounds, or of its fault.
     fn add_plies<'a>(
         &mut self,
         context: GameContext<'a>,
@@ -199,7 +212,9 @@ impl Report {
         requires room { site.origin.offset + length site.block.now < 2 ^ 64 }
         requires criteria { context.settings.now.criteria ≡ None }
         requires plain { is_plain context.settings.now.fields ≡ true }
-        ensures { OnOk result (AddsListed (aim_of context.entry.settings.now) self.old self.new context.entry.own game.now) }
+        ensures { OnOk result
+            (AddsListed (aim_of context.entry.settings.now) self.old self.new context.entry.own
+            game.now) }
     {
         match count_plies(context.alloc, game) {
             Ok(plies) => push_plies(&mut self.output, context, plies),
@@ -216,7 +231,9 @@ impl Report {
     ) -> Result<(), AllocError>
         requires faulty { self.old.faulty + 1 < 2 ^ 64 }
         requires room { site.origin.offset + length site.block.now < 2 ^ 64 }
-        ensures { OnOk result (AddsListed (aim_of context.entry.settings.now) self.old self.new context.entry.own game.now) }
+        ensures { OnOk result
+            (AddsListed (aim_of context.entry.settings.now) self.old self.new context.entry.own
+            game.now) }
     {
         if context.settings.fields.is_empty() && context.settings.criteria.is_none() {
             return self.add_plies(context, site, game);
@@ -224,7 +241,8 @@ impl Report {
         self.add_entries(context, site, game)
     }
 
-    /// Adds what the export reports of a game: its text where it is selected, or the line of its fault.
+    /// Adds what the export reports of a game: its text where it is selected, or the line of its
+    /// fault.
     fn add_exported<'a>(
         &mut self,
         context: GameContext<'a>,
@@ -233,7 +251,9 @@ impl Report {
     ) -> Result<(), AllocError>
         requires faulty { self.old.faulty + 1 < 2 ^ 64 }
         requires room { site.origin.offset + length site.block.now < 2 ^ 64 }
-        ensures { OnOk result (AddsExported (aim_of context.entry.settings.now) self.old self.new context.entry.own game.now) }
+        ensures { OnOk result
+            (AddsExported (aim_of context.entry.settings.now) self.old self.new context.entry.own
+            game.now) }
     {
         game.invariant();
         match put_selected(&mut self.output, context, game) {
@@ -256,7 +276,9 @@ impl Report {
     ) -> Result<(), AllocError>
         requires faulty { self.old.faulty + 1 < 2 ^ 64 }
         requires room { site.origin.offset + length site.block.now < 2 ^ 64 }
-        ensures { OnOk result (AddsGame (aim_of context.entry.settings.now) self.old self.new context.entry.own game.now) }
+        ensures { OnOk result
+            (AddsGame (aim_of context.entry.settings.now) self.old self.new context.entry.own
+            game.now) }
     {
         let GameContext { settings, own, .. } = context;
         match settings.mode {
@@ -266,13 +288,16 @@ impl Report {
         }
     }
 
-    /// Adds the line of bytes at the place of the block that are no game, and the bytes themselves where they are selected.
+    /// Adds the line of bytes at the place of the block that are no game, and the bytes themselves
+    /// where they are selected.
     #[cold]
     fn add_unreadable(&mut self, context: BlockContext<'_>, at: usize) -> Result<(), AllocError>
         requires place { at ≤ length context.bytes.now }
         requires room { context.id.offset + length context.bytes.now < 2 ^ 64 }
         requires faulty { self.old.faulty + 1 < 2 ^ 64 }
-        ensures { OnOk result ((verdict : Verdict) × IsBlockVerdict (aim_of context.entry.settings.now) context.entry.id context.entry.bytes.now at verdict
+        ensures { OnOk result ((verdict : Verdict)
+            × IsBlockVerdict (aim_of context.entry.settings.now) context.entry.id
+            context.entry.bytes.now at verdict
             × AddsVerdict self.old self.new verdict 0) }
     {
         let BlockContext {
@@ -313,7 +338,9 @@ impl Report {
         requires place { piece_place piece.now ≤ length context.bytes.now }
         requires room { context.id.offset + length context.bytes.now < 2 ^ 64 }
         requires counts { (self.old.games + 1 < 2 ^ 64) × (self.old.faulty + 1 < 2 ^ 64) }
-        ensures { OnOk result (AddsPiece (aim_of context.entry.settings.now) self.old self.new context.entry.id context.entry.bytes.now piece.now) }
+        ensures { OnOk result
+            (AddsPiece (aim_of context.entry.settings.now) self.old self.new context.entry.id
+            context.entry.bytes.now piece.now) }
     {
         self.games += 1;
         let BlockContext {
@@ -368,7 +395,8 @@ pub fn report_too_long(
     id: GameId,
     size: u64,
 ) -> Result<(), AllocError>
-    ensures { OnOk result (Reports (aim_of settings.now) report.new id.number (too_long_piece id.offset ∷ [])) }
+    ensures { OnOk result
+        (Reports (aim_of settings.now) report.new id.number (too_long_piece id.offset ∷ [])) }
 {
     report.clear();
     report.games = 1;
@@ -392,7 +420,9 @@ pub fn add_mark(
     requires place { mark_place mark ≤ length context.bytes.now }
     requires room { context.id.offset + length context.bytes.now < 2 ^ 64 }
     requires counts { (index.old.games + 1 < 2 ^ 64) × (index.old.faulty + 1 < 2 ^ 64) }
-    ensures { OnOk result ((verdict : Verdict) × IsMarkReport (aim_of context.entry.settings.now) context.entry.id context.entry.bytes.now mark verdict
+    ensures { OnOk result ((verdict : Verdict)
+        × IsMarkReport (aim_of context.entry.settings.now) context.entry.id context.entry.bytes.now
+        mark verdict
         × AddsVerdict index.old index.new verdict 1) }
 {
     index.games += 1;

@@ -32,7 +32,8 @@ pub fn drop_first<R: Read>(input: &mut Tally<R>, count: u64) -> Result<(), RunEr
     Ok(())
 }
 
-/// Passes over the first `count` bytes of the input where it can, and drops the others; or all where there are fewer.
+/// Passes over the first `count` bytes of the input where it can, and drops the others; or all
+/// where there are fewer.
 pub fn skip_first<R: Skip>(input: &mut Tally<R>, count: u64) -> Result<(), RunError>
     requires { input.old.faulted ≡ false }
     ensures ok { IfOk result (λ _. Drops (R.remaining input.old.inner) (R.remaining input.new.inner)

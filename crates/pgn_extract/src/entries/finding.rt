@@ -3,7 +3,8 @@ ghost use Rattle.std.specs.Prelude.{◌≡◌, ℕ, List, [], false, Option, OnO
 ghost use Rattle.chess.specs.Public.Positions.{State};
 ghost use Rattle.pgn_text.specs.Public.GameTexts.{GameText};
 ghost use Rattle.pgn_extract.specs.Public.Aims.{GameId};
-ghost use Rattle.pgn_extract.specs.Private.Lines.{Where, HasFault, IsNeverMet, Asks, aim_with, HandsOn, Fails};
+ghost use Rattle.pgn_extract.specs.Private.Lines.{Where, HasFault, IsNeverMet, Asks, aim_with};
+ghost use Rattle.pgn_extract.specs.Private.Lines.{HandsOn, Fails};
 
 use crate::entries::line::Line;
 use crate::entries::sink::Sink;
@@ -21,12 +22,7 @@ pub(crate) struct Finder<'s> {
 impl<'s> Finder<'s> {
     /// Hands on the entry where the line stands, if it is one. Answers whether a later one may be.
     #[inline(always)]
-    fn ask<L: Line, S: Sink>(
-        &self,
-        line: &L,
-        sink: &mut S,
-        is_open: bool,
-    ) -> Result<bool, L::Fault>
+    fn ask<L: Line, S: Sink>(&self, line: &L, sink: &mut S, is_open: bool) -> Result<bool, L::Fault>
         requires takes { S.Takes self.now.fields }
         requires valid { L.Valid line.now }
         ensures asked { IfOk result (Asks (S.Gets self.now.mark.items) self.now.settings.now self.now.fields
@@ -62,7 +58,8 @@ impl<'s> Finder<'s> {
             → HandsOn (aim_with self.now.settings.now self.now.fields name) id game
             (λ got. S.Gets self.now.mark.items sink.old got sink.new)) }
         ensures fault { IfErr result (λ fault. IfSome (L.fault_of fault)
-            (λ own. Fails (L.At line.old) self.now.settings.now self.now.fields own × S.Grew sink.old sink.new)) }
+            (λ own. Fails (L.At line.old) self.now.settings.now self.now.fields own
+            × S.Grew sink.old sink.new)) }
     {
         let mut is_open = self.ask(line, sink, is_open)?;
         while line.advance(is_open)? {

@@ -1,5 +1,7 @@
-//! The entries of a game whose criteria speak of its moves at each ply: its main line is replayed and kept, and then looked through.
-ghost use Rattle.std.specs.Prelude.{◌≡◌, ◌≤◌, ◌<◌, ◌+◌, ◌-◌, ◌++◌, [], List, ℕ, MatchResult, IfSome, Some, None, OnOk, length, refl};
+//! The entries of a game whose criteria speak of its moves at each ply: its main line is replayed
+//! and kept, and then looked through.
+ghost use Rattle.std.specs.Prelude.{◌≡◌, ◌≤◌, ◌<◌, ◌+◌, ◌-◌, ◌++◌, [], List, ℕ, MatchResult};
+ghost use Rattle.std.specs.Prelude.{IfSome, Some, None, OnOk, length, refl};
 ghost use Rattle.chess.specs.Public.Positions.{State};
 ghost use Rattle.pgn_text.specs.Public.GameTexts.{tag_in};
 ghost use Rattle.pgn_game.specs.Public.CodeLines.{IsLegalLine};
@@ -21,7 +23,8 @@ use pgn_game::{GameFault, Lines, Replayed, replay};
 use pgn_text::RawGame;
 use std::alloc::{AllocError, Global};
 
-/// Appends the text of the move that is played after so many plies after a blank, or `-` where none is, if that is asked for.
+/// Appends the text of the move that is played after so many plies after a blank, or `-` where none
+/// is, if that is asked for.
 fn push_played(
     text: &mut Vec<u8>,
     is_asked: bool,
@@ -30,7 +33,8 @@ fn push_played(
 ) -> Result<(), AllocError>
     requires within { ply ≤ length replayed.now.played }
     requires legal { (start : State) × IsLegalLine start replayed.now }
-    ensures { OnOk result ((shown : List ℕ) × IsNextField is_asked replayed.now ply shown × (text.new.items ≡ text.old.items ++ shown)) }
+    ensures { OnOk result ((shown : List ℕ) × IsNextField is_asked replayed.now ply shown
+        × (text.new.items ≡ text.old.items ++ shown)) }
 {
     if !is_asked {
         return Ok(());
@@ -62,9 +66,12 @@ impl Kept {
         game: &RawGame<'a>,
     ) -> Result<Self, GameFault<'a>>
         ensures { MatchResult result
-            (λ line. ((start : State) × IsLegalLine start line.replayed) × ((aim : Aim) → aim.criteria ≡ Some criteria.now
+            (λ line. ((start : State) × IsLegalLine start line.replayed)
+            × ((aim : Aim) → aim.criteria ≡ Some criteria.now
             → (P : State) × IsKeptWith line.replayed line.met.items line.ply aim game.now [] P))
-            (λ fault. IfSome (fault_of fault) (IsFault Main (tag_in fen_tag game.now.tags) game.now.elements)) }
+            (λ fault.
+            IfSome (fault_of fault)
+            (IsFault Main (tag_in fen_tag game.now.tags) game.now.elements)) }
     {
         let replayed = replay(alloc, game, Lines::Main)?;
         let met = criteria.met_plies(alloc, game, &replayed)?;
@@ -80,7 +87,8 @@ impl Kept {
 impl Line for Kept {
     type Fault = AllocError;
 
-    ghost At = { λ own aim game before P. IsKeptWith own.replayed own.met.items own.ply aim game before P };
+    ghost At = { λ own aim game before P.
+        IsKeptWith own.replayed own.met.items own.ply aim game before P };
 
     ghost Valid = { λ own. (start : State) × IsLegalLine start own.replayed };
 
@@ -117,7 +125,8 @@ impl Line for Kept {
     ghost memory = { λ error fault from. refl };
 }
 
-/// Whether a game has an entry by criteria, or the fault of its main line. The positions of its main line are kept meanwhile.
+/// Whether a game has an entry by criteria, or the fault of its main line. The positions of its
+/// main line are kept meanwhile.
 pub fn has_kept<'a>(
     alloc: Global,
     settings: &'a Settings,
@@ -127,7 +136,8 @@ pub fn has_kept<'a>(
     requires criteria { settings.now.criteria ≡ Some criteria.now }
     ensures { MatchResult result
         (IsChosen (aim_of settings.now) game.now)
-        (λ fault. IfSome (fault_of fault) (IsFault Main (tag_in fen_tag game.now.tags) game.now.elements)) }
+        (λ fault.
+        IfSome (fault_of fault) (IsFault Main (tag_in fen_tag game.now.tags) game.now.elements)) }
 {
     let replayed = replay(alloc, game, Lines::Main)?;
     Ok(

@@ -1,11 +1,13 @@
 //! A main line whose positions are asked one after the other.
-ghost use Rattle.std.specs.Prelude.{◌≡◌, ◌++◌, ◌<◌, ℕ, List, Option, None, true, length, MatchResult, IfErr, IfSome, OnOk};
+ghost use Rattle.std.specs.Prelude.{◌≡◌, ◌++◌, ◌<◌, ℕ, List, Option, None, true, length};
+ghost use Rattle.std.specs.Prelude.{MatchResult, IfErr, IfSome, OnOk};
 ghost use Rattle.std.specs.declared.alloc.AllocError.{AllocError};
 ghost use Rattle.chess.specs.Public.Positions.{State};
 ghost use Rattle.pgn_text.specs.Public.GameTexts.{GameText};
 ghost use Rattle.pgn_game.specs.Public.Faults.{Fault as OwnFault};
 ghost use Rattle.pgn_extract.specs.Public.Aims.{Aim};
-ghost use Rattle.pgn_extract.specs.Private.Lines.{Stands, Where, MeetsHere, ShowsFields, HasFault, GoesTo};
+ghost use Rattle.pgn_extract.specs.Private.Lines.{Stands, Where, MeetsHere, ShowsFields, HasFault};
+ghost use Rattle.pgn_extract.specs.Private.Lines.{GoesTo};
 
 use crate::settings::Fields;
 use std::alloc::AllocError;
@@ -39,10 +41,12 @@ pub(crate) trait Line {
     /// Appends what is shown of it. A next move that cannot be played is answered as a fault.
     fn push_fields(&self, text: &mut Vec<u8>, fields: Fields) -> Result<(), Self::Fault>
         requires { Valid self.now }
-        ensures shown { OnOk result ((shown : List ℕ) × Where (At self.now) (ShowsFields fields shown)
+        ensures shown { OnOk result ((shown : List ℕ)
+            × Where (At self.now) (ShowsFields fields shown)
             × (text.new.items ≡ text.old.items ++ shown)) }
         ensures fault { IfErr result (λ fault. IfSome (fault_of fault)
-            (λ own. Where (At self.now) (HasFault own) × (some : List ℕ) × (text.new.items ≡ text.old.items ++ some))) };
+            (λ own. Where (At self.now) (HasFault own) × (some : List ℕ)
+            × (text.new.items ≡ text.old.items ++ some))) };
 
     /// Goes on to the next position that may meet what is asked, or answers that there is none. It
     /// may also answer so where no more is asked for.

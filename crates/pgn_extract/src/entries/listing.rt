@@ -10,10 +10,12 @@ use crate::output::texts::{MARK_ROOM, push_named_mark};
 use crate::settings::Settings;
 use std::alloc::{AllocError, Global};
 
-/// The ply after the last one that is listed of a main line with so many plies, where there are no criteria.
+/// The ply after the last one that is listed of a main line with so many plies, where there are no
+/// criteria.
 fn end_ply(settings: &Settings, plies: usize) -> usize
     ensures fits { result ≤ 2 ^ 32 }
-    ensures exactly { (ply : ℕ) → IsPlainEntry (aim_of settings.now) plies ply ↔ (settings.now.min_ply ≤ ply) × (ply < result) }
+    ensures exactly { (ply : ℕ) → IsPlainEntry (aim_of settings.now) plies ply
+        ↔ (settings.now.min_ply ≤ ply) × (ply < result) }
 {
     let most = if settings.first {
         settings.min_ply.min(settings.max_ply)
@@ -23,7 +25,8 @@ fn end_ply(settings: &Settings, plies: usize) -> usize
     plies.min(most as usize) + 1
 }
 
-/// Appends the lines of the entries of a game whose main line has so many plies, where there are no criteria.
+/// Appends the lines of the entries of a game whose main line has so many plies, where there are no
+/// criteria.
 pub fn push_plies(
     text: &mut Vec<u8>,
     context: GameContext<'_>,
@@ -31,7 +34,9 @@ pub fn push_plies(
 ) -> Result<(), AllocError>
     requires criteria { context.settings.now.criteria ≡ None }
     requires plain { is_plain context.settings.now.fields ≡ true }
-    ensures { OnOk result (AddsPlies (aim_of context.entry.settings.now) context.entry.own plies text.old.items text.new.items) }
+    ensures { OnOk result
+        (AddsPlies (aim_of context.entry.settings.now) context.entry.own plies text.old.items
+        text.new.items) }
 {
     let GameContext {
         alloc,
@@ -43,7 +48,8 @@ pub fn push_plies(
     push_lines(text, alloc, settings, &mark, plies)
 }
 
-/// Appends the lines of the entries of a game with this mark whose main line has so many plies, where there are no criteria.
+/// Appends the lines of the entries of a game with this mark whose main line has so many plies,
+/// where there are no criteria.
 pub fn push_lines(
     text: &mut Vec<u8>,
     alloc: Global,
@@ -53,7 +59,8 @@ pub fn push_lines(
 ) -> Result<(), AllocError>
     requires criteria { settings.now.criteria ≡ None }
     requires plain { is_plain settings.now.fields ≡ true }
-    ensures { OnOk result (AddsLines (aim_of settings.now) mark.now plies text.old.items text.new.items) }
+    ensures { OnOk result
+        (AddsLines (aim_of settings.now) mark.now plies text.old.items text.new.items) }
 {
     let least = settings.min_ply as usize;
     push_range(text, alloc, mark, least, end_ply(settings, plies))?;

@@ -1,5 +1,6 @@
 //! A main line whose positions are asked while it is played.
-ghost use Rattle.std.specs.Prelude.{◌≡◌, ◌↔◌, ◌++◌, ℕ, List, false, Option, IsTrue, IfErr, IfSome, OnOk, length};
+ghost use Rattle.std.specs.Prelude.{◌≡◌, ◌↔◌, ◌++◌, ℕ, List, false, Option, IsTrue, IfErr, IfSome};
+ghost use Rattle.std.specs.Prelude.{OnOk, length};
 ghost use Rattle.std.proofs.Common.{ap};
 ghost use Rattle.pgn_text.specs.Public.GameTexts.{tag_in};
 ghost use Rattle.pgn_game.specs.Public.Faults.{IsFault};
@@ -8,7 +9,7 @@ ghost use Rattle.pgn_game.specs.declared.replays.replayer.Lines.TheVariants.{Mai
 ghost use Rattle.pgn_extract.specs.Public.Aims.{GameId, aim_of};
 ghost use Rattle.pgn_extract.specs.Private.Lines.{aim_with, HandsOn};
 ghost use Rattle.pgn_criteria.specs.Public.Meeting.{Heading, SomeHold};
-ghost use Rattle.pgn_criteria.specs.declared.condition.Condition.{Condition};
+ghost use Rattle.pgn_criteria.specs.Public.Conditions.{Conditions};
 ghost use Rattle.pgn_game.specs.Public.Replays.{Replay, fault_of};
 ghost use Rattle.pgn_extract.specs.Private.Finding.{AsksFor, StopsInLine, ShowsPosition, ShowsNext};
 ghost use Rattle.pgn_extract.specs.Private.PlayedLines.{IsPlayedWith};
@@ -25,7 +26,7 @@ use std::alloc::{AllocError, Global};
 /// What each position is asked.
 pub(crate) trait Question: Drop {
     /// Alternatives of conditions on a position.
-    ghost asked: { Self → List (List (Condition (List ℕ))) };
+    ghost asked: { Self → List Conditions };
 
     /// Whether a position may meet them: not where there is none.
     fn is_open(&self) -> bool
@@ -78,7 +79,8 @@ pub(crate) fn push_fen(
     is_asked: bool,
     position: &GamePosition,
 ) -> Result<(), AllocError>
-    ensures { OnOk result ((shown : List ℕ) × ShowsPosition is_asked position.now shown × (text.new.items ≡ text.old.items ++ shown)) }
+    ensures { OnOk result ((shown : List ℕ) × ShowsPosition is_asked position.now shown
+        × (text.new.items ≡ text.old.items ++ shown)) }
 {
     if is_asked {
         text.push(b' ')?;
@@ -95,8 +97,10 @@ fn push_next<'a>(
     is_asked: bool,
     line: &MainLine<'_, 'a>,
 ) -> Result<(), GameFault<'a>>
-    ensures shown { OnOk result ((shown : List ℕ) × ShowsNext is_asked line.now shown × (text.new.items ≡ text.old.items ++ shown)) }
-    ensures fault { IfErr result (λ fault. IfSome (fault_of fault) (StopsInLine line.now text.old.items text.new.items)) }
+    ensures shown { OnOk result ((shown : List ℕ) × ShowsNext is_asked line.now shown
+        × (text.new.items ≡ text.old.items ++ shown)) }
+    ensures fault { IfErr result (λ fault.
+        IfSome (fault_of fault) (StopsInLine line.now text.old.items text.new.items)) }
     ensures kept { (some : List ℕ) × (text.new.items ≡ text.old.items ++ some) }
 {
     if !is_asked {
@@ -165,7 +169,8 @@ pub(crate) fn find_played<'a, Q: Question, S: Sink>(
         → HandsOn (aim_with finder.now.settings.now finder.now.fields name) id game.now
         (λ got. S.Gets finder.now.mark.items sink.old got sink.new)) }
     ensures fault { IfErr result (λ fault. IfSome (fault_of fault)
-        (λ own. IsFault Main (tag_in fen_tag game.now.tags) game.now.elements own × S.Grew sink.old sink.new)) }
+        (λ own. IsFault Main (tag_in fen_tag game.now.tags) game.now.elements own
+        × S.Grew sink.old sink.new)) }
 {
     let is_open = question.is_open();
     let line = MainLine::begin(alloc, game)?;

@@ -1,8 +1,11 @@
 //! What is done with the entries that are found.
-ghost use Rattle.std.specs.Prelude.{◌≡◌, ◌∷◌, ◌++◌, [], ℕ, List, true, OnOk, IfErr, IfSome, length, refl};
+ghost use Rattle.std.specs.Prelude.{◌≡◌, ◌∷◌, ◌++◌, [], ℕ, List, true, OnOk, IfErr, IfSome, length};
+ghost use Rattle.std.specs.Prelude.{refl};
 ghost use Rattle.pgn_extract.specs.Public.Listing.{Entry, is_plain};
-ghost use Rattle.pgn_extract.specs.Private.Lines.{Where, ShowsFields, HasFault, marked_lines, or_some};
-ghost use Rattle.pgn_extract.specs.Private.Sinks.{PutsHere, lines_none, lines_more, some_more, grows_none, grows_more};
+ghost use Rattle.pgn_extract.specs.Private.Lines.{Where, ShowsFields, HasFault, marked_lines};
+ghost use Rattle.pgn_extract.specs.Private.Lines.{or_some};
+ghost use Rattle.pgn_extract.specs.Private.Sinks.{PutsHere, lines_none, lines_more, some_more};
+ghost use Rattle.pgn_extract.specs.Private.Sinks.{grows_none, grows_more};
 
 use crate::entries::line::Line;
 use crate::output::texts::push_ply;

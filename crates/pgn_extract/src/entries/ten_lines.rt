@@ -1,11 +1,13 @@
-//! The lines of plies in a row: those of ten that have all digits but the last in common are written at once.
+//! The lines of plies in a row: those of ten that have all digits but the last in common are
+//! written at once.
 ghost use Rattle.std.specs.Prelude.{◌≡◌, ◌+◌, ◌-◌, ◌*◌, ◌^◌, ◌<◌, ◌≤◌, ◌++◌, OnOk};
 ghost use Rattle.pgn_extract.specs.Private.Blockwise.{lines_from};
 
 use crate::output::texts::{MARK_ROOM, count_up, push_entry};
 use std::alloc::{AllocError, Global};
 
-/// The most bytes that the line of an entry without a name has: a mark, a space, 20 digits and the end of the line.
+/// The most bytes that the line of an entry without a name has: a mark, a space, 20 digits and the
+/// end of the line.
 const LINE_ROOM: usize = MARK_ROOM + 22;
 
 /// The buffers in which lines are made: one line, and those of ten plies.
@@ -15,7 +17,8 @@ struct LineBuffers {
     ten: Vec<u8>,
 }
 
-/// Appends the lines of the plies from one up to another, each made in the buffer from the one before it.
+/// Appends the lines of the plies from one up to another, each made in the buffer from the one
+/// before it.
 fn push_each(
     text: &mut Vec<u8>,
     line: &mut Vec<u8>,
@@ -23,7 +26,8 @@ fn push_each(
     from: usize,
     end: usize,
 ) -> Result<(), AllocError>
-    ensures { OnOk result (text.new.items ≡ text.old.items ++ lines_from mark.now from (end - from)) }
+    ensures { OnOk result (text.new.items ≡ text.old.items
+        ++ lines_from mark.now from (end - from)) }
 {
     line.clear();
     push_entry(line, mark, from)?;
@@ -67,7 +71,8 @@ impl LineBuffers {
         requires tens { 1 ≤ first }
         requires some { 10 * first < end }
         requires room { end < 2 ^ 60 }
-        ensures { OnOk result (text.new.items ≡ text.old.items ++ lines_from mark.now (10 * first) (end - 10 * first)) }
+        ensures { OnOk result (text.new.items ≡ text.old.items
+            ++ lines_from mark.now (10 * first) (end - 10 * first)) }
     {
         self.ten.clear();
         self.ten.reserve(10 * LINE_ROOM)?;
@@ -89,7 +94,8 @@ impl LineBuffers {
     }
 }
 
-/// Appends the lines of the plies of a game with this mark from one up to another, which is left out.
+/// Appends the lines of the plies of a game with this mark from one up to another, which is left
+/// out.
 pub fn push_range(
     text: &mut Vec<u8>,
     alloc: Global,
@@ -98,7 +104,8 @@ pub fn push_range(
     end: usize,
 ) -> Result<(), AllocError>
     requires room { (from < 2 ^ 60) × (end < 2 ^ 60) }
-    ensures { OnOk result (text.new.items ≡ text.old.items ++ lines_from mark.now from (end - from)) }
+    ensures { OnOk result (text.new.items ≡ text.old.items
+        ++ lines_from mark.now from (end - from)) }
 {
     let mut buffers = LineBuffers {
         line: Vec::with_capacity(alloc, LINE_ROOM)?,

@@ -1,5 +1,6 @@
 //! The notes after the lines of games that cannot be replayed: at which word, and why.
-ghost use Rattle.std.specs.Prelude.{◌≡◌, ℕ, List, ◌+◌, ◌^◌, ◌<◌, ◌≤◌, ◌++◌, [], ◌∷◌, length, true, OnOk};
+ghost use Rattle.std.specs.Prelude.{◌≡◌, ℕ, List, ◌+◌, ◌^◌, ◌<◌, ◌≤◌, ◌++◌, [], ◌∷◌, length, true};
+ghost use Rattle.std.specs.Prelude.{OnOk};
 ghost use Rattle.pgn_text.specs.Public.Bytes.{is_not_line_feed};
 ghost use Rattle.pgn_extract.specs.Public.Notes.{IsNote, indented};
 ghost use Rattle.pgn_extract.specs.Private.MoveNotes.{KeepsLine};
@@ -126,7 +127,8 @@ fn push_refused_note(
 ) -> Result<(), AllocError>
     requires place { begin ≤ length site.block.now }
     requires room { site.origin.offset + length site.block.now < 2 ^ 64 }
-    ensures { OnOk result ((note : List ℕ) × IsNote true note × (text.new.items ≡ text.old.items ++ note)) }
+    ensures { OnOk result ((note : List ℕ) × IsNote true note
+        × (text.new.items ≡ text.old.items ++ note)) }
 {
     let Site {
         origin,
@@ -150,7 +152,8 @@ fn push_start_note(
 ) -> Result<(), AllocError>
     requires place { begin ≤ length site.block.now }
     requires room { site.origin.offset + length site.block.now < 2 ^ 64 }
-    ensures { OnOk result ((note : List ℕ) × IsNote true note × (text.new.items ≡ text.old.items ++ note)) }
+    ensures { OnOk result ((note : List ℕ) × IsNote true note
+        × (text.new.items ≡ text.old.items ++ note)) }
 {
     let Site {
         origin,
@@ -174,7 +177,8 @@ pub fn push_game_note(
     lines: Lines,
 ) -> Result<(), AllocError>
     requires room { site.origin.offset + length site.block.now < 2 ^ 64 }
-    ensures { OnOk result ((note : List ℕ) × IsNote true note × (text.new.items ≡ text.old.items ++ note)) }
+    ensures { OnOk result ((note : List ℕ) × IsNote true note
+        × (text.new.items ≡ text.old.items ++ note)) }
 {
     let begin = game.at().min(site.block.len());
     match refused_word(alloc, game, lines) {

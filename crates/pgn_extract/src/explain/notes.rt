@@ -1,9 +1,14 @@
 //! The notes after the lines of faulty games, which say where a game is faulty, and why.
-ghost use Rattle.std.specs.Prelude.{◌≡◌, ℕ, List, ◌+◌, ◌^◌, ◌<◌, ◌≤◌, ◌==◌, [], ◌∷◌, ◌++◌, length, take, drop, codes, decimal, OnOk};
+ghost use Rattle.std.specs.Prelude.{◌≡◌, ℕ, List, ◌+◌, ◌^◌, ◌<◌, ◌≤◌, ◌==◌, [], ◌∷◌, ◌++◌, length};
+ghost use Rattle.std.specs.Prelude.{take, drop, codes, decimal, OnOk};
 ghost use Rattle.pgn_text.specs.Public.Limits.{block_limit};
 ghost use Rattle.pgn_extract.specs.Private.MoveNotes.{KeepsLine};
 ghost use Rattle.pgn_extract.specs.Public.Notes.{indented};
-ghost use Rattle.pgn_extract.specs.Private.NoteTexts.{line_feeds as line_feeds_of, column_after, position_text, place_text, begin_text, hex_digit as hex_digit_of, byte_text, stopper_text, context_text, too_long_text, IsStopNote, IsWithinBlock};
+ghost use Rattle.pgn_extract.specs.Private.NoteTexts.{line_feeds as line_feeds_of, column_after};
+ghost use Rattle.pgn_extract.specs.Private.NoteTexts.{position_text, place_text, begin_text};
+ghost use Rattle.pgn_extract.specs.Private.NoteTexts.{hex_digit as hex_digit_of, byte_text};
+ghost use Rattle.pgn_extract.specs.Private.NoteTexts.{stopper_text, context_text, too_long_text};
+ghost use Rattle.pgn_extract.specs.Private.NoteTexts.{IsStopNote, IsWithinBlock};
 
 use crate::settings::Settings;
 use itoa::Buffer;
@@ -161,7 +166,8 @@ fn push_begin(
     front: &[u8],
 ) -> Result<(), AllocError>
     requires { origin.offset + length front.now < 2 ^ 64 }
-    ensures { OnOk result (text.new.items ≡ text.old.items ++ (label.now ++ begin_text origin front.now ++ codes ")")) }
+    ensures { OnOk result (text.new.items ≡ text.old.items
+        ++ (label.now ++ begin_text origin front.now ++ codes ")")) }
 {
     text.extend_from_slice(label)?;
     match origin.line {
@@ -173,7 +179,8 @@ fn push_begin(
 
 /// Appends a label, a name and a closing parenthesis.
 fn push_named(text: &mut Vec<u8>, label: &[u8], name: &[u8]) -> Result<(), AllocError>
-    ensures { OnOk result (text.new.items ≡ text.old.items ++ (label.now ++ name.now ++ codes ")")) }
+    ensures { OnOk result (text.new.items ≡ text.old.items
+        ++ (label.now ++ name.now ++ codes ")")) }
 {
     text.extend_from_slice(label)?;
     text.extend_from_slice(name)?;
@@ -225,7 +232,8 @@ fn push_context(
 ) -> Result<(), AllocError>
     requires begins { IsWithinBlock (length block.now) stop.within }
     requires room { origin.offset + length block.now < 2 ^ 64 }
-    ensures { OnOk result (text.new.items ≡ text.old.items ++ context_text origin block.now (stop.place == length block.now) stop.within) }
+    ensures { OnOk result (text.new.items ≡ text.old.items
+        ++ context_text origin block.now (stop.place == length block.now) stop.within) }
 {
     match stop.within {
         Within::Comment(at) => {
@@ -260,7 +268,8 @@ pub fn push_stop_note(
 ) -> Result<(), AllocError>
     requires place { begin ≤ length block.now }
     requires room { origin.offset + length block.now < 2 ^ 64 }
-    ensures { OnOk result ((note : List ℕ) × IsStopNote origin block.now begin note × (text.new.items ≡ text.old.items ++ note)) }
+    ensures { OnOk result ((note : List ℕ) × IsStopNote origin block.now begin note
+        × (text.new.items ≡ text.old.items ++ note)) }
 {
     let stop = locate_error(block, begin, origin.offset == 0);
     text.extend_from_slice(b"  ")?;
@@ -273,7 +282,8 @@ pub fn push_stop_note(
 
 /// Appends the note on a block of this size, over the limit.
 pub fn push_too_long_note(text: &mut Vec<u8>, size: u64) -> Result<(), AllocError>
-    ensures { OnOk result (text.new.items ≡ text.old.items ++ indented (too_long_text size block_limit ∷ [])) }
+    ensures { OnOk result (text.new.items ≡ text.old.items
+        ++ indented (too_long_text size block_limit ∷ [])) }
 {
     push_number(text, b"  ", size)?;
     push_number(text, b" bytes, over the limit of ", BLOCK_LIMIT as u64)?;

@@ -58,7 +58,8 @@ fn push_year(line: &mut Vec<u8>, date: Option<&[u8]>) -> Result<(), AllocError>
 /// Appends a line that says who played the game that begins with these bytes, and in which year,
 /// where they name a player.
 pub fn push_players(alloc: Global, text: &mut Vec<u8>, game: &[u8]) -> Result<(), AllocError>
-    ensures { OnOk result ((note : List ℕ) × IsNote true note × (text.new.items ≡ text.old.items ++ note)) }
+    ensures { OnOk result ((note : List ℕ) × IsNote true note
+        × (text.new.items ≡ text.old.items ++ note)) }
 {
     let (white, black) = (value_of(game, b"White"), value_of(game, b"Black"));
     if white.is_none() && black.is_none() {

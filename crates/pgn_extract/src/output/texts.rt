@@ -34,7 +34,8 @@ pub fn push_mark(text: &mut Vec<u8>, id: GameId) -> Result<(), AllocError>
     Ok(())
 }
 
-/// Appends the name of a file and what parts it from the text after it, and nothing where lines have no name.
+/// Appends the name of a file and what parts it from the text after it, and nothing where lines
+/// have no name.
 #[inline(always)]
 pub fn push_title(text: &mut Vec<u8>, name: &Option<FileName>, gap: &[u8]) -> Result<(), AllocError>
     ensures { OnOk result (text.new.items ≡ text.old.items ++ titled gap.now name.now) }
@@ -73,7 +74,8 @@ pub fn push_mark_line(
 
 /// Appends the line of an entry: the mark of its game, a space and the ply.
 pub fn push_entry(text: &mut Vec<u8>, mark: &[u8], ply: usize) -> Result<(), AllocError>
-    ensures { OnOk result (text.new.items ≡ text.old.items ++ (mark.now ++ 32 ∷ decimal ply ++ 10 ∷ [])) }
+    ensures { OnOk result (text.new.items ≡ text.old.items
+        ++ (mark.now ++ 32 ∷ decimal ply ++ 10 ∷ [])) }
 {
     let mut buffer = Buffer::new();
     text.extend_from_slice(mark)?;
@@ -108,13 +110,16 @@ pub fn count_up(line: &mut Vec<u8>, mark: &[u8], ply: usize) -> Result<(), Alloc
     Ok(())
 }
 
-/// Appends how the line of a faulty game begins: with its mark, after the name of its file where lines have one.
+/// Appends how the line of a faulty game begins: with its mark, after the name of its file where
+/// lines have one.
 fn push_faulty_mark(
     text: &mut Vec<u8>,
     name: &Option<FileName>,
     id: GameId,
 ) -> Result<(), AllocError>
-    ensures { OnOk result (text.new.items ≡ text.old.items ++ (codes "pgn-extract: " ++ titled (codes ": ") name.now ++ codes "game " ++ mark id ++ codes ": ")) }
+    ensures { OnOk result (text.new.items ≡ text.old.items
+        ++ (codes "pgn-extract: " ++ titled (codes ": ") name.now ++ codes "game " ++ mark id
+        ++ codes ": ")) }
 {
     text.extend_from_slice(b"pgn-extract: ")?;
     push_title(text, name, b": ")?;
@@ -146,7 +151,8 @@ fn push_move_cause(
     word: &[u8],
     ply: usize,
 ) -> Result<(), AllocError>
-    ensures { OnOk result (text.new.items ≡ text.old.items ++ (kind.now ++ word.now ++ codes " at ply " ++ decimal ply)) }
+    ensures { OnOk result (text.new.items ≡ text.old.items
+        ++ (kind.now ++ word.now ++ codes " at ply " ++ decimal ply)) }
 {
     let mut buffer = Buffer::new();
     text.extend_from_slice(kind)?;
@@ -158,7 +164,8 @@ fn push_move_cause(
 
 /// Appends why a game cannot be replayed. Running out of memory has no text: it is answered.
 fn push_cause(text: &mut Vec<u8>, fault: GameFault<'_>) -> Result<(), AllocError>
-    ensures { OnOk result ((own : Fault) × (fault_of fault.entry ≡ Some own) × (text.new.items ≡ text.old.items ++ cause_text own)) }
+    ensures { OnOk result ((own : Fault) × (fault_of fault.entry ≡ Some own)
+        × (text.new.items ≡ text.old.items ++ cause_text own)) }
 {
     match fault {
         GameFault::BadPosition => text.extend_from_slice(b"bad position"),
@@ -175,7 +182,8 @@ pub fn push_game_fault(
     id: GameId,
     fault: GameFault<'_>,
 ) -> Result<(), AllocError>
-    ensures { OnOk result ((own : Fault) × (fault_of fault.entry ≡ Some own) × (text.new.items ≡ text.old.items ++ fault_text name.now id (cause_text own))) }
+    ensures { OnOk result ((own : Fault) × (fault_of fault.entry ≡ Some own)
+        × (text.new.items ≡ text.old.items ++ fault_text name.now id (cause_text own))) }
 {
     push_faulty_mark(text, name, id)?;
     push_cause(text, fault)?;

@@ -1,4 +1,5 @@
-//! The entries of a packed game whose criteria speak of its moves or of several plies: its line is replayed and kept, and then looked through.
+//! The entries of a packed game whose criteria speak of its moves or of several plies: its line is
+//! replayed and kept, and then looked through.
 ghost use Rattle.std.specs.Prelude.{◌≡◌, true, Some, OnOk, IfOk, IfErr};
 ghost use Rattle.pgn_text.specs.Public.GameTexts.{tag_in};
 ghost use Rattle.pgn_game.specs.Public.Starts.{fen_tag};
@@ -42,7 +43,8 @@ fn replay_given(
     raw: &RawRecord<'_>,
     contents: &[u8],
 ) -> Result<Replayed, PackedFault>
-    requires { EachOfRecord raw.now (λ game replay packed. tag_in fen_tag game.tags ≡ Some contents.now) }
+    requires { EachOfRecord raw.now (λ game replay packed. tag_in fen_tag game.tags
+        ≡ Some contents.now) }
     ensures ok { IfOk result (IsKeptOf raw.now) }
     ensures err { IfErr result (λ fault. fault ≡ PackedFault.NoGame → HasNoText raw.now) }
 {
@@ -79,8 +81,11 @@ impl<'s, 'r, 'a> RecordLines<'s, 'r, 'a> {
         requires criteria { self.now.settings.now.criteria ≡ Some criteria.now }
         requires shows { IsRawOfGame self.now.raw.now }
         requires kept { IsKeptOf self.now.raw.now replayed.now }
-        requires marked { self.now.mark.items ≡ named_mark self.now.raw.now.name (raw_id self.now.raw.now) }
-        ensures { OnOk result (ListsRecord (aim_of self.now.settings.now) self.now.raw.now text.old.items text.new.items) }
+        requires marked { self.now.mark.items
+            ≡ named_mark self.now.raw.now.name (raw_id self.now.raw.now) }
+        ensures { OnOk result
+            (ListsRecord (aim_of self.now.settings.now) self.now.raw.now text.old.items
+            text.new.items) }
     {
         let met = criteria.met_packed(alloc, self.raw, replayed)?;
         let mut is_open = true;
@@ -93,7 +98,8 @@ impl<'s, 'r, 'a> RecordLines<'s, 'r, 'a> {
     }
 }
 
-/// Adds the lines of the entries of a packed game by criteria. The positions of its line are kept meanwhile.
+/// Adds the lines of the entries of a packed game by criteria. The positions of its line are kept
+/// meanwhile.
 pub fn push_kept_record<'a>(
     text: &mut Vec<u8>,
     alloc: Global,
@@ -105,7 +111,8 @@ pub fn push_kept_record<'a>(
     requires criteria { settings.now.criteria ≡ Some criteria.now }
     requires shows { IsRawOfGame raw.now }
     ensures ok { OnOk result (ListsRecord (aim_of settings.now) raw.now text.old.items text.new.items) }
-    ensures err { IfErr result (λ fault. fault ≡ PackedFault.NoGame → (text.new.items ≡ text.old.items) × HasNoText raw.now) }
+    ensures err { IfErr result (λ fault. fault ≡ PackedFault.NoGame
+        → (text.new.items ≡ text.old.items) × HasNoText raw.now) }
 {
     let replayed = match replay_record(alloc, raw) {
         Ok(replayed) => replayed,

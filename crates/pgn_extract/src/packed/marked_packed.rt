@@ -1,4 +1,5 @@
-//! The entries of a packed game whose criteria speak of no men and of no moves: the marks of its plies tell them, and no man is moved.
+//! The entries of a packed game whose criteria speak of no men and of no moves: the marks of its
+//! plies tell them, and no man is moved.
 ghost use Rattle.std.specs.Prelude.{◌≡◌, true, OnOk};
 ghost use Rattle.pgn_criteria.specs.Public.Meeting.{heading_of};
 ghost use Rattle.pgn_extract.specs.Public.Aims.{aim_of};
@@ -13,7 +14,8 @@ use pgn_criteria::MarkSet;
 use std::alloc::AllocError;
 
 impl<'s, 'r, 'a> RecordLines<'s, 'r, 'a> {
-    /// Adds the lines of the entries of the game, which have the marks. At its start that side is to move.
+    /// Adds the lines of the entries of the game, which have the marks. At its start that side is
+    /// to move.
     pub(crate) fn push_marked(
         &self,
         text: &mut Vec<u8>,
@@ -21,10 +23,14 @@ impl<'s, 'r, 'a> RecordLines<'s, 'r, 'a> {
         turn: Side,
     ) -> Result<(), AllocError>
         requires plain { is_plain self.now.settings.now.fields ≡ true }
-        requires marked { self.now.mark.items ≡ named_mark self.now.raw.now.name (raw_id self.now.raw.now) }
+        requires marked { self.now.mark.items
+            ≡ named_mark self.now.raw.now.name (raw_id self.now.raw.now) }
         requires starts { StartsWith self.now.raw.now turn }
-        requires met { EachOfRecord self.now.raw.now (λ game replay packed. AreMetWith marks.bits (heading_of game) self.now.settings.now.criteria) }
-        ensures { OnOk result (ListsRecord (aim_of self.now.settings.now) self.now.raw.now text.old.items text.new.items) }
+        requires met { EachOfRecord self.now.raw.now (λ game replay packed.
+            AreMetWith marks.bits (heading_of game) self.now.settings.now.criteria) }
+        ensures { OnOk result
+            (ListsRecord (aim_of self.now.settings.now) self.now.raw.now text.old.items
+            text.new.items) }
     {
         let plies = self.raw.plies();
         let is_met = marks.has(turn, self.raw.in_check(), self.raw.is_stuck());

@@ -20,7 +20,8 @@ pub(crate) struct RecordLines<'s, 'r, 'a> {
 }
 
 impl<'s, 'r, 'a> RecordLines<'s, 'r, 'a> {
-    /// Adds the line of a ply of which it is known whether it meets the criteria, if it is an entry. Answers whether a later one may be one.
+    /// Adds the line of a ply of which it is known whether it meets the criteria, if it is an
+    /// entry. Answers whether a later one may be one.
     #[inline(always)]
     pub(crate) fn ask(
         &self,
@@ -30,9 +31,12 @@ impl<'s, 'r, 'a> RecordLines<'s, 'r, 'a> {
         is_open: bool,
     ) -> Result<bool, AllocError>
         requires plain { is_plain self.now.settings.now.fields ≡ true }
-        requires marked { self.now.mark.items ≡ named_mark self.now.raw.now.name (raw_id self.now.raw.now) }
+        requires marked { self.now.mark.items
+            ≡ named_mark self.now.raw.now.name (raw_id self.now.raw.now) }
         ensures { IfOk result (λ still. Grows text.old.items text.new.items
-            × ((kept : Replay) → GoesOnAt (record_aim (aim_of self.now.settings.now) self.now.raw.now) (raw_id self.now.raw.now) kept ply is_met
+            × ((kept : Replay)
+            → GoesOnAt (record_aim (aim_of self.now.settings.now) self.now.raw.now)
+            (raw_id self.now.raw.now) kept ply is_met
             text.old.items text.new.items is_open still)) }
     {
         if !is_open || ply > self.settings.max_ply as usize {

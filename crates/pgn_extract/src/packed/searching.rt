@@ -1,5 +1,6 @@
 //! The search of a pack: its records are read one after another, and the lines of each are written.
-ghost use Rattle.std.specs.Prelude.{◌≡◌, ◌↔◌, ◌⊎◌, ℕ, ◌+◌, ◌≤◌, false, true, List, [], IfOk, IfErr, OnOk, IsErrOf};
+ghost use Rattle.std.specs.Prelude.{◌≡◌, ◌↔◌, ◌⊎◌, ℕ, ◌+◌, ◌≤◌, false, true, List, [], IfOk, IfErr};
+ghost use Rattle.std.specs.Prelude.{OnOk, IsErrOf};
 ghost use Rattle.std.specs.Io.KnownBytes.{Appends};
 ghost use Rattle.pgn_extract.specs.Public.Aims.{aim_of};
 ghost use Rattle.pgn_extract.specs.Public.Listing.{is_plain};
@@ -63,7 +64,8 @@ fn of_records(error: RecordsError, place: u64) -> SearchError
 fn put_text<O: Write>(out: &mut Tally<O>, text: &[u8]) -> Result<(), SearchError>
     requires { out.old.faulted ≡ false }
     ensures ok { OnOk result (Appends (O.contents out.old.inner) (O.contents out.new.inner) text.now) }
-    ensures err { IfErr result (λ error. (error ≡ SearchError.Write) × AppendsFront (O.contents out.old.inner) (O.contents out.new.inner) text.now) }
+    ensures err { IfErr result (λ error. (error ≡ SearchError.Write)
+        × AppendsFront (O.contents out.old.inner) (O.contents out.new.inner) text.now) }
     ensures fault { IsErrOf result SearchError.Write ↔ (out.new.faulted ≡ true) }
 {
     match write_all(out, text) {
@@ -76,8 +78,11 @@ fn put_text<O: Write>(out: &mut Tally<O>, text: &[u8]) -> Result<(), SearchError
 #[inline(always)]
 fn put_large<O: Write>(out: &mut Tally<O>, text: &mut Vec<u8>) -> Result<(), SearchError>
     requires { out.old.faulted ≡ false }
-    ensures ok { OnOk result (PutsSome (O.contents out.old.inner) (O.contents out.new.inner) text.old.items text.new.items) }
-    ensures err { IfErr result (λ error. (error ≡ SearchError.Write) × AppendsFront (O.contents out.old.inner) (O.contents out.new.inner) text.old.items) }
+    ensures ok { OnOk result
+        (PutsSome (O.contents out.old.inner) (O.contents out.new.inner) text.old.items
+        text.new.items) }
+    ensures err { IfErr result (λ error. (error ≡ SearchError.Write)
+        × AppendsFront (O.contents out.old.inner) (O.contents out.new.inner) text.old.items) }
     ensures fault { IsErrOf result SearchError.Write ↔ (out.new.faulted ≡ true) }
 {
     if text.len() < LARGE {
@@ -91,8 +96,10 @@ fn put_large<O: Write>(out: &mut Tally<O>, text: &mut Vec<u8>) -> Result<(), Sea
 /// Writes the last of what is gathered, and flushes.
 fn end<O: Write>(out: &mut Tally<O>, text: &[u8]) -> Result<(), SearchError>
     requires { out.old.faulted ≡ false }
-    ensures ok { OnOk result (Appends (O.contents out.old.inner) (O.contents out.new.inner) text.now × (out.new.flushed ≡ true)) }
-    ensures err { IfErr result (λ error. (error ≡ SearchError.Write) × AppendsFront (O.contents out.old.inner) (O.contents out.new.inner) text.now) }
+    ensures ok { OnOk result (Appends (O.contents out.old.inner) (O.contents out.new.inner) text.now
+        × (out.new.flushed ≡ true)) }
+    ensures err { IfErr result (λ error. (error ≡ SearchError.Write)
+        × AppendsFront (O.contents out.old.inner) (O.contents out.new.inner) text.now) }
     ensures fault { IsErrOf result SearchError.Write ↔ (out.new.faulted ≡ true) }
 {
     put_text(out, text)?;
@@ -102,10 +109,12 @@ fn end<O: Write>(out: &mut Tally<O>, text: &[u8]) -> Result<(), SearchError>
     }
 }
 
-/// Writes the last of what is gathered before a search stops with the error. A write that fails is the error then.
+/// Writes the last of what is gathered before a search stops with the error. A write that fails is
+/// the error then.
 fn put_rest<O: Write>(out: &mut Tally<O>, text: &[u8], error: SearchError) -> SearchError
     requires { out.old.faulted ≡ false }
-    ensures { PutsRest error (O.contents out.old.inner) (O.contents out.new.inner) out.new.faulted text.now result }
+    ensures { PutsRest error (O.contents out.old.inner) (O.contents out.new.inner) out.new.faulted
+        text.now result }
 {
     match put_text(out, text) {
         Ok(()) => error,
@@ -113,7 +122,8 @@ fn put_rest<O: Write>(out: &mut Tally<O>, text: &[u8], error: SearchError) -> Se
     }
 }
 
-/// Writes the listing of a pack, which is that of the text that was packed; or in the index the marks of its records.
+/// Writes the listing of a pack, which is that of the text that was packed; or in the index the
+/// marks of its records.
 pub fn search<R: Read, O: Write>(
     alloc: Global,
     input: &mut Tally<R>,
@@ -122,9 +132,11 @@ pub fn search<R: Read, O: Write>(
 ) -> Result<Searched, SearchError>
     requires sound { (input.old.faulted ≡ false) × (out.old.faulted ≡ false) }
     requires plain { is_plain settings.now.fields ≡ true }
-    ensures stands { IsSearch (aim_of settings.now) (R.remaining input.old.inner) (R.remaining input.new.inner) (O.contents out.old.inner) (O.contents out.new.inner) result }
+    ensures stands { IsSearch (aim_of settings.now) (R.remaining input.old.inner) (R.remaining input.new.inner)
+        (O.contents out.old.inner) (O.contents out.new.inner) result }
     ensures flushed { OnOk result (out.new.flushed ≡ true) }
-    ensures read { IsErrOf result SearchError.Read ↔ ((input.new.faulted ≡ true) × (out.new.faulted ≡ false)) }
+    ensures read { IsErrOf result SearchError.Read
+        ↔ ((input.new.faulted ≡ true) × (out.new.faulted ≡ false)) }
     ensures write { IsErrOf result SearchError.Write ↔ (out.new.faulted ≡ true) }
 {
     let mut records = Records::new(alloc);

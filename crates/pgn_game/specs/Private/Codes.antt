@@ -1,4 +1,5 @@
--- Replays are stored as tuples of lists, so that a type may have one as its value; and so are main lines that are played.
+-- Replays are stored as tuples of lists, so that a type may have one as its value; and so are main
+-- lines that are played.
 use Rattle.std.specs.Prelude.{◌≡◌, ℕ, Bool, true, false, List, Option, Some, None, refl}
 use Rattle.std.specs.Coded.{Coded, coded_ℕ, coded_bool, coded_list, coded_option, coded×, code_by}
 use Rattle.chess.specs.Public.Squares.{Place}
@@ -31,7 +32,8 @@ coded_wing = code_by Bool coded_bool is_queen_side wing_of wing_back
 
 abbrev pub coded_move : Coded Move
 coded_move = code_by (Place × (Place × (Option Kind × Option Wing)))
-    (coded× coded_place (coded× coded_place (coded× (coded_option coded_kind) (coded_option coded_wing))))
+    (coded× coded_place
+    (coded× coded_place (coded× (coded_option coded_kind) (coded_option coded_wing))))
     (λ m. (m.from, (m.to, (m.promote, m.castle))))
     (λ p. record { from = p.0; to = p.1.0; promote = p.1.1.0; castle = p.1.1.1 }) (λ _. refl)
 
@@ -52,9 +54,15 @@ abbrev pub coded_turn : Coded LineMove
 coded_turn = code_by (Option Move) (coded_option coded_move) move_of turn_of turn_back
 
 abbrev pub coded_replay : Coded Replay
-coded_replay = code_by (List State × (List Move × List LineMove)) (coded× (coded_list coded_state) (coded× (coded_list coded_move) (coded_list coded_turn)))
-    (λ r. (r.positions, (r.played, r.turns))) (λ p. record { positions = p.0; played = p.1.0; turns = p.1.1 }) (λ _. refl)
+coded_replay =
+    code_by (List State × (List Move × List LineMove))
+    (coded× (coded_list coded_state) (coded× (coded_list coded_move) (coded_list coded_turn)))
+    (λ r. (r.positions, (r.played, r.turns))) (λ p.
+    record { positions = p.0; played = p.1.0; turns = p.1.1 }) (λ _. refl)
 
 abbrev pub coded_played_line : Coded PlayedLine
-coded_played_line = code_by (State × (ℕ × List (List ℕ))) (coded× coded_state (coded× coded_ℕ (coded_list (coded_list coded_ℕ))))
-    (λ l. (l.position, (l.plies, l.words))) (λ p. record { position = p.0; plies = p.1.0; words = p.1.1 }) (λ _. refl)
+coded_played_line =
+    code_by (State × (ℕ × List (List ℕ)))
+    (coded× coded_state (coded× coded_ℕ (coded_list (coded_list coded_ℕ))))
+    (λ l. (l.position, (l.plies, l.words))) (λ p.
+    record { position = p.0; plies = p.1.0; words = p.1.1 }) (λ _. refl)

@@ -1,13 +1,17 @@
--- How the words of a comment are found and written. Nothing but the proof of their writer cites these.
-use Rattle.std.specs.Prelude.{◌≡◌, ℕ, ◌+◌, Bool, true, false, if◌then◌else◌, Option, Some, None, codes, List, [], ◌∷◌, ◌++◌, length, map}
+-- How the words of a comment are found and written. Nothing but the proof of their writer cites
+-- these.
+use Rattle.std.specs.Prelude.{◌≡◌, ℕ, ◌+◌, Bool, true, false, if◌then◌else◌, Option, Some, None}
+use Rattle.std.specs.Prelude.{codes, List, [], ◌∷◌, ◌++◌, length, map}
 use Rattle.pgn_text.specs.Public.Bytes.{is_white, is_empty}
-use Rattle.pgn_game.specs.Public.Comments.{words_in, unbraced, later_word, closed, ties, in_front, tied, comment_tokens}
+use Rattle.pgn_game.specs.Public.Comments.{words_in, unbraced, later_word, closed, ties, in_front}
+use Rattle.pgn_game.specs.Public.Comments.{tied, comment_tokens}
 use Rattle.pgn_game.specs.Public.TextLines.{joined}
 use Rattle.pgn_game.specs.Private.Pens.{after_tokens, HasPut}
 use Rattle.pgn_game.specs.declared.exports.comment.Found.{Found}
 use Rattle.pgn_game.specs.declared.exports.pen.Pen.{Pen}
 
--- the first run of bytes that are no white space, what follows it, and what follows the white space that a text begins with
+-- the first run of bytes that are no white space, what follows it, and what follows the white space
+-- that a text begins with
 abbrev pub word_front : List ℕ → List ℕ
 word_front [] = []
 word_front (b ∷ text) = if is_white b then [] else b ∷ word_front text
@@ -55,7 +59,8 @@ IsSpaced text = joined (comment_tokens false text) ≡ 123 ∷ (text ++ 125 ∷ 
 
 -- the rest of a text after some word, with which it is written as it stands
 abbrev pub IsSpacedAfter : List ℕ → Type 0
-IsSpacedAfter rest = (word : List ℕ) → joined (closed (word ∷ map later_word (words_in rest))) ≡ word ++ (rest ++ 125 ∷ [])
+IsSpacedAfter rest = (word : List ℕ) → joined (closed (word ∷ map later_word (words_in rest)))
+    ≡ word ++ (rest ++ 125 ∷ [])
 
 -- the word that was found is written as it is, where that is known
 abbrev pub IsFoundBare : Option Found → Type 0
@@ -67,23 +72,29 @@ abbrev pub found_size : Option Found → ℕ
 found_size None = 0
 found_size (Some found) = length found.rest.now + 1
 
--- the tokens of words after the first one, with each command as one token, where the first of them begins in a command or not
+-- the tokens of words after the first one, with each command as one token, where the first of them
+-- begins in a command or not
 abbrev pub tied_words : Bool → List (List ℕ) → List (List ℕ)
 tied_words inside words = tied (ties inside words) (closed (map later_word words))
 
--- what was written after a text are the words tied to the end of the text: so all words are the token with them, and those that are left
+-- what was written after a text are the words tied to the end of the text: so all words are the
+-- token with them, and those that are left
 abbrev pub HasTied : List ℕ → List ℕ → Bool → List (List ℕ) → List (List ℕ) → Type 0
 HasTied before_it after inside words left =
     (some : List ℕ) × (after ≡ before_it ++ some)
-    × ((token : List ℕ) → in_front inside token (tied_words inside words) ≡ (token ++ some) ∷ tied_words false left)
+    × ((token : List ℕ) → in_front inside token (tied_words inside words)
+    ≡ (token ++ some) ∷ tied_words false left)
 
 -- a pen has put the token that a word begins, of these words after it all but those that are left
-abbrev pub PutsTied : Pen → Pen → List ℕ → List ℕ → Bool → List ℕ → List (List ℕ) → List (List ℕ) → Type 0
+abbrev pub PutsTied : Pen → Pen → List ℕ → List ℕ → Bool → List ℕ → List (List ℕ) → List (List ℕ)
+    → Type 0
 PutsTied old new before_it after inside word words left =
     (token : List ℕ) × HasPut old new before_it after (token ∷ [])
-    × (in_front inside (word ++ closing (is_empty words)) (tied_words inside words) ≡ token ∷ tied_words false left)
+    × (in_front inside (word ++ closing (is_empty words)) (tied_words inside words)
+    ≡ token ∷ tied_words false left)
 
 -- a pen that has written all but these of the tokens after what stood there
 abbrev pub HasLeft : Pen → Pen → List ℕ → List ℕ → List (List ℕ) → List (List ℕ) → Type 0
 HasLeft old new before after tokens left =
-    (more : List (List ℕ)) → after ++ after_tokens new.width new.begun new.column (left ++ more) ≡ before ++ after_tokens old.width old.begun old.column (tokens ++ more)
+    (more : List (List ℕ)) → after ++ after_tokens new.width new.begun new.column (left ++ more)
+    ≡ before ++ after_tokens old.width old.begun old.column (tokens ++ more)

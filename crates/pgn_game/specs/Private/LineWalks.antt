@@ -1,7 +1,9 @@
--- All lines while they are played: what is left of the elements completes the whole. Nothing but the proof of the replay cites these.
+-- All lines while they are played: what is left of the elements completes the whole. Nothing but
+-- the proof of the replay cites these.
 use Rattle.std.specs.Prelude.{◌≡◌, ◌⊎◌, ◌+◌, ◌-◌, Bool, true, false, List, [], ◌∷◌}
 use Rattle.chess.specs.Public.Positions.{State}
-use Rattle.pgn_text.specs.Public.Games.{Item, MoveText, GlyphNumber, CommentText, VariationOpen, VariationClose}
+use Rattle.pgn_text.specs.Public.Games.{Item, MoveText, GlyphNumber, CommentText, VariationOpen}
+use Rattle.pgn_text.specs.Public.Games.{VariationClose}
 use Rattle.pgn_game.specs.Public.Faults.{Fault, IsRefusedTurn}
 use Rattle.pgn_game.specs.Public.AllLines.{IsTurn, after_turn}
 use Rattle.pgn_game.specs.declared.turns.line_move.LineMove.{LineMove}
@@ -14,7 +16,8 @@ is_inside (line ∷ outer) = true
 
 -- the line after a turn; a variation as it begins
 abbrev pub gone_on : Level → LineMove → Level
-gone_on level turn = record { before = level.now; now = after_turn level.now turn; plies = level.plies + 1 }
+gone_on level turn =
+    record { before = level.now; now = after_turn level.now turn; plies = level.plies + 1 }
 
 abbrev pub begun : Level → Level
 begun level = record { before = level.before; now = level.before; plies = level.plies - 1 }
@@ -27,7 +30,8 @@ first_level start = record { before = start; now = start; plies = 0 }
 abbrev pub Runs : List Item → Level → List Level → List LineMove → Type 0
 Runs [] level outer turns = turns ≡ []
 Runs (MoveText word ∷ items) level outer turns =
-    (turn : LineMove) × (more : List LineMove) × (turns ≡ turn ∷ more) × IsTurn (is_inside outer) level.now word turn × Runs items (gone_on level turn) outer more
+    (turn : LineMove) × (more : List LineMove) × (turns ≡ turn ∷ more)
+    × IsTurn (is_inside outer) level.now word turn × Runs items (gone_on level turn) outer more
 Runs (GlyphNumber number ∷ items) level outer turns = Runs items level outer turns
 Runs (CommentText text ∷ items) level outer turns = Runs items level outer turns
 Runs (VariationOpen ∷ items) level outer turns = Runs items (begun level) (level ∷ outer) turns
@@ -39,7 +43,8 @@ abbrev pub Stops : List Item → Level → List Level → Fault → Type 0
 Stops [] level outer fault = ⊥
 Stops (MoveText word ∷ items) level outer fault =
     IsRefusedTurn (is_inside outer) level.now level.plies word fault
-    ⊎ ((turn : LineMove) × IsTurn (is_inside outer) level.now word turn × Stops items (gone_on level turn) outer fault)
+    ⊎ ((turn : LineMove) × IsTurn (is_inside outer) level.now word turn
+    × Stops items (gone_on level turn) outer fault)
 Stops (GlyphNumber number ∷ items) level outer fault = Stops items level outer fault
 Stops (CommentText text ∷ items) level outer fault = Stops items level outer fault
 Stops (VariationOpen ∷ items) level outer fault = Stops items (begun level) (level ∷ outer) fault
@@ -50,10 +55,12 @@ Stops (VariationClose ∷ items) level (next ∷ outer) fault = Stops items next
 abbrev pub Leads : List Item → Level → List Level → Bool → Level → Type 0
 Leads [] level outer inside last = (inside ≡ is_inside outer) × (last ≡ level)
 Leads (MoveText word ∷ items) level outer inside last =
-    (turn : LineMove) × IsTurn (is_inside outer) level.now word turn × Leads items (gone_on level turn) outer inside last
+    (turn : LineMove) × IsTurn (is_inside outer) level.now word turn
+    × Leads items (gone_on level turn) outer inside last
 Leads (GlyphNumber number ∷ items) level outer inside last = Leads items level outer inside last
 Leads (CommentText text ∷ items) level outer inside last = Leads items level outer inside last
-Leads (VariationOpen ∷ items) level outer inside last = Leads items (begun level) (level ∷ outer) inside last
+Leads (VariationOpen ∷ items) level outer inside last =
+    Leads items (begun level) (level ∷ outer) inside last
 Leads (VariationClose ∷ items) level [] inside last = Leads items level [] inside last
 Leads (VariationClose ∷ items) level (next ∷ outer) inside last = Leads items next outer inside last
 

@@ -1,6 +1,8 @@
--- The movetext while it is written: what is written at each step. Nothing but the proof of its writer cites these.
+-- The movetext while it is written: what is written at each step. Nothing but the proof of its
+-- writer cites these.
 use Rattle.std.specs.Prelude.{◌≡◌, ◌||◌, ℕ, Bool, true, false, codes, decimal, List, [], ◌∷◌, ◌++◌}
-use Rattle.pgn_text.specs.Public.Games.{MoveText, GlyphNumber, CommentText, VariationOpen, VariationClose}
+use Rattle.pgn_text.specs.Public.Games.{MoveText, GlyphNumber, CommentText, VariationOpen}
+use Rattle.pgn_text.specs.Public.Games.{VariationClose}
 use Rattle.pgn_game.specs.Public.Comments.{comment_tokens}
 use Rattle.pgn_game.specs.Public.Exports.{number_tokens, IsTurnText, kept}
 use Rattle.pgn_game.specs.Private.Pens.{HasPut}
@@ -16,9 +18,14 @@ pub record Puts (old new : MovetextWriter) (tokens : List (List ℕ)) (apart : B
 -- what is written at a step
 abbrev pub WritesStep : MovetextWriter → Step → MovetextWriter → Type 0
 WritesStep old (Turned inside before turn) new =
-    (text : List ℕ) × IsTurnText before turn text × Puts old new (number_tokens before.turn before.fullmove_number old.apart ++ text ∷ []) false
+    (text : List ℕ) × IsTurnText before turn text
+    × Puts old new (number_tokens before.turn before.fullmove_number old.apart ++ text
+    ∷ []) false
 WritesStep old (Beside (MoveText word)) new = new ≡ old
-WritesStep old (Beside (GlyphNumber number)) new = Puts old new (kept old.style.glyphs ((36 ∷ decimal number) ∷ [])) old.apart
-WritesStep old (Beside (CommentText text)) new = Puts old new (kept old.style.comments (comment_tokens old.style.commands text)) (old.apart || old.style.comments)
+WritesStep old (Beside (GlyphNumber number)) new =
+    Puts old new (kept old.style.glyphs ((36 ∷ decimal number) ∷ [])) old.apart
+WritesStep old (Beside (CommentText text)) new =
+    Puts old new (kept old.style.comments (comment_tokens old.style.commands text)) (old.apart
+    || old.style.comments)
 WritesStep old (Beside VariationOpen) new = Puts old new (codes "(" ∷ []) true
 WritesStep old (Beside VariationClose) new = Puts old new (codes ")" ∷ []) true

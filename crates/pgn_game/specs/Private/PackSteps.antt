@@ -1,12 +1,14 @@
 -- What the parts of a step to the next record do.
-use Rattle.std.specs.Prelude.{◌≡◌, ◌≢◌, ℕ, ◌+◌, ◌<◌, ◌≤◌, Bool, true, false, List, [], ◌++◌, length, take, drop, Option, Result, Ok, Err}
+use Rattle.std.specs.Prelude.{◌≡◌, ◌≢◌, ℕ, ◌+◌, ◌<◌, ◌≤◌, Bool, true, false, List, [], ◌++◌, length}
+use Rattle.std.specs.Prelude.{take, drop, Option, Result, Ok, Err}
 use Rattle.std.specs.Int.{w32, from_be_bytes}
 use Rattle.std.specs.Io.KnownBytes.{Consumes, IsAtEnd}
 use Rattle.pgn_text.specs.Public.Limits.{largest_offset}
 use Rattle.pgn_game.specs.Public.PackedGames.{largest_body}
 use Rattle.pgn_game.specs.Public.PackReading.{RawRecord, body_at}
 use Rattle.pgn_game.specs.declared.pack.records.RecordsError.{RecordsError}
-use Rattle.pgn_game.specs.declared.pack.records.RecordsError.TheVariants.{Read, OutOfMemory, BadPack, InputTooLong}
+use Rattle.pgn_game.specs.declared.pack.records.RecordsError.TheVariants.{Read, OutOfMemory}
+use Rattle.pgn_game.specs.declared.pack.records.RecordsError.TheVariants.{BadPack, InputTooLong}
 
 -- the bytes are those of a record after its size, so many of them those of its plies
 abbrev pub HasBody : List ℕ → ℕ → Type 0
@@ -46,11 +48,14 @@ pub record ReadsPart (old : List ℕ) (left left' : Option (List ℕ)) : Type 0 
   pub bytes : Consumes left left' read
   pub part : IsPart (old ++ read)
 
--- what reading up to the whole of a record does, by its answer: the bytes show whether there is one; or there are none
-abbrev pub HoldsWhole : List ℕ → List ℕ → Option (List ℕ) → Option (List ℕ) → Result Bool RecordsError → Type 0
+-- what reading up to the whole of a record does, by its answer: the bytes show whether there is
+-- one; or there are none
+abbrev pub HoldsWhole : List ℕ → List ℕ → Option (List ℕ) → Option (List ℕ)
+    → Result Bool RecordsError → Type 0
 HoldsWhole old new left left' (Ok true) = ReadsOn old new left left' × IsWhole new
 HoldsWhole old new left left' (Ok false) = ReadsOn old new left left' × (new ≡ []) × IsAtEnd left'
-HoldsWhole old new left left' (Err BadPack) = ReadsOn old new left left' × (new ≢ []) × IsPart new × IsAtEnd left'
+HoldsWhole old new left left' (Err BadPack) =
+    ReadsOn old new left left' × (new ≢ []) × IsPart new × IsAtEnd left'
 HoldsWhole old new left left' (Err InputTooLong) = ⊥
 HoldsWhole old new left left' (Err Read) = ReadsPart old left left'
 HoldsWhole old new left left' (Err OutOfMemory) = Unit {0}

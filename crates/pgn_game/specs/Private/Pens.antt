@@ -1,4 +1,5 @@
--- Tokens written one after another, in lines: what a writer that stands in some column adds. Nothing but the proof of the writer cites
+-- Tokens written one after another, in lines: what a writer that stands in some column adds.
+-- Nothing but the proof of the writer cites
 -- these.
 use Rattle.std.specs.Prelude.{◌≡◌, ℕ, ◌+◌, Bool, true, false, List, [], ◌∷◌, ◌++◌, length, nat_le}
 use Rattle.pgn_game.specs.Public.TextLines.{IsLaid}
@@ -19,7 +20,8 @@ abbrev pub added : ℕ → ℕ → List (List ℕ) → List ℕ
 added width column [] = 10 ∷ []
 added width column (token ∷ tokens) =
     parted (nat_le (column + 1 + length token) width) token
-    ++ added width (column_after (nat_le (column + 1 + length token) width) column (length token)) tokens
+    ++ added width (column_after (nat_le (column + 1 + length token) width) column (length token))
+    tokens
 
 -- all tokens, where none may have been written: no tokens have no line
 abbrev pub after_tokens : ℕ → Bool → ℕ → List (List ℕ) → List ℕ
@@ -30,8 +32,10 @@ after_tokens width false column (token ∷ tokens) = token ++ added width (lengt
 -- a pen that wrote these tokens after what stood there, whatever follows them
 abbrev pub HasPut : Pen → Pen → List ℕ → List ℕ → List (List ℕ) → Type 0
 HasPut old new before after tokens =
-    (more : List (List ℕ)) → after ++ after_tokens new.width new.begun new.column more ≡ before ++ after_tokens old.width old.begun old.column (tokens ++ more)
+    (more : List (List ℕ)) → after ++ after_tokens new.width new.begun new.column more
+    ≡ before ++ after_tokens old.width old.begun old.column (tokens ++ more)
 
 -- what is added is a text in lines
 abbrev pub AddedIsLaid : Type 0
-AddedIsLaid = (width : ℕ) (first : List ℕ) (rest : List (List ℕ)) → IsLaid width (first ∷ rest) (first ++ added width (length first) rest)
+AddedIsLaid = (width : ℕ) (first : List ℕ) (rest : List (List ℕ))
+    → IsLaid width (first ∷ rest) (first ++ added width (length first) rest)

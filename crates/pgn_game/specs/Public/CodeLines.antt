@@ -7,7 +7,8 @@ use Rattle.chess.specs.declared.moves.Move.{Move}
 use Rattle.pgn_game.specs.Public.PlyCodes.{PlyCode, AreCodes, code_bytes}
 use Rattle.pgn_game.specs.Public.Replays.{Replay}
 
--- each of the moves is legal, the first in this position, and each other in the one that the moves before it lead to
+-- each of the moves is legal, the first in this position, and each other in the one that the moves
+-- before it lead to
 abbrev pub AreLegalMoves : State → List Move → Type 0
 AreLegalMoves P [] = Unit {0}
 AreLegalMoves P (m ∷ moves) = IsLegal P m × AreLegalMoves (after P m) moves
@@ -29,7 +30,8 @@ pub record IsCodedLine (start : State) (bytes : List ℕ) (moves : List Move) : 
   pub are : AreCodes start moves codes
   pub spell : bytes ≡ flat_map code_bytes codes
 
--- the replay of a line of legal moves from the position: if these are the bytes of the codes of a line, it is that one
+-- the replay of a line of legal moves from the position: if these are the bytes of the codes of a
+-- line, it is that one
 pub record IsCodedReplay (start : State) (bytes : List ℕ) (replay : Replay) : Type 0 where
   pub line : IsLegalLine start replay
   pub turns : replay.turns ≡ []

@@ -1,6 +1,8 @@
--- A comment as tokens: its words, the first after an opening brace and the last before a closing one; and, where its commands are kept
+-- A comment as tokens: its words, the first after an opening brace and the last before a closing
+-- one; and, where its commands are kept
 -- whole, the words of each command as one token.
-use Rattle.std.specs.Prelude.{ℕ, Bool, false, not, ◌&&◌, ◌||◌, ◌==◌, if◌then◌else◌, bytes_eq, codes, List, [], ◌∷◌, ◌++◌, map, filter}
+use Rattle.std.specs.Prelude.{ℕ, Bool, false, not, ◌&&◌, ◌||◌, ◌==◌, if◌then◌else◌, bytes_eq, codes}
+use Rattle.std.specs.Prelude.{List, [], ◌∷◌, ◌++◌, map, filter}
 use Rattle.std.specs.List.{list_any}
 use Rattle.pgn_text.specs.Public.Bytes.{is_white, is_empty, begins}
 use Rattle.pgn_game.specs.Public.TextLines.{joined}
@@ -12,17 +14,20 @@ in_first b (piece ∷ more) = (b ∷ piece) ∷ more
 
 abbrev pub cut_at_white : List ℕ → List (List ℕ)
 cut_at_white [] = [] ∷ []
-cut_at_white (b ∷ text) = if is_white b then [] ∷ cut_at_white text else in_first b (cut_at_white text)
+cut_at_white (b ∷ text) = if is_white b then [] ∷ cut_at_white text
+    else in_first b (cut_at_white text)
 
 -- its words: the longest runs of bytes that are no white space
 abbrev pub words_in : List ℕ → List (List ℕ)
 words_in text = filter (λ piece. not (is_empty piece)) (cut_at_white text)
 
--- a comment is written in braces, and no brace may stand in it (PGN 5): a closing one is written `)`
+-- a comment is written in braces, and no brace may stand in it (PGN 5): a closing one is written
+-- `)`
 abbrev pub unbraced : List ℕ → List ℕ
 unbraced word = map (λ b. if b == 125 then 41 else b) word
 
--- a word that may stand at the beginning of a line, where it must be neither an event line nor an escape (PGN 6)
+-- a word that may stand at the beginning of a line, where it must be neither an event line nor an
+-- escape (PGN 6)
 abbrev pub later_word : List ℕ → List ℕ
 later_word word =
     if bytes_eq word (codes "[Event") then codes "(Event"
@@ -57,17 +62,22 @@ abbrev pub leaves_open : List ℕ → Bool
 leaves_open [] = false
 leaves_open (b ∷ text) = (begins_command (b ∷ text) && not (has_bracket text)) || leaves_open text
 
--- white space between the word and what follows stands in a command, which the word begins, or in which it begins; a `[%` whose closing
+-- white space between the word and what follows stands in a command, which the word begins, or in
+-- which it begins; a `[%` whose closing
 -- bracket is missing, or stands after another `[%`, begins none
 abbrev pub in_command : Bool → List ℕ → List ℕ → Bool
-in_command inside word rest = if leaves_open word then closes rest else inside && not (has_bracket word)
+in_command inside word rest = if leaves_open word then closes rest
+    else inside && not (has_bracket word)
 
--- for each word, whether white space after it stands in a command; `inside` where the first one begins in a command
+-- for each word, whether white space after it stands in a command; `inside` where the first one
+-- begins in a command
 abbrev pub ties : Bool → List (List ℕ) → List Bool
 ties inside [] = []
-ties inside (word ∷ more) = in_command inside word (joined more) ∷ ties (in_command inside word (joined more)) more
+ties inside (word ∷ more) = in_command inside word (joined more)
+    ∷ ties (in_command inside word (joined more)) more
 
--- a token before others: where it is tied to the next one, it is one token with it, with a space between them
+-- a token before others: where it is tied to the next one, it is one token with it, with a space
+-- between them
 abbrev pub in_front : Bool → List ℕ → List (List ℕ) → List (List ℕ)
 in_front tie token [] = token ∷ []
 in_front tie token (next ∷ more) = if tie then (token ++ 32 ∷ next) ∷ more else token ∷ next ∷ more
@@ -77,6 +87,8 @@ tied [] tokens = tokens
 tied (tie ∷ more) [] = []
 tied (tie ∷ more) (token ∷ tokens) = in_front tie token (tied more tokens)
 
--- the tokens of a comment, where commands are kept whole or not: it has the same words in the same order either way
+-- the tokens of a comment, where commands are kept whole or not: it has the same words in the same
+-- order either way
 abbrev pub comment_tokens : Bool → List ℕ → List (List ℕ)
-comment_tokens commands text = tied (if commands then ties false (words_in text) else []) (braced (words_in text))
+comment_tokens commands text =
+    tied (if commands then ties false (words_in text) else []) (braced (words_in text))

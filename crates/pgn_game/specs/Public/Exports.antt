@@ -1,12 +1,14 @@
 -- The export of a game: its tags, and its movetext in standard texts (PGN 3.1, 8).
-use Rattle.std.specs.Prelude.{◌≡◌, ℕ, Bool, true, false, ◌||◌, codes, decimal, List, [], ◌∷◌, ◌++◌, Option}
+use Rattle.std.specs.Prelude.{◌≡◌, ℕ, Bool, true, false, ◌||◌, codes, decimal, List, [], ◌∷◌, ◌++◌}
+use Rattle.std.specs.Prelude.{Option}
 use Rattle.chess.specs.Public.Positions.{State}
 use Rattle.chess.specs.Public.San.{IsSan}
 use Rattle.chess.specs.declared.board.man.Side.{Side}
 use Rattle.chess.specs.declared.board.man.Side.TheVariants.{White, Black}
 use Rattle.pgn_text.specs.Public.Games.{Item}
 use Rattle.pgn_text.specs.Public.GameTexts.{GameText, tag_in}
-use Rattle.pgn_game.specs.Public.AllLines.{Line, LineEnd, ThenMove, ThenGlyph, ThenComment, ThenVariation, spelled, IsTurn, after_turn}
+use Rattle.pgn_game.specs.Public.AllLines.{Line, LineEnd, ThenMove, ThenGlyph, ThenComment}
+use Rattle.pgn_game.specs.Public.AllLines.{ThenVariation, spelled, IsTurn, after_turn}
 use Rattle.pgn_game.specs.Public.Comments.{comment_tokens}
 use Rattle.pgn_game.specs.Public.Replays.{Replay, IsReplay}
 use Rattle.pgn_game.specs.Public.Starts.{fen_tag, IsStart}
@@ -18,7 +20,8 @@ use Rattle.pgn_game.specs.declared.exports.style.Style.{Style}
 use Rattle.pgn_game.specs.declared.turns.line_move.LineMove.{LineMove}
 use Rattle.pgn_game.specs.declared.turns.line_move.LineMove.TheVariants.{Played, Passed}
 
--- the tokens of a move's number: White's move always has one; Black's has one where it stands apart from the move before it, as the first of
+-- the tokens of a move's number: White's move always has one; Black's has one where it stands apart
+-- from the move before it, as the first of
 -- its line or with a written comment or variation between them (PGN 8.2.2)
 abbrev pub number_tokens : Side → ℕ → Bool → List (List ℕ)
 number_tokens White number apart = (decimal number ++ codes ".") ∷ []
@@ -35,27 +38,34 @@ abbrev pub kept : Bool → List (List ℕ) → List (List ℕ)
 kept true tokens = tokens
 kept false tokens = []
 
--- the tokens of the line with all its variations: `before` and `now` as where it is played, `apart` where the next move stands apart from
+-- the tokens of the line with all its variations: `before` and `now` as where it is played, `apart`
+-- where the next move stands apart from
 -- the one before it
 abbrev pub AreTokens : Style → Bool → State → State → Bool → Line → List (List ℕ) → Type 0
 AreTokens style inside before now apart LineEnd tokens = tokens ≡ []
 AreTokens style inside before now apart (ThenMove word rest) tokens =
-    (turn : LineMove) × (text : List ℕ) × (more : List (List ℕ)) × IsTurn inside now word turn × IsTurnText now turn text
-    × (tokens ≡ number_tokens now.turn now.fullmove_number apart ++ text ∷ more) × AreTokens style inside now (after_turn now turn) false rest more
+    (turn : LineMove) × (text : List ℕ) × (more : List (List ℕ)) × IsTurn inside now word turn
+    × IsTurnText now turn text
+    × (tokens ≡ number_tokens now.turn now.fullmove_number apart ++ text ∷ more)
+    × AreTokens style inside now (after_turn now turn) false rest more
 AreTokens style inside before now apart (ThenGlyph number rest) tokens =
-    (more : List (List ℕ)) × (tokens ≡ kept style.glyphs ((36 ∷ decimal number) ∷ []) ++ more) × AreTokens style inside before now apart rest more
+    (more : List (List ℕ)) × (tokens ≡ kept style.glyphs ((36 ∷ decimal number) ∷ []) ++ more)
+    × AreTokens style inside before now apart rest more
 AreTokens style inside before now apart (ThenComment text rest) tokens =
-    (more : List (List ℕ)) × (tokens ≡ kept style.comments (comment_tokens style.commands text) ++ more)
+    (more : List (List ℕ))
+    × (tokens ≡ kept style.comments (comment_tokens style.commands text) ++ more)
     × AreTokens style inside before now (apart || style.comments) rest more
 AreTokens style inside before now apart (ThenVariation inner rest) tokens =
-    (own : List (List ℕ)) × (more : List (List ℕ)) × (tokens ≡ kept style.variations (codes "(" ∷ own ++ codes ")" ∷ []) ++ more)
+    (own : List (List ℕ)) × (more : List (List ℕ))
+    × (tokens ≡ kept style.variations (codes "(" ∷ own ++ codes ")" ∷ []) ++ more)
     × (style.variations ≡ true → AreTokens style true before before true inner own)
     × AreTokens style inside before now (apart || style.variations) rest more
 
 -- the tokens of the movetext: those of the lines, and then the result
 abbrev pub AreMovetextTokens : Style → State → List Item → List ℕ → List (List ℕ) → Type 0
 AreMovetextTokens style start items result tokens =
-    (line : Line) × (own : List (List ℕ)) × (items ≡ spelled line) × AreTokens style false start start true line own × (tokens ≡ own ++ result ∷ [])
+    (line : Line) × (own : List (List ℕ)) × (items ≡ spelled line)
+    × AreTokens style false start start true line own × (tokens ≡ own ++ result ∷ [])
 
 -- the lines of a game that are written, where variations are kept or left out
 abbrev pub lines_with : Bool → Lines
@@ -64,9 +74,11 @@ lines_with false = Main
 
 -- the replay is one of the game, and of all its lines where the style keeps variations
 abbrev pub IsReplayFor : Style → Option (List ℕ) → List Item → Replay → Type 0
-IsReplayFor style fen items replay = (lines : Lines) × (style.variations ≡ true → lines ≡ All) × IsReplay lines fen items replay
+IsReplayFor style fen items replay = (lines : Lines) × (style.variations ≡ true → lines ≡ All)
+    × IsReplay lines fen items replay
 
--- the text is the export of the game in the style: its tag lines, an empty line, the lines of its movetext, and an empty line
+-- the text is the export of the game in the style: its tag lines, an empty line, the lines of its
+-- movetext, and an empty line
 pub record IsExport (style : Style) (game : GameText) (text : List ℕ) : Type 0 where
   pub start : State
   pub is_start : IsStart (tag_in fen_tag game.tags) start
@@ -81,5 +93,7 @@ pub record IsExport (style : Style) (game : GameText) (text : List ℕ) : Type 0
 -- in a style the movetext has one list of tokens at most
 abbrev pub MovetextHasOneList : Type 0
 MovetextHasOneList =
-    (style : Style) (start : State) (items : List Item) (result : List ℕ) (tokens others : List (List ℕ))
-    → AreMovetextTokens style start items result tokens → AreMovetextTokens style start items result others → tokens ≡ others
+    (style : Style) (start : State) (items : List Item) (result : List ℕ)
+    (tokens others : List (List ℕ))
+    → AreMovetextTokens style start items result tokens
+    → AreMovetextTokens style start items result others → tokens ≡ others

@@ -1,5 +1,6 @@
 -- The main line of a game on one line: the position that it starts from, and its moves.
-use Rattle.std.specs.Prelude.{◌≡◌, ◌≢◌, ◌↔◌, ℕ, ◌+◌, ◌==◌, if◌then◌else◌, List, [], ◌∷◌, ◌++◌, map, codes, Option, Some, None}
+use Rattle.std.specs.Prelude.{◌≡◌, ◌≢◌, ◌↔◌, ℕ, ◌+◌, ◌==◌, if◌then◌else◌, List, [], ◌∷◌, ◌++◌, map}
+use Rattle.std.specs.Prelude.{codes, Option, Some, None}
 use Rattle.chess.specs.Public.Positions.{State}
 use Rattle.chess.specs.Public.Start.{initial}
 use Rattle.chess.specs.Public.Moves.{after}
@@ -20,17 +21,20 @@ use Rattle.pgn_game.specs.declared.replays.replayer.Lines.TheVariants.{Main}
 abbrev pub unspaced : ℕ → ℕ
 unspaced b = if b == 32 then 95 else b
 
--- the position from which a game starts: `-` for the initial one, else its text in FEN without spaces
+-- the position from which a game starts: `-` for the initial one, else its text in FEN without
+-- spaces
 pub data IsStartText (start : State) (text : List ℕ) : Type 0 where
   as_initial : start ≡ initial → text ≡ codes "-" → IsStartText start text
-  as_fen : start ≢ initial → (fen : List ℕ) → IsFen start fen → text ≡ map unspaced fen → IsStartText start text
+  as_fen : start ≢ initial → (fen : List ℕ) → IsFen start fen → text ≡ map unspaced fen
+      → IsStartText start text
 
 -- the letter of what a pawn becomes, in lower case
 abbrev pub promotion_letter : Option Kind → List ℕ
 promotion_letter None = []
 promotion_letter (Some kind) = (kind_letter kind + 32) ∷ []
 
--- a move in the notation of the protocol UCI: its two squares, and what a pawn becomes; castling is the king's move
+-- a move in the notation of the protocol UCI: its two squares, and what a pawn becomes; castling is
+-- the king's move
 abbrev pub uci_text : Move → List ℕ
 uci_text m = square_text m.from ++ square_text m.to ++ promotion_letter m.promote
 
@@ -43,10 +47,13 @@ IsMoveText Uci now m text = text ≡ uci_text m
 abbrev pub AreMoveTexts : Notation → State → List Move → List ℕ → Type 0
 AreMoveTexts notation now [] text = text ≡ []
 AreMoveTexts notation now (m ∷ more) text =
-    (own : List ℕ) × (rest : List ℕ) × (text ≡ 32 ∷ own ++ rest) × IsMoveText notation now m own × AreMoveTexts notation (after now m) more rest
+    (own : List ℕ) × (rest : List ℕ) × (text ≡ 32 ∷ own ++ rest) × IsMoveText notation now m own
+    × AreMoveTexts notation (after now m) more rest
 
--- the text of the main line of the game with these contents of its FEN tag and these elements: its start and its moves
-pub record IsGameLine (notation : Notation) (fen : Option (List ℕ)) (items : List Item) (text : List ℕ) : Type 0 where
+-- the text of the main line of the game with these contents of its FEN tag and these elements: its
+-- start and its moves
+pub record IsGameLine (notation : Notation) (fen : Option (List ℕ)) (items : List Item)
+    (text : List ℕ) : Type 0 where
   pub start : State
   pub is_start : IsStart fen start
   pub positions : List State
@@ -61,7 +68,8 @@ pub record IsGameLine (notation : Notation) (fen : Option (List ℕ)) (items : L
 -- a game whose main line is sound has a line in each notation
 abbrev pub SoundGameHasALine : Type 0
 SoundGameHasALine =
-    (notation : Notation) (fen : Option (List ℕ)) (items : List Item) → IsSoundGame Main fen items → (text : List ℕ) × IsGameLine notation fen items text
+    (notation : Notation) (fen : Option (List ℕ)) (items : List Item) → IsSoundGame Main fen items
+    → (text : List ℕ) × IsGameLine notation fen items text
 
 -- and one at most
 abbrev pub GameHasOneLine : Type 0
@@ -69,9 +77,11 @@ GameHasOneLine =
     (notation : Notation) (fen : Option (List ℕ)) (items : List Item) (text other : List ℕ)
     → IsGameLine notation fen items text → IsGameLine notation fen items other → text ≡ other
 
--- the lines of two games in a notation are the same exactly where the games start in the same position and have the same moves
+-- the lines of two games in a notation are the same exactly where the games start in the same
+-- position and have the same moves
 abbrev pub LineIsTheGame : Type 0
 LineIsTheGame =
-    (notation : Notation) (fen tag : Option (List ℕ)) (items others : List Item) (text other : List ℕ)
+    (notation : Notation) (fen tag : Option (List ℕ)) (items others : List Item)
+    (text other : List ℕ)
     (first : IsGameLine notation fen items text) (second : IsGameLine notation tag others other)
     → (text ≡ other) ↔ ((first.start ≡ second.start) × (first.played ≡ second.played))

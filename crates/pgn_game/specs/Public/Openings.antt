@@ -6,8 +6,10 @@ use Rattle.pgn_game.specs.Public.MainLines.{main_words, IsMainLine}
 use Rattle.pgn_game.specs.Public.Replays.{Replay}
 use Rattle.pgn_game.specs.Public.Starts.{IsStart}
 
--- the first of the words lead through these positions by these moves: so many, or all words where there are fewer
-pub record IsBeginning (start : State) (words : List (List ℕ)) (most : ℕ) (opening : Replay) : Type 0 where
+-- the first of the words lead through these positions by these moves: so many, or all words where
+-- there are fewer
+pub record IsBeginning (start : State) (words : List (List ℕ)) (most : ℕ) (opening : Replay) : Type
+    0 where
   pub first : List (List ℕ)
   pub rest : List (List ℕ)
   pub parted : words ≡ first ++ rest
@@ -16,8 +18,10 @@ pub record IsBeginning (start : State) (words : List (List ℕ)) (most : ℕ) (o
   pub far : (rest ≡ []) ⊎ (most ≤ length opening.played)
   pub turns : opening.turns ≡ []
 
--- it is the replay of the main line up to so many plies, or to its end, of the game with these contents of its FEN tag and these elements
-pub record IsOpening (fen : Option (List ℕ)) (items : List Item) (most : ℕ) (opening : Replay) : Type 0 where
+-- it is the replay of the main line up to so many plies, or to its end, of the game with these
+-- contents of its FEN tag and these elements
+pub record IsOpening (fen : Option (List ℕ)) (items : List Item) (most : ℕ)
+    (opening : Replay) : Type 0 where
   pub start : State
   pub is_start : IsStart fen start
   pub line : IsBeginning start (main_words items 0) most opening

@@ -1,6 +1,7 @@
 -- A packed game, and its one spelling: a record of a pack. Numbers are big-endian.
 use Rattle.std.specs.Prelude.{◌≡◌, ℕ, ◌+◌, ◌*◌, ◌^◌, ◌<◌, ◌≤◌, ◌==◌, ◌&&◌, ◌||◌, if◌then◌else◌, not}
-use Rattle.std.specs.Prelude.{Bool, true, false, IsTrue, nat_le, List, [], ◌∷◌, ◌++◌, length, bytes_eq}
+use Rattle.std.specs.Prelude.{Bool, true, false, IsTrue, nat_le, List, [], ◌∷◌, ◌++◌, length}
+use Rattle.std.specs.Prelude.{bytes_eq}
 use Rattle.std.specs.Prelude.{codes, Option, Some, None, IfSome, option_map}
 use Rattle.std.specs.Cmp.Lexicographic.{slice_cmp}
 use Rattle.std.specs.List.Sorted.{IsStrictlySortedBy}
@@ -11,7 +12,8 @@ use Rattle.chess.specs.Public.Positions.{State}
 use Rattle.pgn_text.specs.Public.Bytes.{begins}
 use Rattle.pgn_text.specs.Public.Limits.{block_limit, largest_offset}
 use Rattle.pgn_text.specs.Public.GameTexts.{GameText, IsResult, tag_in, tag_names}
-use Rattle.pgn_game.specs.Public.PlyCodes.{PlyCode, FitsCode, AreMarks, AreCodes, marks_number, code_bytes}
+use Rattle.pgn_game.specs.Public.PlyCodes.{PlyCode, FitsCode, AreMarks, AreCodes, marks_number}
+use Rattle.pgn_game.specs.Public.PlyCodes.{code_bytes}
 use Rattle.pgn_game.specs.Public.Replays.{Replay, IsReplay}
 use Rattle.pgn_game.specs.Public.Starts.{fen_tag}
 use Rattle.pgn_game.specs.declared.pack.origin.GameOrigin.{GameOrigin}
@@ -52,19 +54,23 @@ tag_bytes tag = with_length tag.0 ++ with_length tag.1
 -- the number of a result, and the result with such a number
 abbrev pub result_number : List ℕ → ℕ
 result_number result =
-    if bytes_eq result (codes "1-0") then 1 else if bytes_eq result (codes "0-1") then 2 else if bytes_eq result (codes "1/2-1/2") then 3 else 0
+    if bytes_eq result (codes "1-0") then 1 else if bytes_eq result (codes "0-1") then 2
+    else if bytes_eq result (codes "1/2-1/2") then 3 else 0
 
 abbrev pub numbered_result : ℕ → List ℕ
-numbered_result n = if n == 1 then codes "1-0" else if n == 2 then codes "0-1" else if n == 3 then codes "1/2-1/2" else codes "*"
+numbered_result n = if n == 1 then codes "1-0" else if n == 2 then codes "0-1" else if n == 3
+    then codes "1/2-1/2" else codes "*"
 
 -- whether there is a name, as a number
 abbrev pub named_number : Option (List ℕ) → ℕ
 named_number None = 0
 named_number (Some name) = 1
 
--- the number of the tags, and below it whether the game has a name, the number of its result and the two marks of its start
+-- the number of the tags, and below it whether the game has a name, the number of its result and
+-- the two marks of its start
 abbrev pub head_of : PackedGame → ℕ
-head_of game = 32 * length game.tags + 16 * named_number game.name + 4 * result_number game.result + marks_number game.check game.stuck
+head_of game = 32 * length game.tags + 16 * named_number game.name + 4 * result_number game.result
+    + marks_number game.check game.stuck
 
 -- the name, where there is one
 abbrev pub name_bytes : Option (List ℕ) → List ℕ
@@ -78,7 +84,8 @@ tail_bytes game = flat_map tag_bytes game.tags ++ flat_map code_bytes game.plies
 -- what stands in a record after its size: number, offset, head, name, tags and plies
 abbrev pub body_bytes : PackedGame → List ℕ
 body_bytes game =
-    to_be_bytes w64 game.number ++ to_be_bytes w64 game.offset ++ to_be_bytes w32 (head_of game) ++ (name_bytes game.name ++ tail_bytes game)
+    to_be_bytes w64 game.number ++ to_be_bytes w64 game.offset ++ to_be_bytes w32 (head_of game)
+    ++ (name_bytes game.name ++ tail_bytes game)
 
 -- a record: four bytes of size, and so many bytes
 abbrev pub record_bytes : PackedGame → List ℕ
@@ -88,7 +95,8 @@ record_bytes game = with_length (body_bytes game)
 abbrev pub pack_bytes : List PackedGame → List ℕ
 pack_bytes games = flat_map record_bytes games
 
--- how many bytes a name takes in a record, and tags, and how many stand in one with so many plies after its size
+-- how many bytes a name takes in a record, and tags, and how many stand in one with so many plies
+-- after its size
 abbrev pub name_size : Option (List ℕ) → ℕ
 name_size None = 0
 name_size (Some name) = 4 + length name
@@ -104,8 +112,10 @@ body_size name tags plies = 20 + name_size name + tags_size tags + 3 * plies
 abbrev pub longest_name : ℕ
 longest_name = 4096
 
--- the most bytes that stand after the size of a record: number, offset and head, the length of a name and a name, and twice a block. Beside its name
--- and contents a tag takes at least 4 bytes of a text, and 8 of a record; a ply takes at least 2, and 3
+-- the most bytes that stand after the size of a record: number, offset and head, the length of a
+-- name and a name, and twice a block. Beside its name
+-- and contents a tag takes at least 4 bytes of a text, and 8 of a record; a ply takes at least 2,
+-- and 3
 abbrev pub largest_body : ℕ
 largest_body = 24 + longest_name + 2 * block_limit
 
@@ -147,9 +157,11 @@ pub record FitsRecord (game : PackedGame) : Type 0 where
   pub size : length (body_bytes game) ≤ largest_body
   pub origin : IsTrue (is_origin game.number game.offset game.name)
 
--- what is kept of the game with this name of its file and this number, at this offset, of which this is the replay: its tags and its result as they
+-- what is kept of the game with this name of its file and this number, at this offset, of which
+-- this is the replay: its tags and its result as they
 -- stand, the marks of the position that it starts from, and the codes of its main line
-pub record IsPacked (its_name : Option (List ℕ)) (its_number its_offset : ℕ) (game : GameText) (replay : Replay) (packed : PackedGame) : Type 0 where
+pub record IsPacked (its_name : Option (List ℕ)) (its_number its_offset : ℕ) (game : GameText)
+    (replay : Replay) (packed : PackedGame) : Type 0 where
   pub name : packed.name ≡ its_name
   pub number : packed.number ≡ its_number
   pub offset : packed.offset ≡ its_offset
@@ -160,8 +172,10 @@ pub record IsPacked (its_name : Option (List ℕ)) (its_number its_offset : ℕ)
   pub marks : AreMarks start packed.check packed.stuck
   pub plies : AreCodes start replay.played packed.plies
 
--- the bytes are the record of the game with this name of its file and this number, at this offset: its main line is sound
-pub record IsRecordOf (its_name : Option (List ℕ)) (its_number its_offset : ℕ) (game : GameText) (bytes : List ℕ) : Type 0 where
+-- the bytes are the record of the game with this name of its file and this number, at this offset:
+-- its main line is sound
+pub record IsRecordOf (its_name : Option (List ℕ)) (its_number its_offset : ℕ) (game : GameText)
+    (bytes : List ℕ) : Type 0 where
   pub replay : Replay
   pub is_replay : IsReplay Main (tag_in fen_tag game.tags) game.elements replay
   pub packed : PackedGame

@@ -8,7 +8,8 @@ use Rattle.pgn_text.specs.Public.Games.{Item}
 use Rattle.pgn_game.specs.Public.MainLines.{main_words}
 use Rattle.pgn_game.specs.Public.Starts.{IsStart}
 
--- the position that is reached, how many plies lead to it, and the words of the moves that are still to be played
+-- the position that is reached, how many plies lead to it, and the words of the moves that are
+-- still to be played
 pub record PlayedLine : Type 0 where
   pub position : State
   pub plies : ℕ
@@ -39,7 +40,8 @@ abbrev pub HasAdvanced : PlayedLine → PlayedLine → Bool → Type 0
 HasAdvanced old new true = PlaysWord old new
 HasAdvanced old new false = HasEnded old new
 
--- the text of the next move, where these words are left: the standard text of the one legal move that the first names, and `-` where none is left
+-- the text of the next move, where these words are left: the standard text of the one legal move
+-- that the first names, and `-` where none is left
 abbrev pub IsNextText : State → List (List ℕ) → List ℕ → Type 0
 IsNextText now [] text = text ≡ codes "-"
 IsNextText now (word ∷ words) text = (m : Move) × IsOnlyNamed now word m × IsSan now m text

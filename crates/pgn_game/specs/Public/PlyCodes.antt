@@ -1,5 +1,7 @@
--- A ply in three bytes: enough to move the men by it on any placement, with no question to the Laws.
-use Rattle.std.specs.Prelude.{◌≡◌, ◌↔◌, ℕ, ◌+◌, ◌*◌, ◌/◌, ◌%◌, ◌==◌, ltb, Bool, true, false, if◌then◌else◌, List, [], ◌∷◌, Option, Some, None, IfSome}
+-- A ply in three bytes: enough to move the men by it on any placement, with no question to the
+-- Laws.
+use Rattle.std.specs.Prelude.{◌≡◌, ◌↔◌, ℕ, ◌+◌, ◌*◌, ◌/◌, ◌%◌, ◌==◌, ltb, Bool, true, false}
+use Rattle.std.specs.Prelude.{if◌then◌else◌, List, [], ◌∷◌, Option, Some, None, IfSome}
 use Rattle.chess.specs.Public.Squares.{Place, IsOnBoard, square_at, index_of}
 use Rattle.chess.specs.Public.Placements.{Placement, with_man}
 use Rattle.chess.specs.Public.Positions.{State, king_of, IsCheck}
@@ -27,7 +29,8 @@ pub record PlyCode : Type 0 where
   pub check : Bool
   pub stuck : Bool
 
--- the two marks are those of the position: whether the side to move is in check, and whether it has no legal move
+-- the two marks are those of the position: whether the side to move is in check, and whether it has
+-- no legal move
 pub record AreMarks (P : State) (in_check is_stuck : Bool) : Type 0 where
   pub check : (in_check ≡ true) ↔ IsCheck P.men P.turn
   pub stuck : (is_stuck ≡ true) ↔ (¬ HasMove P)
@@ -41,14 +44,19 @@ pub record IsCode (P : State) (m : Move) (c : PlyCode) : Type 0 where
   pub castle : c.castle ≡ m.castle
   pub marks : AreMarks (after P m) c.check c.stuck
 
--- they are the codes of these moves, of which the first is played in the position, and each other in the one that the moves before it lead to
+-- they are the codes of these moves, of which the first is played in the position, and each other
+-- in the one that the moves before it lead to
 abbrev pub AreCodes : State → List Move → List PlyCode → Type 0
 AreCodes P [] codes = codes ≡ []
-AreCodes P (m ∷ moves) codes = (c : PlyCode) × (more : List PlyCode) × (codes ≡ c ∷ more) × IsCode P m c × AreCodes (after P m) moves more
+AreCodes P (m ∷ moves) codes = (c : PlyCode) × (more : List PlyCode) × (codes ≡ c ∷ more)
+    × IsCode P m c × AreCodes (after P m) moves more
 
--- the men moved by a code: the man taken is gone, the one that moves has left its square and arrives, and in castling the rook goes too
+-- the men moved by a code: the man taken is gone, the one that moves has left its square and
+-- arrives, and in castling the rook goes too
 abbrev pub moved : Placement → PlyCode → Placement
-moved men c = with_rook c.man.side c.castle (with_man (with_man (with_man men c.taken None) c.from None) c.to (Some c.man))
+moved men c =
+    with_rook c.man.side c.castle
+    (with_man (with_man (with_man men c.taken None) c.from None) c.to (Some c.man))
 
 -- the code has a spelling: its squares are on the board, and only a king castles
 pub record FitsCode (c : PlyCode) : Type 0 where
@@ -66,7 +74,8 @@ bit true = 1
 abbrev pub marks_number : Bool → Bool → ℕ
 marks_number check stuck = bit check + 2 * bit stuck
 
--- the number of a kind, and of a side: their sum is a man's number, so White's six men come before Black's
+-- the number of a kind, and of a side: their sum is a man's number, so White's six men come before
+-- Black's
 abbrev pub kind_number : Kind → ℕ
 kind_number King = 0
 kind_number Queen = 1
@@ -91,18 +100,23 @@ abbrev pub man_number : Man → Option Wing → ℕ
 man_number man None = side_number man.side + kind_number man.kind
 man_number man (Some wing) = castle_number man.side wing
 
--- the kind with its number, and the man with such a number, and the wing on which he castles, if he does
+-- the kind with its number, and the man with such a number, and the wing on which he castles, if he
+-- does
 abbrev pub numbered_kind : ℕ → Kind
 numbered_kind n =
-    if n == 0 then King else if n == 1 then Queen else if n == 2 then Rook else if n == 3 then Bishop else if n == 4 then Knight else Pawn
+    if n == 0 then King else if n == 1 then Queen else if n == 2 then Rook else if n == 3
+    then Bishop else if n == 4 then Knight else Pawn
 
 abbrev pub numbered_man : ℕ → Man
-numbered_man n = if ltb n 12 then record { side = if ltb n 6 then White else Black; kind = numbered_kind (n % 6) } else king_of (if ltb n 14 then White else Black)
+numbered_man n = if ltb n 12 then
+    record { side = if ltb n 6 then White else Black; kind = numbered_kind (n % 6) }
+    else king_of (if ltb n 14 then White else Black)
 
 abbrev pub numbered_castle : ℕ → Option Wing
 numbered_castle n = if ltb n 12 then None else Some (if n % 2 == 0 then KingSide else QueenSide)
 
--- the three bytes of a code: in the low six bits of each a square, `from`, `to` and `taken`, counted from 0 for a1, b1 to h1, a2 and so on; in the
+-- the three bytes of a code: in the low six bits of each a square, `from`, `to` and `taken`,
+-- counted from 0 for a1, b1 to h1, a2 and so on; in the
 -- two bits above these the marks, and then the low and the high half of the man's number
 abbrev pub code_bytes : PlyCode → List ℕ
 code_bytes c =

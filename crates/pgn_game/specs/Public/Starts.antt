@@ -22,4 +22,5 @@ IsStart (Some contents) start = (value : List ℕ) × IsValueOf contents value �
 -- the value of its FEN tag is refused, so it starts from no position
 abbrev pub IsBadStart : Option (List ℕ) → Type 0
 IsBadStart None = ⊥
-IsBadStart (Some contents) = (value : List ℕ) × (error : FenError) × IsValueOf contents value × IsRefused value error
+IsBadStart (Some contents) = (value : List ℕ) × (error : FenError) × IsValueOf contents value
+    × IsRefused value error

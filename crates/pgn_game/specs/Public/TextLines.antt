@@ -1,4 +1,5 @@
--- Tokens in lines: the only parting of them such that each line is within the width or is one token, and no line could take the first
+-- Tokens in lines: the only parting of them such that each line is within the width or is one
+-- token, and no line could take the first
 -- token of the next one within the width.
 use Rattle.std.specs.Prelude.{◌≡◌, ℕ, ◌<◌, ◌≤◌, List, [], ◌∷◌, ◌++◌, length, flat_map}
 
@@ -46,4 +47,5 @@ TokensHaveAText = (width : ℕ) (tokens : List (List ℕ)) → (text : List ℕ)
 
 -- and one at most
 abbrev pub TokensHaveOneText : Type 0
-TokensHaveOneText = (width : ℕ) (tokens : List (List ℕ)) (text other : List ℕ) → IsLaid width tokens text → IsLaid width tokens other → text ≡ other
+TokensHaveOneText = (width : ℕ) (tokens : List (List ℕ)) (text other : List ℕ)
+    → IsLaid width tokens text → IsLaid width tokens other → text ≡ other

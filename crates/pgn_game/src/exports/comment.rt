@@ -1,9 +1,15 @@
 //! Comments as tokens.
-ghost use Rattle.std.specs.Prelude.{◌≡◌, ◌+◌, ◌++◌, ◌∷◌, ◌<◌, ◌≤◌, ℕ, Bool, List, [], length, map, OnOk, IfOk, IfSome, IsTrue, true, false};
+ghost use Rattle.std.specs.Prelude.{◌≡◌, ◌+◌, ◌++◌, ◌∷◌, ◌<◌, ◌≤◌, ℕ, Bool, List, [], length, map};
+ghost use Rattle.std.specs.Prelude.{OnOk, IfOk, IfSome, IsTrue, true, false};
 ghost use Rattle.pgn_text.specs.Public.Bytes.{is_white};
-ghost use Rattle.pgn_game.specs.Public.Comments.{words_in, unbraced, later_word, closed, begins_command, closes, leaves_open, in_command, comment_tokens};
+ghost use Rattle.pgn_game.specs.Public.Comments.{words_in, unbraced, later_word, closed};
+ghost use Rattle.pgn_game.specs.Public.Comments.{begins_command, closes, leaves_open, in_command};
+ghost use Rattle.pgn_game.specs.Public.Comments.{comment_tokens};
 ghost use Rattle.pgn_game.specs.Public.TextLines.{joined};
-ghost use Rattle.pgn_game.specs.Private.CommentWords.{word_front, after_front, after_white, found_words, closing, found_size, tied_words, IsBare, IsFoundBare, IsAfterBare, IsAfterKept, IsSpaced, HasTied, PutsTied};
+ghost use Rattle.pgn_game.specs.Private.CommentWords.{word_front, after_front, after_white};
+ghost use Rattle.pgn_game.specs.Private.CommentWords.{found_words, closing, found_size, tied_words};
+ghost use Rattle.pgn_game.specs.Private.CommentWords.{IsBare, IsFoundBare, IsAfterBare};
+ghost use Rattle.pgn_game.specs.Private.CommentWords.{IsAfterKept, IsSpaced, HasTied, PutsTied};
 ghost use Rattle.pgn_game.specs.Private.Pens.{HasPut};
 
 use crate::exports::pen::Pen;
@@ -50,7 +56,8 @@ fn from_white(text: &[u8]) -> &[u8]
     rest
 }
 
-/// The text after the bytes that it begins with which stand in words and are no closing braces: all of a word, for most words.
+/// The text after the bytes that it begins with which stand in words and are no closing braces: all
+/// of a word, for most words.
 #[inline(always)]
 fn after_bare(text: &[u8]) -> &[u8]
     ensures { IsAfterBare text.now result.now }
@@ -140,7 +147,8 @@ fn push_word(
     is_last: bool,
 ) -> Result<(), AllocError>
     requires { found.bare ≡ true → IsBare found.word.now }
-    ensures text { OnOk result (out.new.items ≡ out.old.items ++ (front.now ++ unbraced found.entry.word.now ++ closing is_last)) }
+    ensures text { OnOk result (out.new.items
+        ≡ out.old.items ++ (front.now ++ unbraced found.entry.word.now ++ closing is_last)) }
     ensures kept { (some : List ℕ) × (out.new.items ≡ out.old.items ++ some) }
 {
     push_front(out, front)?;
@@ -151,7 +159,8 @@ fn push_word(
     Ok(())
 }
 
-/// Writes a word that was found as a token, after what it begins with; the last one has the closing brace.
+/// Writes a word that was found as a token, after what it begins with; the last one has the closing
+/// brace.
 fn put_word(
     pen: &mut Pen,
     out: &mut Vec<u8>,
@@ -160,7 +169,9 @@ fn put_word(
     is_last: bool,
 ) -> Result<(), AllocError>
     requires { found.bare ≡ true → IsBare found.word.now }
-    ensures text { OnOk result (HasPut pen.old pen.new out.old.items out.new.items ((front.now ++ unbraced found.entry.word.now ++ closing is_last) ∷ [])) }
+    ensures text { OnOk result
+        (HasPut pen.old pen.new out.old.items out.new.items
+        ((front.now ++ unbraced found.entry.word.now ++ closing is_last) ∷ [])) }
     ensures kept { (some : List ℕ) × (out.new.items ≡ out.old.items ++ some) }
     ensures width { pen.new.width ≡ pen.old.width }
 {
@@ -168,7 +179,8 @@ fn put_word(
     push_word(out, front, found, is_last)
 }
 
-/// What a word after the first one begins with, and what follows: it must be neither an event line nor an escape at the beginning of a
+/// What a word after the first one begins with, and what follows: it must be neither an event line
+/// nor an escape at the beginning of a
 /// line.
 fn guarded(word: &[u8]) -> (&[u8], &[u8])
     ensures text { later_word word.now ≡ result.0.now ++ unbraced result.1.now }
@@ -186,7 +198,9 @@ fn guarded(word: &[u8]) -> (&[u8], &[u8])
 /// Writes the words after the first one.
 fn put_later(pen: &mut Pen, out: &mut Vec<u8>, first: Option<Found<'_>>) -> Result<(), AllocError>
     requires { IsFoundBare first }
-    ensures text { OnOk result (HasPut pen.old pen.new out.old.items out.new.items (closed (map later_word (found_words first.entry)))) }
+    ensures text { OnOk result
+        (HasPut pen.old pen.new out.old.items out.new.items
+        (closed (map later_word (found_words first.entry)))) }
     ensures kept { (some : List ℕ) × (out.new.items ≡ out.old.items ++ some) }
     ensures width { pen.new.width ≡ pen.old.width }
 {
@@ -206,7 +220,8 @@ fn is_kept(word: &[u8]) -> bool
     word.first() != Some(&b'%') && word != b"[Event".as_slice()
 }
 
-/// What follows the first word of the text, if the text begins with a word, which is written as it is wherever it stands.
+/// What follows the first word of the text, if the text begins with a word, which is written as it
+/// is wherever it stands.
 #[inline(always)]
 fn after_kept(text: &[u8]) -> Option<&[u8]>
     ensures { IfSome result (λ rest. IsAfterKept text.now rest.now) }
@@ -239,7 +254,8 @@ fn put_spaced(pen: &mut Pen, out: &mut Vec<u8>, text: &[u8]) -> Result<(), Alloc
     requires spaced { IsSpaced text.now }
     requires begun { pen.old.begun ≡ true }
     requires room { pen.old.column + 1 + (length text.now + 2) ≤ pen.old.width }
-    ensures text { OnOk result ((commands : Bool) → HasPut pen.old pen.new out.old.items out.new.items (comment_tokens commands text.now)) }
+    ensures text { OnOk result ((commands : Bool)
+        → HasPut pen.old pen.new out.old.items out.new.items (comment_tokens commands text.now)) }
     ensures kept { (some : List ℕ) × (out.new.items ≡ out.old.items ++ some) }
     ensures width { pen.new.width ≡ pen.old.width }
 {
@@ -252,7 +268,8 @@ fn put_spaced(pen: &mut Pen, out: &mut Vec<u8>, text: &[u8]) -> Result<(), Alloc
 
 /// Writes a comment in braces, word by word.
 fn put_words(pen: &mut Pen, out: &mut Vec<u8>, text: &[u8]) -> Result<(), AllocError>
-    ensures text { OnOk result (HasPut pen.old pen.new out.old.items out.new.items (comment_tokens false text.now)) }
+    ensures text { OnOk result
+        (HasPut pen.old pen.new out.old.items out.new.items (comment_tokens false text.now)) }
     ensures kept { (some : List ℕ) × (out.new.items ≡ out.old.items ++ some) }
     ensures width { pen.new.width ≡ pen.old.width }
 {
@@ -302,7 +319,8 @@ fn leaves_open(text: &[u8]) -> bool
     is_open
 }
 
-/// Whether white space after the word that was found stands in a command, where the word begins in one or not.
+/// Whether white space after the word that was found stands in a command, where the word begins in
+/// one or not.
 fn is_in_command(inside: bool, found: &Found<'_>) -> bool
     ensures { result ≡ in_command inside found.now.word.now (joined (words_in found.now.rest.now)) }
 {
@@ -312,7 +330,8 @@ fn is_in_command(inside: bool, found: &Found<'_>) -> bool
     inside && !found.word.contains(&b']')
 }
 
-/// Writes the words that are tied to what is written, and answers the word after them: the first of these words is tied where it stands
+/// Writes the words that are tied to what is written, and answers the word after them: the first of
+/// these words is tied where it stands
 /// inside a command.
 fn push_tied<'a>(
     out: &mut Vec<u8>,
@@ -320,7 +339,9 @@ fn push_tied<'a>(
     first: Option<Found<'a>>,
 ) -> Result<Option<Found<'a>>, AllocError>
     requires { IsFoundBare first }
-    ensures text { IfOk result (λ next. HasTied out.old.items out.new.items first_inside (found_words first.entry) (found_words next)) }
+    ensures text { IfOk result (λ next.
+        HasTied out.old.items out.new.items first_inside (found_words first.entry)
+        (found_words next)) }
     ensures shorter { IfOk result (λ next. found_size next ≤ found_size first.entry) }
     ensures bare { IfOk result IsFoundBare }
     ensures kept { (some : List ℕ) × (out.new.items ≡ out.old.items ++ some) }
@@ -337,7 +358,8 @@ fn push_tied<'a>(
     Ok(next)
 }
 
-/// Writes a word that was found, after what it begins with, and the words that are tied to it, as one token; and answers the word after
+/// Writes a word that was found, after what it begins with, and the words that are tied to it, as
+/// one token; and answers the word after
 /// them.
 fn put_tied<'a>(
     pen: &mut Pen,
@@ -347,7 +369,9 @@ fn put_tied<'a>(
     inside: bool,
 ) -> Result<Option<Found<'a>>, AllocError>
     requires { found.bare ≡ true → IsBare found.word.now }
-    ensures text { IfOk result (λ next. PutsTied pen.old pen.new out.old.items out.new.items inside (front.now ++ unbraced found.entry.word.now) (words_in found.entry.rest.now) (found_words next)) }
+    ensures text { IfOk result (λ next.
+        PutsTied pen.old pen.new out.old.items out.new.items inside (front.now
+        ++ unbraced found.entry.word.now) (words_in found.entry.rest.now) (found_words next)) }
     ensures shorter { IfOk result (λ next. found_size next ≤ length found.entry.rest.now) }
     ensures bare { IfOk result IsFoundBare }
     ensures kept { (some : List ℕ) × (out.new.items ≡ out.old.items ++ some) }
@@ -368,7 +392,9 @@ fn put_later_whole(
     first: Option<Found<'_>>,
 ) -> Result<(), AllocError>
     requires { IsFoundBare first }
-    ensures text { OnOk result (HasPut pen.old pen.new out.old.items out.new.items (tied_words false (found_words first.entry))) }
+    ensures text { OnOk result
+        (HasPut pen.old pen.new out.old.items out.new.items
+        (tied_words false (found_words first.entry))) }
     ensures kept { (some : List ℕ) × (out.new.items ≡ out.old.items ++ some) }
     ensures width { pen.new.width ≡ pen.old.width }
 {
@@ -384,7 +410,8 @@ fn put_later_whole(
 /// Writes a comment in braces, word by word, with each command as one token.
 #[inline(never)]
 fn put_whole(pen: &mut Pen, out: &mut Vec<u8>, text: &[u8]) -> Result<(), AllocError>
-    ensures text { OnOk result (HasPut pen.old pen.new out.old.items out.new.items (comment_tokens true text.now)) }
+    ensures text { OnOk result
+        (HasPut pen.old pen.new out.old.items out.new.items (comment_tokens true text.now)) }
     ensures kept { (some : List ℕ) × (out.new.items ≡ out.old.items ++ some) }
     ensures width { pen.new.width ≡ pen.old.width }
 {
@@ -396,7 +423,8 @@ fn put_whole(pen: &mut Pen, out: &mut Vec<u8>, text: &[u8]) -> Result<(), AllocE
     put_later_whole(pen, out, next)
 }
 
-/// Writes a comment in braces: each of its words is a token, or each command with its words, where commands are kept whole. Where it stands
+/// Writes a comment in braces: each of its words is a token, or each command with its words, where
+/// commands are kept whole. Where it stands
 /// in one line as it is, it is written at once.
 pub(crate) fn put_comment(
     pen: &mut Pen,
@@ -404,7 +432,8 @@ pub(crate) fn put_comment(
     text: &[u8],
     commands: bool,
 ) -> Result<(), AllocError>
-    ensures text { OnOk result (HasPut pen.old pen.new out.old.items out.new.items (comment_tokens commands text.now)) }
+    ensures text { OnOk result
+        (HasPut pen.old pen.new out.old.items out.new.items (comment_tokens commands text.now)) }
     ensures kept { (some : List ℕ) × (out.new.items ≡ out.old.items ++ some) }
     ensures width { pen.new.width ≡ pen.old.width }
 {

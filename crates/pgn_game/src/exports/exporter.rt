@@ -24,7 +24,8 @@ fn put_end(out: &mut Vec<u8>) -> Result<(), AllocError>
     Ok(())
 }
 
-/// Appends the export of the game, which is played from this start; where a line is faulty or memory is refused, some bytes of it.
+/// Appends the export of the game, which is played from this start; where a line is faulty or
+/// memory is refused, some bytes of it.
 fn put_export<'a>(
     alloc: Global,
     game: &RawGame<'a>,
@@ -33,8 +34,11 @@ fn put_export<'a>(
     out: &mut Vec<u8>,
 ) -> Result<(), GameFault<'a>>
     requires { IsStart (tag_in fen_tag game.now.tags) start.now }
-    ensures text { OnOk result ((text : List ℕ) × IsExport style.now game.now text × (out.new.items ≡ out.old.items ++ text)) }
-    ensures fault { IfErr result (λ fault. IfSome (fault_of fault) (HasLineFault (lines_with style.now.variations) start.now game.now.elements)) }
+    ensures text { OnOk result ((text : List ℕ) × IsExport style.now game.now text
+        × (out.new.items ≡ out.old.items ++ text)) }
+    ensures fault { IfErr result (λ fault.
+        IfSome (fault_of fault)
+        (HasLineFault (lines_with style.now.variations) start.now game.now.elements)) }
     ensures kept { (some : List ℕ) × (out.new.items ≡ out.old.items ++ some) }
 {
     put_tags(game, style, out)?;
@@ -43,7 +47,8 @@ fn put_export<'a>(
     Ok(put_end(out)?)
 }
 
-/// Appends the export of the game, which is played from this start; where a line is faulty or memory is refused, nothing is appended.
+/// Appends the export of the game, which is played from this start; where a line is faulty or
+/// memory is refused, nothing is appended.
 fn put_or_leave<'a>(
     alloc: Global,
     game: &RawGame<'a>,
@@ -52,8 +57,11 @@ fn put_or_leave<'a>(
     out: &mut Vec<u8>,
 ) -> Result<(), GameFault<'a>>
     requires { IsStart (tag_in fen_tag game.now.tags) start.now }
-    ensures text { OnOk result ((text : List ℕ) × IsExport style.now game.now text × (out.new.items ≡ out.old.items ++ text)) }
-    ensures fault { IfErr result (λ fault. IfSome (fault_of fault) (HasLineFault (lines_with style.now.variations) start.now game.now.elements)) }
+    ensures text { OnOk result ((text : List ℕ) × IsExport style.now game.now text
+        × (out.new.items ≡ out.old.items ++ text)) }
+    ensures fault { IfErr result (λ fault.
+        IfSome (fault_of fault)
+        (HasLineFault (lines_with style.now.variations) start.now game.now.elements)) }
     ensures left { OnErr result (out.new.items ≡ out.old.items) }
 {
     let length = out.len();
@@ -64,8 +72,10 @@ fn put_or_leave<'a>(
     put
 }
 
-/// Appends the export of the game in the style, played while it is written: its tags, one a line, an empty line, its movetext in lines, and
-/// an empty line. Where a line that is written is faulty, the first fault is answered; then, and where memory is refused, nothing is
+/// Appends the export of the game in the style, played while it is written: its tags, one a line,
+/// an empty line, its movetext in lines, and
+/// an empty line. Where a line that is written is faulty, the first fault is answered; then, and
+/// where memory is refused, nothing is
 /// appended.
 pub fn export_played<'a>(
     alloc: Global,
@@ -73,9 +83,15 @@ pub fn export_played<'a>(
     style: &Style,
     out: &mut Vec<u8>,
 ) -> Result<(), GameFault<'a>>
-    ensures text { OnOk result ((text : List ℕ) × IsExport style.now game.now text × (out.new.items ≡ out.old.items ++ text)) }
-    ensures sound { OnOk result (IsSoundGame (lines_with style.now.variations) (tag_in fen_tag game.now.tags) game.now.elements) }
-    ensures fault { IfErr result (λ fault. IfSome (fault_of fault) (IsFault (lines_with style.now.variations) (tag_in fen_tag game.now.tags) game.now.elements)) }
+    ensures text { OnOk result ((text : List ℕ) × IsExport style.now game.now text
+        × (out.new.items ≡ out.old.items ++ text)) }
+    ensures sound { OnOk result
+        (IsSoundGame (lines_with style.now.variations) (tag_in fen_tag game.now.tags)
+        game.now.elements) }
+    ensures fault { IfErr result (λ fault.
+        IfSome (fault_of fault)
+        (IsFault (lines_with style.now.variations) (tag_in fen_tag game.now.tags)
+        game.now.elements)) }
     ensures left { OnErr result (out.new.items ≡ out.old.items) }
 {
     let start = starting_position(alloc, game.tags())?;
@@ -94,8 +110,10 @@ fn refused(fault: GameFault<'_>) -> AllocError
     }
 }
 
-/// Appends the export of the game in the style: its tags, one a line, an empty line, its movetext in lines, and an empty line. The replay
-/// is one of the game, and of all its lines where the style keeps variations. Where memory is refused, nothing is appended.
+/// Appends the export of the game in the style: its tags, one a line, an empty line, its movetext
+/// in lines, and an empty line. The replay
+/// is one of the game, and of all its lines where the style keeps variations. Where memory is
+/// refused, nothing is appended.
 pub fn export<'a>(
     alloc: Global,
     game: &RawGame<'a>,
@@ -104,7 +122,8 @@ pub fn export<'a>(
     out: &mut Vec<u8>,
 ) -> Result<(), AllocError>
     requires { IsReplayFor style.now (tag_in fen_tag game.now.tags) game.now.elements replayed.now }
-    ensures text { OnOk result ((text : List ℕ) × IsExport style.now game.now text × (out.new.items ≡ out.old.items ++ text)) }
+    ensures text { OnOk result ((text : List ℕ) × IsExport style.now game.now text
+        × (out.new.items ≡ out.old.items ++ text)) }
     ensures left { OnErr result (out.new.items ≡ out.old.items) }
 {
     match put_or_leave(alloc, game, replayed.position(0), style, out) {

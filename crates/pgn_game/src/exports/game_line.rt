@@ -1,9 +1,11 @@
 //! The main line of a game on one line: the position that it starts from, and its moves.
-ghost use Rattle.std.specs.Prelude.{◌≡◌, ◌<◌, ◌≤◌, ◌+◌, ◌++◌, ◌∷◌, ℕ, List, Option, [], map, IfErr, IfSome, OnOk};
+ghost use Rattle.std.specs.Prelude.{◌≡◌, ◌<◌, ◌≤◌, ◌+◌, ◌++◌, ◌∷◌, ℕ, List, Option, [], map, IfErr};
+ghost use Rattle.std.specs.Prelude.{IfSome, OnOk};
 ghost use Rattle.pgn_text.specs.Public.Elements.{item_of};
 ghost use Rattle.pgn_text.specs.Public.GameTexts.{tag_in};
 ghost use Rattle.pgn_game.specs.Public.Faults.{IsFault, IsMoveFault, IsRefusedWord};
-ghost use Rattle.pgn_game.specs.Public.GameLines.{IsGameLine, IsStartText, promotion_letter, uci_text, unspaced};
+ghost use Rattle.pgn_game.specs.Public.GameLines.{IsGameLine, IsStartText, promotion_letter};
+ghost use Rattle.pgn_game.specs.Public.GameLines.{uci_text, unspaced};
 ghost use Rattle.pgn_game.specs.Private.LineTexts.{AreWritten, PutsElement, PutsMove};
 ghost use Rattle.pgn_game.specs.Public.MainLines.{main_words};
 ghost use Rattle.pgn_game.specs.Public.Replays.{fault_of};
@@ -37,7 +39,8 @@ fn push_unspaced(out: &mut Vec<u8>, bytes: &[u8]) -> Result<(), AllocError>
 /// Appends the text of the position from which a game starts: `-` for the initial one.
 fn push_start(out: &mut Vec<u8>, start: &GamePosition) -> Result<(), AllocError>
     requires { (fen : Option (List ℕ)) × IsStart fen start.now }
-    ensures text { OnOk result ((text : List ℕ) × IsStartText start.now text × (out.new.items ≡ out.old.items ++ text)) }
+    ensures text { OnOk result ((text : List ℕ) × IsStartText start.now text
+        × (out.new.items ≡ out.old.items ++ text)) }
     ensures kept { (some : List ℕ) × (out.new.items ≡ out.old.items ++ some) }
 {
     let fen = start.fen();
@@ -90,11 +93,13 @@ fn push_squares(out: &mut Vec<u8>, m: Move) -> Result<(), AllocError>
     Ok(())
 }
 
-/// Plays the move that the word names, and appends its standard text after a space; or answers the fault of its ply.
+/// Plays the move that the word names, and appends its standard text after a space; or answers the
+/// fault of its ply.
 fn push_san<'a>(out: &mut Vec<u8>, walk: &mut MainWalk, word: &'a [u8]) -> Result<(), GameFault<'a>>
     requires { walk.old.plies < usize.MAX }
     ensures text { OnOk result (PutsMove San walk.old walk.new word.now out.old.items out.new.items) }
-    ensures fault { IfErr result (λ fault. IfSome (fault_of fault) (IsRefusedWord walk.old.position walk.old.plies word.now)) }
+    ensures fault { IfErr result (λ fault.
+        IfSome (fault_of fault) (IsRefusedWord walk.old.position walk.old.plies word.now)) }
     ensures within { (walk.new.plies ≤ walk.old.plies + 1) × (walk.new.depth ≡ walk.old.depth) }
     ensures kept { (some : List ℕ) × (out.new.items ≡ out.old.items ++ some) }
 {
@@ -105,11 +110,13 @@ fn push_san<'a>(out: &mut Vec<u8>, walk: &mut MainWalk, word: &'a [u8]) -> Resul
     Ok(())
 }
 
-/// Plays the move that the word names, and appends its squares after a space; or answers the fault of its ply.
+/// Plays the move that the word names, and appends its squares after a space; or answers the fault
+/// of its ply.
 fn push_uci<'a>(out: &mut Vec<u8>, walk: &mut MainWalk, word: &'a [u8]) -> Result<(), GameFault<'a>>
     requires { walk.old.plies < usize.MAX }
     ensures text { OnOk result (PutsMove Uci walk.old walk.new word.now out.old.items out.new.items) }
-    ensures fault { IfErr result (λ fault. IfSome (fault_of fault) (IsRefusedWord walk.old.position walk.old.plies word.now)) }
+    ensures fault { IfErr result (λ fault.
+        IfSome (fault_of fault) (IsRefusedWord walk.old.position walk.old.plies word.now)) }
     ensures within { (walk.new.plies ≤ walk.old.plies + 1) × (walk.new.depth ≡ walk.old.depth) }
     ensures kept { (some : List ℕ) × (out.new.items ≡ out.old.items ++ some) }
 {
@@ -119,7 +126,8 @@ fn push_uci<'a>(out: &mut Vec<u8>, walk: &mut MainWalk, word: &'a [u8]) -> Resul
     Ok(())
 }
 
-/// Plays the move that the word names, and appends its text after a space; or answers the fault of its ply.
+/// Plays the move that the word names, and appends its text after a space; or answers the fault of
+/// its ply.
 fn push_move<'a>(
     out: &mut Vec<u8>,
     walk: &mut MainWalk,
@@ -128,7 +136,8 @@ fn push_move<'a>(
 ) -> Result<(), GameFault<'a>>
     requires { walk.old.plies < usize.MAX }
     ensures text { OnOk result (PutsMove notation walk.old walk.new word.now out.old.items out.new.items) }
-    ensures fault { IfErr result (λ fault. IfSome (fault_of fault) (IsRefusedWord walk.old.position walk.old.plies word.now)) }
+    ensures fault { IfErr result (λ fault.
+        IfSome (fault_of fault) (IsRefusedWord walk.old.position walk.old.plies word.now)) }
     ensures within { (walk.new.plies ≤ walk.old.plies + 1) × (walk.new.depth ≡ walk.old.depth) }
     ensures kept { (some : List ℕ) × (out.new.items ≡ out.old.items ++ some) }
 {
@@ -147,7 +156,8 @@ fn push_element<'a>(
 ) -> Result<(), GameFault<'a>>
     requires room { (walk.old.plies < usize.MAX) × (walk.old.depth < usize.MAX) }
     ensures within { (walk.new.plies ≤ walk.old.plies + 1) × (walk.new.depth ≤ walk.old.depth + 1) }
-    ensures text { OnOk result (PutsElement notation walk.old walk.new (item_of element.entry) out.old.items out.new.items) }
+    ensures text { OnOk result
+        (PutsElement notation walk.old walk.new (item_of element.entry) out.old.items out.new.items) }
     ensures stuck { IfErr result (IsStuck walk.old (item_of element.entry)) }
     ensures kept { (some : List ℕ) × (out.new.items ≡ out.old.items ++ some) }
 {
@@ -165,15 +175,19 @@ fn push_element<'a>(
     }
 }
 
-/// Plays the main line of the elements from the position, and appends its moves, each after a space.
+/// Plays the main line of the elements from the position, and appends its moves, each after a
+/// space.
 fn push_moves<'a>(
     out: &mut Vec<u8>,
     start: GamePosition,
     elements: &[Element<'a>],
     notation: Notation,
 ) -> Result<(), GameFault<'a>>
-    ensures text { OnOk result ((text : List ℕ) × AreWritten notation start (main_words (map item_of elements.now) 0) text × (out.new.items ≡ out.old.items ++ text)) }
-    ensures fault { IfErr result (λ fault. IfSome (fault_of fault) (IsMoveFault start 0 (main_words (map item_of elements.now) 0))) }
+    ensures text { OnOk result ((text : List ℕ)
+        × AreWritten notation start (main_words (map item_of elements.now) 0) text
+        × (out.new.items ≡ out.old.items ++ text)) }
+    ensures fault { IfErr result (λ fault.
+        IfSome (fault_of fault) (IsMoveFault start 0 (main_words (map item_of elements.now) 0))) }
     ensures kept { (some : List ℕ) × (out.new.items ≡ out.old.items ++ some) }
 {
     let mut walk = MainWalk::new(start);
@@ -183,8 +197,10 @@ fn push_moves<'a>(
     Ok(())
 }
 
-/// Plays the main line of the game, and appends it while it is played: the position that it starts from, `-` for the initial one, and then
-/// each move after a space. No line feed is appended. Where the main line is faulty or memory is refused, some bytes of it may stand in the
+/// Plays the main line of the game, and appends it while it is played: the position that it starts
+/// from, `-` for the initial one, and then
+/// each move after a space. No line feed is appended. Where the main line is faulty or memory is
+/// refused, some bytes of it may stand in the
 /// vector.
 pub fn push_line<'a>(
     alloc: Global,
@@ -192,8 +208,11 @@ pub fn push_line<'a>(
     notation: Notation,
     out: &mut Vec<u8>,
 ) -> Result<(), GameFault<'a>>
-    ensures text { OnOk result ((text : List ℕ) × IsGameLine notation (tag_in fen_tag game.now.tags) game.now.elements text × (out.new.items ≡ out.old.items ++ text)) }
-    ensures fault { IfErr result (λ fault. IfSome (fault_of fault) (IsFault Main (tag_in fen_tag game.now.tags) game.now.elements)) }
+    ensures text { OnOk result ((text : List ℕ)
+        × IsGameLine notation (tag_in fen_tag game.now.tags) game.now.elements text
+        × (out.new.items ≡ out.old.items ++ text)) }
+    ensures fault { IfErr result (λ fault.
+        IfSome (fault_of fault) (IsFault Main (tag_in fen_tag game.now.tags) game.now.elements)) }
     ensures kept { (some : List ℕ) × (out.new.items ≡ out.old.items ++ some) }
 {
     let start = starting_position(alloc, game.tags())?;

@@ -1,5 +1,6 @@
 //! The movetext of a game, written at each step of a walk over its lines.
-ghost use Rattle.std.specs.Prelude.{◌≡◌, ◌++◌, ◌∷◌, ℕ, List, [], codes, decimal, false, map, true, IfErr, IfSome, OnOk};
+ghost use Rattle.std.specs.Prelude.{◌≡◌, ◌++◌, ◌∷◌, ℕ, List, [], codes, decimal, false, map, true};
+ghost use Rattle.std.specs.Prelude.{IfErr, IfSome, OnOk};
 ghost use Rattle.pgn_text.specs.Public.Elements.{item_of};
 ghost use Rattle.pgn_game.specs.Public.Exports.{AreMovetextTokens, lines_with, number_tokens};
 ghost use Rattle.pgn_game.specs.Public.Faults.{HasLineFault};
@@ -22,7 +23,8 @@ use pgn_text::{Element, RawGame};
 use std::alloc::{AllocError, Global};
 use std::mem;
 
-/// The movetext as far as it is written, after what stood in front of it; and whether the next move stands apart from the turn before it:
+/// The movetext as far as it is written, after what stood in front of it; and whether the next move
+/// stands apart from the turn before it:
 /// as the first of its line, or with a comment or a variation between them.
 #[derive(Drop)]
 struct MovetextWriter {
@@ -35,7 +37,8 @@ struct MovetextWriter {
 impl MovetextWriter {
     /// Writes a turn of the side after the number of its move.
     fn put_turn(&mut self, side: Side, number: u32, text: &[u8]) -> Result<(), AllocError>
-        ensures text { OnOk result (Puts self.old self.new (number_tokens side number self.old.apart ++ text.now ∷ []) false) }
+        ensures text { OnOk result (Puts self.old self.new (number_tokens side number self.old.apart
+            ++ text.now ∷ []) false) }
         ensures kept { (some : List ℕ) × (self.new.out.items ≡ self.old.out.items ++ some) }
     {
         put_number(&mut self.pen, &mut self.out, side, number, self.apart)?;
@@ -94,8 +97,10 @@ impl Visitor for MovetextWriter {
     }
 }
 
-/// Plays the lines of the game that the style keeps from this start, and writes its movetext in lines of the style's width: its moves, with
-/// what the style keeps beside them, and its result. Where a line is faulty or memory runs out, some of it may stand in the vector.
+/// Plays the lines of the game that the style keeps from this start, and writes its movetext in
+/// lines of the style's width: its moves, with
+/// what the style keeps beside them, and its result. Where a line is faulty or memory runs out,
+/// some of it may stand in the vector.
 pub(crate) fn put_movetext<'a>(
     alloc: Global,
     game: &RawGame<'a>,
@@ -104,9 +109,12 @@ pub(crate) fn put_movetext<'a>(
     out: &mut Vec<u8>,
 ) -> Result<(), GameFault<'a>>
     ensures text { OnOk result ((tokens : List (List ℕ)) × (movetext : List ℕ)
-        × AreMovetextTokens style.now start.now game.now.elements game.now.result tokens × IsLaid style.now.width tokens movetext
+        × AreMovetextTokens style.now start.now game.now.elements game.now.result tokens
+        × IsLaid style.now.width tokens movetext
         × (out.new.items ≡ out.old.items ++ movetext)) }
-    ensures fault { IfErr result (λ fault. IfSome (fault_of fault) (HasLineFault (lines_with style.now.variations) start.now game.now.elements)) }
+    ensures fault { IfErr result (λ fault.
+        IfSome (fault_of fault)
+        (HasLineFault (lines_with style.now.variations) start.now game.now.elements)) }
     ensures kept { (some : List ℕ) × (out.new.items ≡ out.old.items ++ some) }
 {
     let mut stack = LineStack::new(alloc, Level::first(start));

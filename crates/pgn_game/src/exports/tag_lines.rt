@@ -1,10 +1,13 @@
 //! The tags of a game that is written, one a line.
-ghost use Rattle.std.specs.Prelude.{◌≡◌, ◌++◌, ℕ, List, OnOk, IfSome, option_map, map, bytes_eq, codes, ◌||◌, filter, is_some};
+ghost use Rattle.std.specs.Prelude.{◌≡◌, ◌++◌, ℕ, List, OnOk, IfSome, option_map, map, bytes_eq};
+ghost use Rattle.std.specs.Prelude.{codes, ◌||◌, filter, is_some};
 ghost use Rattle.std.specs.List.{list_any};
 ghost use Rattle.pgn_text.specs.Public.GameTexts.{tag_in, tag_names};
 ghost use Rattle.pgn_text.specs.Public.Strings.{IsContents};
 ghost use Rattle.pgn_game.specs.Public.Starts.{fen_tag};
-ghost use Rattle.pgn_game.specs.Public.TagLines.{roster, missing_text as missing_text_of, escaped, IsValueText, IsTagText, IsLineOf, AreLinesOf, is_beside as is_name_beside, AreTagLines};
+ghost use Rattle.pgn_game.specs.Public.TagLines.{roster, missing_text as missing_text_of, escaped};
+ghost use Rattle.pgn_game.specs.Public.TagLines.{IsValueText, IsTagText, IsLineOf, AreLinesOf};
+ghost use Rattle.pgn_game.specs.Public.TagLines.{is_beside as is_name_beside, AreTagLines};
 
 use crate::exports::style::Style;
 use pgn_text::{RawGame, value};
@@ -30,7 +33,8 @@ fn put_byte(byte: u8, out: &mut Vec<u8>) -> Result<(), AllocError>
 /// Appends the value of a string with these contents.
 fn put_value(contents: &[u8], out: &mut Vec<u8>) -> Result<(), AllocError>
     requires { IsContents contents.now }
-    ensures text { OnOk result ((text : List ℕ) × IsValueText contents.now text × (out.new.items ≡ out.old.items ++ text)) }
+    ensures text { OnOk result ((text : List ℕ) × IsValueText contents.now text
+        × (out.new.items ≡ out.old.items ++ text)) }
     ensures kept { (some : List ℕ) × (out.new.items ≡ out.old.items ++ some) }
 {
     for byte in value(contents) {
@@ -56,7 +60,9 @@ fn missing_text<'a>(name: &[u8], game_result: &'a [u8]) -> &'a [u8]
 /// Appends the string of a tag with these contents, or of one that is missing.
 fn put_text(contents: Option<&[u8]>, missing: &[u8], out: &mut Vec<u8>) -> Result<(), AllocError>
     requires { IfSome contents (λ text. IsContents text.now) }
-    ensures text { OnOk result ((text : List ℕ) × IsTagText (option_map (λ text. text.now) contents.entry) missing.now text × (out.new.items ≡ out.old.items ++ text)) }
+    ensures text { OnOk result ((text : List ℕ)
+        × IsTagText (option_map (λ text. text.now) contents.entry) missing.now text
+        × (out.new.items ≡ out.old.items ++ text)) }
     ensures kept { (some : List ℕ) × (out.new.items ≡ out.old.items ++ some) }
 {
     match contents {
@@ -65,7 +71,8 @@ fn put_text(contents: Option<&[u8]>, missing: &[u8], out: &mut Vec<u8>) -> Resul
     }
 }
 
-/// Appends the line of a tag with these contents, or of one that is missing, in a game with this result.
+/// Appends the line of a tag with these contents, or of one that is missing, in a game with this
+/// result.
 fn put_tag(
     name: &[u8],
     contents: Option<&[u8]>,
@@ -73,7 +80,9 @@ fn put_tag(
     out: &mut Vec<u8>,
 ) -> Result<(), AllocError>
     requires { IfSome contents (λ text. IsContents text.now) }
-    ensures line { OnOk result ((line : List ℕ) × IsLineOf game_result.now name.now (option_map (λ text. text.now) contents.entry) line × (out.new.items ≡ out.old.items ++ line)) }
+    ensures line { OnOk result ((line : List ℕ)
+        × IsLineOf game_result.now name.now (option_map (λ text. text.now) contents.entry) line
+        × (out.new.items ≡ out.old.items ++ line)) }
     ensures kept { (some : List ℕ) × (out.new.items ≡ out.old.items ++ some) }
 {
     out.push(b'[')?;
@@ -98,7 +107,8 @@ fn is_of_start(name: &[u8]) -> bool
     name == b"SetUp".as_slice() || name == b"FEN".as_slice()
 }
 
-/// Whether the style writes a tag with this name beside the roster, in a game that has a FEN tag or has none.
+/// Whether the style writes a tag with this name beside the roster, in a game that has a FEN tag or
+/// has none.
 fn is_beside(name: &[u8], style: &Style, has_fen: bool) -> bool
     ensures { result ≡ is_name_beside style.now has_fen name.now }
 {
@@ -107,7 +117,9 @@ fn is_beside(name: &[u8], style: &Style, has_fen: bool) -> bool
 
 /// Appends the line of the tag with this name, which the game may not have.
 fn put_named(game: &RawGame, name: &[u8], out: &mut Vec<u8>) -> Result<(), AllocError>
-    ensures line { OnOk result ((line : List ℕ) × IsLineOf game.now.result name.now (tag_in name.now game.now.tags) line × (out.new.items ≡ out.old.items ++ line)) }
+    ensures line { OnOk result ((line : List ℕ)
+        × IsLineOf game.now.result name.now (tag_in name.now game.now.tags) line
+        × (out.new.items ≡ out.old.items ++ line)) }
     ensures kept { (some : List ℕ) × (out.new.items ≡ out.old.items ++ some) }
 {
     let contents = game.tags().get(name).copied();
@@ -116,7 +128,9 @@ fn put_named(game: &RawGame, name: &[u8], out: &mut Vec<u8>) -> Result<(), Alloc
 
 /// Appends the lines of the tags with these names, which the game may not have.
 fn put_all_named(game: &RawGame, names: &[&[u8]], out: &mut Vec<u8>) -> Result<(), AllocError>
-    ensures lines { OnOk result ((lines : List ℕ) × AreLinesOf game.now.tags game.now.result (map (λ name. name.now) names.now) lines × (out.new.items ≡ out.old.items ++ lines)) }
+    ensures lines { OnOk result ((lines : List ℕ)
+        × AreLinesOf game.now.tags game.now.result (map (λ name. name.now) names.now) lines
+        × (out.new.items ≡ out.old.items ++ lines)) }
     ensures kept { (some : List ℕ) × (out.new.items ≡ out.old.items ++ some) }
 {
     for name in names {
@@ -127,7 +141,10 @@ fn put_all_named(game: &RawGame, names: &[&[u8]], out: &mut Vec<u8>) -> Result<(
 
 /// Appends the lines of the other tags that the style writes, in the order of their names.
 fn put_others(game: &RawGame, style: &Style, out: &mut Vec<u8>) -> Result<(), AllocError>
-    ensures lines { OnOk result ((lines : List ℕ) × AreLinesOf game.now.tags game.now.result (filter (is_name_beside style.now (is_some (tag_in fen_tag game.now.tags))) (tag_names game.now.tags)) lines × (out.new.items ≡ out.old.items ++ lines)) }
+    ensures lines { OnOk result ((lines : List ℕ)
+        × AreLinesOf game.now.tags game.now.result
+        (filter (is_name_beside style.now (is_some (tag_in fen_tag game.now.tags)))
+        (tag_names game.now.tags)) lines × (out.new.items ≡ out.old.items ++ lines)) }
     ensures kept { (some : List ℕ) × (out.new.items ≡ out.old.items ++ some) }
 {
     let fen: &[u8] = b"FEN";
@@ -143,7 +160,9 @@ fn put_others(game: &RawGame, style: &Style, out: &mut Vec<u8>) -> Result<(), Al
 
 /// Appends the tags of the game, one a line: the roster, and the others that the style writes.
 pub(crate) fn put_tags(game: &RawGame, style: &Style, out: &mut Vec<u8>) -> Result<(), AllocError>
-    ensures lines { OnOk result ((lines : List ℕ) × AreTagLines style.now game.now.tags game.now.result lines × (out.new.items ≡ out.old.items ++ lines)) }
+    ensures lines { OnOk result ((lines : List ℕ)
+        × AreTagLines style.now game.now.tags game.now.result lines
+        × (out.new.items ≡ out.old.items ++ lines)) }
     ensures kept { (some : List ℕ) × (out.new.items ≡ out.old.items ++ some) }
 {
     put_all_named(game, &ROSTER, out)?;

@@ -1,5 +1,6 @@
 //! Tokens of a movetext: numbers of moves, glyphs and turns.
-ghost use Rattle.std.specs.Prelude.{◌≡◌, ◌+◌, ◌++◌, ◌∷◌, ℕ, List, [], decimal, IfSome, MatchResult, OnOk};
+ghost use Rattle.std.specs.Prelude.{◌≡◌, ◌+◌, ◌++◌, ◌∷◌, ℕ, List, [], decimal, IfSome, MatchResult};
+ghost use Rattle.std.specs.Prelude.{OnOk};
 ghost use Rattle.pgn_game.specs.Public.AllLines.{IsTurn, after_turn};
 ghost use Rattle.pgn_game.specs.Public.Exports.{number_tokens, IsTurnText};
 ghost use Rattle.pgn_game.specs.Public.Faults.{IsRefusedTurn};
@@ -21,7 +22,8 @@ use std::alloc::AllocError;
 /// Writes digits with bytes after them, as one token.
 #[inline(always)]
 fn put_digits(pen: &mut Pen, out: &mut Vec<u8>, digits: &[u8], end: &[u8]) -> Result<(), AllocError>
-    ensures text { OnOk result (HasPut pen.old pen.new out.old.items out.new.items ((digits.now ++ end.now) ∷ [])) }
+    ensures text { OnOk result (HasPut pen.old pen.new out.old.items out.new.items ((digits.now ++ end.now)
+        ∷ [])) }
     ensures kept { (some : List ℕ) × (out.new.items ≡ out.old.items ++ some) }
     ensures width { pen.new.width ≡ pen.old.width }
 {
@@ -34,7 +36,8 @@ fn put_digits(pen: &mut Pen, out: &mut Vec<u8>, digits: &[u8], end: &[u8]) -> Re
 /// Writes a number with bytes after it, as one token: most numbers of moves have one digit or two.
 #[inline(always)]
 fn put_count(pen: &mut Pen, out: &mut Vec<u8>, number: u32, end: &[u8]) -> Result<(), AllocError>
-    ensures text { OnOk result (HasPut pen.old pen.new out.old.items out.new.items ((decimal number ++ end.now) ∷ [])) }
+    ensures text { OnOk result
+        (HasPut pen.old pen.new out.old.items out.new.items ((decimal number ++ end.now) ∷ [])) }
     ensures kept { (some : List ℕ) × (out.new.items ≡ out.old.items ++ some) }
     ensures width { pen.new.width ≡ pen.old.width }
 {
@@ -49,7 +52,8 @@ fn put_count(pen: &mut Pen, out: &mut Vec<u8>, number: u32, end: &[u8]) -> Resul
     put_digits(pen, out, buffer.format(number).as_bytes(), end)
 }
 
-/// Writes the number of a move of the side, if it is to have one: White's always, Black's where it stands apart from the move before it.
+/// Writes the number of a move of the side, if it is to have one: White's always, Black's where it
+/// stands apart from the move before it.
 pub(crate) fn put_number(
     pen: &mut Pen,
     out: &mut Vec<u8>,
@@ -57,7 +61,8 @@ pub(crate) fn put_number(
     number: u32,
     apart: bool,
 ) -> Result<(), AllocError>
-    ensures text { OnOk result (HasPut pen.old pen.new out.old.items out.new.items (number_tokens side number apart)) }
+    ensures text { OnOk result
+        (HasPut pen.old pen.new out.old.items out.new.items (number_tokens side number apart)) }
     ensures kept { (some : List ℕ) × (out.new.items ≡ out.old.items ++ some) }
     ensures width { pen.new.width ≡ pen.old.width }
 {
@@ -74,7 +79,8 @@ pub(crate) fn put_number(
 
 /// Writes a glyph.
 pub(crate) fn put_glyph(pen: &mut Pen, out: &mut Vec<u8>, number: u8) -> Result<(), AllocError>
-    ensures text { OnOk result (HasPut pen.old pen.new out.old.items out.new.items ((36 ∷ decimal number) ∷ [])) }
+    ensures text { OnOk result (HasPut pen.old pen.new out.old.items out.new.items ((36 ∷ decimal number)
+        ∷ [])) }
     ensures kept { (some : List ℕ) × (out.new.items ≡ out.old.items ++ some) }
     ensures width { pen.new.width ≡ pen.old.width }
 {
@@ -86,7 +92,8 @@ pub(crate) fn put_glyph(pen: &mut Pen, out: &mut Vec<u8>, number: u8) -> Result<
     Ok(())
 }
 
-/// Plays what the word says in the position, in a variation or not, and writes its standard text; or answers the fault of this ply.
+/// Plays what the word says in the position, in a variation or not, and writes its standard text;
+/// or answers the fault of this ply.
 pub(crate) fn play_turn_san<'a>(
     position: &mut GamePosition,
     inside: bool,
@@ -95,8 +102,11 @@ pub(crate) fn play_turn_san<'a>(
     san: &mut ArrayString<8>,
 ) -> Result<LineMove, GameFault<'a>>
     ensures { MatchResult result
-        (λ turn. IsTurn inside position.old word.now turn × (position.new ≡ after_turn position.old turn) × IsTurnText position.old turn san.new.bytes)
-        (λ fault. (plies : ℕ) → ply ≡ plies + 1 → IfSome (fault_of fault) (IsRefusedTurn inside position.old plies word.now)) }
+        (λ turn. IsTurn inside position.old word.now turn
+        × (position.new ≡ after_turn position.old turn)
+        × IsTurnText position.old turn san.new.bytes)
+        (λ fault. (plies : ℕ) → ply ≡ plies + 1
+        → IfSome (fault_of fault) (IsRefusedTurn inside position.old plies word.now)) }
 {
     if is_null_move(inside, word) {
         san.clear();

@@ -3,7 +3,8 @@ ghost use Rattle.std.specs.Prelude.{◌≡◌, None, option_map};
 ghost use Rattle.std.specs.Cmp.Lexicographic.{slice_cmp};
 ghost use Rattle.std.specs.Int.{w32, w64};
 ghost use Rattle.std.specs.Ordering.{is_lt, nat_cmp};
-ghost use Rattle.pgn_game.specs.Public.PackReading.{Gives, number_at, text_at, name_at, tag_at, follows, next_tag, after_tags};
+ghost use Rattle.pgn_game.specs.Public.PackReading.{Gives, number_at, text_at, name_at, tag_at};
+ghost use Rattle.pgn_game.specs.Public.PackReading.{follows, next_tag, after_tags};
 
 use crate::pack::error::RecordError;
 use std::cmp::Ordering;
@@ -50,7 +51,8 @@ fn text_at(bytes: &[u8]) -> Result<(&[u8], &[u8]), RecordError>
 
 /// The name in front, where there is one, and what stands after it.
 pub(crate) fn name_at(is_named: bool, bytes: &[u8]) -> Result<(Option<&[u8]>, &[u8]), RecordError>
-    ensures { Gives (λ x. (option_map (λ name. name.now) x.0, x.1.now)) result (name_at is_named bytes.now) }
+    ensures { Gives (λ x. (option_map (λ name. name.now) x.0, x.1.now)) result
+        (name_at is_named bytes.now) }
 {
     if !is_named {
         return Ok((None, bytes));

@@ -1,6 +1,7 @@
 //! Which game it is.
 ghost use Rattle.std.specs.Prelude.{◌≡◌, option_map};
-ghost use Rattle.pgn_game.specs.Public.PackedGames.{begins_control, is_shown, is_shown_name, is_origin};
+ghost use Rattle.pgn_game.specs.Public.PackedGames.{begins_control, is_shown, is_shown_name};
+ghost use Rattle.pgn_game.specs.Public.PackedGames.{is_origin};
 
 use pgn_text::LARGEST_OFFSET;
 
@@ -15,7 +16,8 @@ pub struct GameOrigin<'a> {
     pub offset: u64,
 }
 
-/// Whether a control character stands in front of the bytes: one of ASCII, or of U+0080 to U+009F in
+/// Whether a control character stands in front of the bytes: one of ASCII, or of U+0080 to U+009F
+/// in
 /// UTF-8.
 fn begins_control(bytes: &[u8]) -> bool
     ensures { result ≡ begins_control bytes.now }

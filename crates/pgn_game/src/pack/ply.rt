@@ -1,13 +1,16 @@
 //! A ply in three bytes.
 ghost use Rattle.std.specs.Prelude.{◌≡◌, ◌<◌, Some, List, ℕ};
 ghost use Rattle.chess.specs.Public.Squares.{index_of};
-ghost use Rattle.chess.specs.Public.Moves.{after, arriving, is_pawn, is_en_passant, taken, HasMove, IsPseudoLegal};
-ghost use Rattle.pgn_game.specs.Public.PlyCodes.{PlyCode, AreMarks, IsCode, code_bytes, marks_number, castle_number, man_number};
+ghost use Rattle.chess.specs.Public.Moves.{after, arriving, is_pawn, is_en_passant, taken, HasMove};
+ghost use Rattle.chess.specs.Public.Moves.{IsPseudoLegal};
+ghost use Rattle.pgn_game.specs.Public.PlyCodes.{PlyCode, AreMarks, IsCode, code_bytes};
+ghost use Rattle.pgn_game.specs.Public.PlyCodes.{marks_number, castle_number, man_number};
 
 use crate::turns::replayed::GamePosition;
 use chess::{Kind, Man, Move, Side, Square, Wing};
 
-/// What is marked at a position: whether the side to move is in check, and whether it has no legal move.
+/// What is marked at a position: whether the side to move is in check, and whether it has no legal
+/// move.
 #[derive(Clone, Copy)]
 pub(crate) struct Marks {
     pub(crate) check: bool,

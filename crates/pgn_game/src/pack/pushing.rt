@@ -24,8 +24,10 @@ impl<'a> From<PackError> for GameFault<'a> {
     }
 }
 
-/// Plays the main line of the game, and appends the record of the game, which comes from there; or answers the fault of its main line.
-/// Where memory is refused or the record would be too large, memory is said to be refused: no game of a block has such a record, except one
+/// Plays the main line of the game, and appends the record of the game, which comes from there; or
+/// answers the fault of its main line.
+/// Where memory is refused or the record would be too large, memory is said to be refused: no game
+/// of a block has such a record, except one
 /// with a name of more than 4096 bytes. In each of these cases nothing is appended.
 pub fn push_record<'a>(
     alloc: Global,
@@ -33,8 +35,11 @@ pub fn push_record<'a>(
     game: &RawGame<'a>,
     out: &mut Vec<u8>,
 ) -> Result<(), GameFault<'a>>
-    ensures record { OnOk result ((bytes : List ℕ) × (own : IsRecordOf (name_of origin.now) origin.now.number origin.now.offset game.now bytes) × FitsRecord own.packed × (out.new.items ≡ out.old.items ++ bytes)) }
-    ensures fault { IfErr result (λ fault. IfSome (fault_of fault) (IsFault Main (tag_in fen_tag game.now.tags) game.now.elements)) }
+    ensures record { OnOk result ((bytes : List ℕ)
+        × (own : IsRecordOf (name_of origin.now) origin.now.number origin.now.offset game.now bytes)
+        × FitsRecord own.packed × (out.new.items ≡ out.old.items ++ bytes)) }
+    ensures fault { IfErr result (λ fault.
+        IfSome (fault_of fault) (IsFault Main (tag_in fen_tag game.now.tags) game.now.elements)) }
     ensures left { OnErr result (out.new.items ≡ out.old.items) }
 {
     let replayed = replay(alloc, game, Lines::Main)?;

@@ -1,7 +1,8 @@
 //! A record read from the front of bytes.
 ghost use Rattle.std.specs.Prelude.{◌≡◌, ◌++◌, ◌/◌, ◌%◌, ◌==◌, List, ℕ, IfOk, Ok, option_map};
 ghost use Rattle.pgn_text.specs.Public.GameTexts.{tag_in};
-ghost use Rattle.pgn_game.specs.Public.PackedGames.{PackedGame, FitsRecord, numbered_result, record_bytes};
+ghost use Rattle.pgn_game.specs.Public.PackedGames.{PackedGame, FitsRecord, numbered_result};
+ghost use Rattle.pgn_game.specs.Public.PackedGames.{record_bytes};
 ghost use Rattle.pgn_game.specs.Public.PackReading.{Gives, raw_of, body_at, size_at, record_at};
 ghost use Rattle.pgn_game.specs.Private.PackSteps.{HasBody};
 
@@ -31,7 +32,15 @@ impl<'a> Model for RawRecord<'a> {
 
     ghost Value = { RawRecord };
 
-    ghost view = { λ raw. record { number = raw.number; offset = raw.offset; head = raw.head; name = option_map (λ name. name.now) raw.name; tail = raw.tail.now; plies = raw.plies.now } };
+    ghost view = { λ raw. record {
+      number = raw.number;
+      offset = raw.offset;
+      head = raw.head;
+      name =
+          option_map (λ name. name.now) raw.name;
+      tail = raw.tail.now;
+      plies = raw.plies.now;
+    } };
 }
 
 impl<'a> RawRecord<'a> {
@@ -75,9 +84,11 @@ impl<'a> RawRecord<'a> {
         }
     }
 
-    /// The contents of the tag with the wanted name, as they stand, if the game has one. No memory is taken.
+    /// The contents of the tag with the wanted name, as they stand, if the game has one. No memory
+    /// is taken.
     pub fn tag(&self, wanted: &[u8]) -> Option<&'a [u8]>
-        ensures { (game : PackedGame) → FitsRecord game → self.now ≡ raw_of game → option_map (λ contents. contents.now) result ≡ tag_in wanted.now game.tags }
+        ensures { (game : PackedGame) → FitsRecord game → self.now ≡ raw_of game
+            → option_map (λ contents. contents.now) result ≡ tag_in wanted.now game.tags }
     {
         let mut rest = self.tail;
         for _ in 0..self.tag_count() {
@@ -140,7 +151,8 @@ fn read_body(bytes: &[u8]) -> Result<RawRecord<'_>, RecordError>
     })
 }
 
-/// The record that was read of the same bytes before, and whose plies take so many of them: its tags
+/// The record that was read of the same bytes before, and whose plies take so many of them: its
+/// tags
 /// are not read again.
 #[tactic(auto, unfolding(crate::specs::Public::PackReading::body_at))]
 pub(crate) fn read_again(bytes: &[u8], plies: usize) -> Result<RawRecord<'_>, RecordError>
@@ -188,13 +200,16 @@ fn read_record(bytes: &[u8]) -> Result<(RawRecord<'_>, &[u8]), RecordError>
     Ok((raw, rest))
 }
 
-/// The record that stands in front of the bytes, and what stands after it; no memory is taken. Fails where no record stands in front,
+/// The record that stands in front of the bytes, and what stands after it; no memory is taken.
+/// Fails where no record stands in front,
 /// and says which fault is the first from left to right.
 pub fn read(bytes: &[u8]) -> Result<(RawRecord<'_>, &[u8]), RecordError>
     // What is read is the spelling of a packed game.
-    ensures found { IfOk result (λ x. (game : PackedGame) × FitsRecord game × (x.0 ≡ raw_of game) × (bytes.now ≡ record_bytes game ++ x.1.now)) }
+    ensures found { IfOk result (λ x. (game : PackedGame) × FitsRecord game × (x.0 ≡ raw_of game)
+        × (bytes.now ≡ record_bytes game ++ x.1.now)) }
     // The spelling of each packed game is read.
-    ensures only { (game : PackedGame) (rest : List ℕ) → FitsRecord game → bytes.now ≡ record_bytes game ++ rest → record_at bytes.now ≡ Ok (raw_of game, rest) }
+    ensures only { (game : PackedGame) (rest : List ℕ) → FitsRecord game
+        → bytes.now ≡ record_bytes game ++ rest → record_at bytes.now ≡ Ok (raw_of game, rest) }
     // Which fault it is.
     ensures exact { Gives (λ x. (x.0, x.1.now)) result (record_at bytes.now) }
 {

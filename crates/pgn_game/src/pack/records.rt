@@ -1,5 +1,7 @@
 //! The records of a pack, one after another, as a reader gives them.
-ghost use Rattle.std.specs.Prelude.{◌≡◌, ◌≢◌, ◌↔◌, ◌⊎◌, ℕ, ◌+◌, ◌^◌, ◌<◌, ◌≤◌, true, false, List, [], ◌++◌, length, take, drop, IfOk, IfErr, IsErrOf, MatchOption, MatchResult};
+ghost use Rattle.std.specs.Prelude.{◌≡◌, ◌≢◌, ◌↔◌, ◌⊎◌, ℕ, ◌+◌, ◌^◌, ◌<◌, ◌≤◌, true, false, List};
+ghost use Rattle.std.specs.Prelude.{[], ◌++◌, length, take, drop, IfOk, IfErr, IsErrOf};
+ghost use Rattle.std.specs.Prelude.{MatchOption, MatchResult};
 ghost use Rattle.std.specs.Io.KnownBytes.{Consumes};
 ghost use Rattle.pgn_text.specs.Public.Limits.{largest_offset};
 ghost use Rattle.pgn_text.specs.Public.Tallies.{AppendsRead};
@@ -81,14 +83,16 @@ impl Ahead {
         self.at += count;
     }
 
-    /// Reads bytes after those that there are, as many as there are or more, and says how many came.
+    /// Reads bytes after those that there are, as many as there are or more, and says how many
+    /// came.
     fn read_more<R: Read>(&mut self, input: &mut Tally<R>) -> Result<usize, RecordsError>
         requires few { length self.old < 2 ^ 32 }
         requires sound { input.old.faulted ≡ false }
         ensures ok { IfOk result (λ count. (room : ℕ) × AppendsRead self.old self.new
             (R.remaining input.old.inner) (R.remaining input.new.inner)
             input.old.moved input.new.moved room count) }
-        ensures err { IfErr result (λ error. ((error ≡ RecordsError.Read) ⊎ (error ≡ RecordsError.OutOfMemory))
+        ensures err { IfErr result (λ error.
+            ((error ≡ RecordsError.Read) ⊎ (error ≡ RecordsError.OutOfMemory))
             × Consumes (R.remaining input.old.inner) (R.remaining input.new.inner) []) }
         ensures fault { IsErrOf result RecordsError.Read ↔ (input.new.faulted ≡ true) }
     {
@@ -114,10 +118,12 @@ fn is_whole(bytes: &[u8]) -> bool
     }
 }
 
-/// Reads on until the bytes show if a record stands in front of them. Answers whether there are bytes.
+/// Reads on until the bytes show if a record stands in front of them. Answers whether there are
+/// bytes.
 fn hold_whole<R: Read>(ahead: &mut Ahead, input: &mut Tally<R>) -> Result<bool, RecordsError>
     requires sound { input.old.faulted ≡ false }
-    ensures gives { HoldsWhole ahead.old ahead.new (R.remaining input.old.inner) (R.remaining input.new.inner) result }
+    ensures gives { HoldsWhole ahead.old ahead.new (R.remaining input.old.inner) (R.remaining input.new.inner)
+        result }
     ensures fault { IsErrOf result RecordsError.Read ↔ (input.new.faulted ≡ true) }
 {
     while !is_whole(ahead.bytes()) {
@@ -131,7 +137,8 @@ fn hold_whole<R: Read>(ahead: &mut Ahead, input: &mut Tally<R>) -> Result<bool, 
 
 /// Whether there are bytes, which are no record, as none come after them.
 fn at_end(bytes: &[u8]) -> Result<bool, RecordsError>
-    ensures { MatchResult result (λ some. (some ≡ false) × (bytes.now ≡ [])) (λ error. (error ≡ RecordsError.BadPack) × (bytes.now ≢ [])) }
+    ensures { MatchResult result (λ some. (some ≡ false)
+        × (bytes.now ≡ [])) (λ error. (error ≡ RecordsError.BadPack) × (bytes.now ≢ [])) }
 {
     if bytes.is_empty() {
         Ok(false)
@@ -156,7 +163,8 @@ fn sizes_of_record(bytes: &[u8]) -> Option<(usize, usize)>
 
 /// The records of the pack that a reader gives, in order. One is held at a time.
 ///
-/// Memory grows by doubling, as the bytes of a record come: four bytes that speak of a large one take none.
+/// Memory grows by doubling, as the bytes of a record come: four bytes that speak of a large one
+/// take none.
 #[derive(Drop)]
 pub struct Records {
     /// The record that is held, and the bytes after it.
@@ -176,7 +184,12 @@ impl Model for Records {
 
     ghost Value = { Window };
 
-    ghost view = { λ r. record { current = take r.size r.ahead; ahead = drop r.size r.ahead; place = r.place } };
+    ghost view = { λ r. record {
+      current = take r.size r.ahead;
+      ahead = drop r.size r.ahead;
+      place =
+          r.place;
+    } };
 
     ghost invariant = { λ r. LiesWithin r.ahead r.size r.plies r.place };
 }
@@ -194,17 +207,20 @@ impl Records {
         }
     }
 
-    /// How many bytes of the pack stand before the record that is held, or before what is no record.
+    /// How many bytes of the pack stand before the record that is held, or before what is no
+    /// record.
     pub fn place(&self) -> u64
         ensures { result ≡ self.now.place }
     {
         self.place
     }
 
-    /// Steps to the next record, and says whether there is one: none is left at the end of the pack.
+    /// Steps to the next record, and says whether there is one: none is left at the end of the
+    /// pack.
     pub fn step<R: Read>(&mut self, input: &mut Tally<R>) -> Result<bool, RecordsError>
         requires sound { input.old.faulted ≡ false }
-        ensures gives { StepGives self.old self.new (R.remaining input.old.inner) (R.remaining input.new.inner) result }
+        ensures gives { StepGives self.old self.new (R.remaining input.old.inner)
+            (R.remaining input.new.inner) result }
         ensures place { self.new.place ≡ self.old.place + length self.old.current }
         ensures within { self.new.place + length self.new.current ≤ largest_offset }
         ensures fault { IsErrOf result RecordsError.Read ↔ (input.new.faulted ≡ true) }
@@ -229,7 +245,8 @@ impl Records {
     /// The record that is held.
     pub fn record(&self) -> RawRecord<'_>
         requires { IsRecord self.now.current }
-        ensures { (game : PackedGame) × FitsRecord game × (self.now.current ≡ record_bytes game) × (result ≡ raw_of game) }
+        ensures { (game : PackedGame) × FitsRecord game × (self.now.current ≡ record_bytes game)
+            × (result ≡ raw_of game) }
     {
         let record = &self.ahead.bytes()[..self.size];
         read_again(&record[4..], self.plies).unwrap()

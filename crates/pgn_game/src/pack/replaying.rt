@@ -78,7 +78,8 @@ fn told_move(position: &GamePosition, a: u8, b: u8, d: u8) -> Move
     }
 }
 
-/// A line as far as it is replayed: the positions before the one that is reached, and the moves after each.
+/// A line as far as it is replayed: the positions before the one that is reached, and the moves
+/// after each.
 #[derive(Drop)]
 struct CodedLine {
     before: Vec<GamePosition>,
@@ -98,7 +99,8 @@ impl CodedLine {
 
     /// Keeps the position, and the move that is played there.
     fn keep(&mut self, position: GamePosition, m: Move) -> Result<(), AllocError>
-        ensures before { OnOk result (self.new.before.items ≡ self.old.before.items ++ position ∷ []) }
+        ensures before { OnOk result (self.new.before.items
+            ≡ self.old.before.items ++ position ∷ []) }
         ensures played { OnOk result (self.new.played.items ≡ self.old.played.items ++ m ∷ []) }
     {
         self.before.push(position)?;
@@ -109,7 +111,13 @@ impl CodedLine {
     /// What is kept, with the position that is reached, as a replay.
     fn replayed(self, alloc: Global, here: GamePosition) -> Result<Replayed, AllocError>
         requires { length self.before.items ≡ length self.played.items }
-        ensures { IfOk result (λ replayed. replayed ≡ record { positions = self.before.items ++ here ∷ []; played = self.played.items; turns = [] }) }
+        ensures { IfOk result (λ replayed. replayed
+            ≡ record {
+              positions = self.before.items ++ here ∷ [];
+              played =
+                  self.played.items;
+              turns = [];
+            }) }
     {
         let CodedLine { before, played } = self;
         let mut positions = before;
@@ -122,8 +130,10 @@ impl CodedLine {
     }
 }
 
-/// Replays the line from the position by the bytes of its codes. Each move that a code tells is asked to be legal; what a code says of the
-/// man that is taken, and its marks, are not compared. Fails with `NoLine` where the bytes are those of no line of legal moves.
+/// Replays the line from the position by the bytes of its codes. Each move that a code tells is
+/// asked to be legal; what a code says of the
+/// man that is taken, and its marks, are not compared. Fails with `NoLine` where the bytes are
+/// those of no line of legal moves.
 pub fn replay_codes(
     alloc: Global,
     start: GamePosition,
@@ -131,7 +141,8 @@ pub fn replay_codes(
 ) -> Result<Replayed, CodesError>
     ensures { MatchResult result
         (IsCodedReplay start plies.now)
-        (λ error. error ≡ CodesError.NoLine → (moves : List Move) → IsCodedLine start plies.now moves → ⊥) }
+        (λ error. error ≡ CodesError.NoLine → (moves : List Move)
+        → IsCodedLine start plies.now moves → ⊥) }
 {
     if plies.len() % 3 != 0 {
         return Err(CodesError::NoLine);

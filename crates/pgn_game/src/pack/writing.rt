@@ -1,13 +1,19 @@
 //! The record of a game, appended to bytes.
-ghost use Rattle.std.specs.Prelude.{◌≡◌, ◌↔◌, ◌<◌, ◌≤◌, ◌+◌, ◌^◌, ◌++◌, ℕ, true, false, List, length, min};
+ghost use Rattle.std.specs.Prelude.{◌≡◌, ◌↔◌, ◌<◌, ◌≤◌, ◌+◌, ◌^◌, ◌++◌, ℕ, true, false, List};
+ghost use Rattle.std.specs.Prelude.{length, min};
 ghost use Rattle.std.specs.Prelude.{option_map, OnOk, OnErr, IsErrOf};
 ghost use Rattle.std.specs.List.{flat_map};
 ghost use Rattle.std.specs.Int.{w32, to_be_bytes};
 ghost use Rattle.pgn_text.specs.Public.GameTexts.{tag_in};
 ghost use Rattle.pgn_game.specs.Public.Starts.{fen_tag};
 ghost use Rattle.pgn_game.specs.Public.Replays.{IsSomeReplay};
-ghost use Rattle.pgn_game.specs.Public.PackedGames.{PackedGame, FitsRecord, IsPacked, with_length, name_bytes, tag_bytes, tags_size, body_size, record_bytes, largest_body, name_size, named_number, result_number, name_of, is_origin};
-ghost use Rattle.pgn_game.specs.Private.PackWords.{IsLinePlayed, AreMarksAfter, PutsFront, PutsHead, PutsPly, PutsPlies};
+ghost use Rattle.pgn_game.specs.Public.PackedGames.{PackedGame, FitsRecord, IsPacked, with_length};
+ghost use Rattle.pgn_game.specs.Public.PackedGames.{name_bytes, tag_bytes, tags_size, body_size};
+ghost use Rattle.pgn_game.specs.Public.PackedGames.{record_bytes, largest_body, name_size};
+ghost use Rattle.pgn_game.specs.Public.PackedGames.{named_number, result_number, name_of};
+ghost use Rattle.pgn_game.specs.Public.PackedGames.{is_origin};
+ghost use Rattle.pgn_game.specs.Private.PackWords.{IsLinePlayed, AreMarksAfter, PutsFront};
+ghost use Rattle.pgn_game.specs.Private.PackWords.{PutsHead, PutsPly, PutsPlies};
 
 use crate::pack::error::PackError;
 use crate::pack::origin::{GameOrigin, is_origin};
@@ -68,9 +74,11 @@ fn result_number(token: &[u8]) -> u32
     }
 }
 
-/// How many bytes stand in the record of the game after its size; the largest number, where it is more.
+/// How many bytes stand in the record of the game after its size; the largest number, where it is
+/// more.
 fn body_size(origin: &GameOrigin, game: &RawGame, replayed: &Replayed) -> usize
-    ensures { result ≡ min (body_size (name_of origin.now) game.now.tags (length replayed.now.played)) usize.MAX }
+    ensures { result
+        ≡ min (body_size (name_of origin.now) game.now.tags (length replayed.now.played)) usize.MAX }
 {
     tags_size(game)
         .saturating_add(20)
@@ -85,9 +93,14 @@ fn put_size(
     replayed: &Replayed,
     out: &mut Vec<u8>,
 ) -> Result<(), PackError>
-    ensures size { OnOk result (out.new.items ≡ out.old.items ++ to_be_bytes w32 (body_size (name_of origin.now) game.now.tags (length replayed.now.played))) }
-    ensures within { OnOk result (body_size (name_of origin.now) game.now.tags (length replayed.now.played) ≤ largest_body) }
-    ensures large { IsErrOf result PackError.TooLarge ↔ (largest_body < body_size (name_of origin.now) game.now.tags (length replayed.now.played)) }
+    ensures size { OnOk result (out.new.items
+        ≡ out.old.items
+        ++ to_be_bytes w32
+        (body_size (name_of origin.now) game.now.tags (length replayed.now.played))) }
+    ensures within { OnOk result (body_size (name_of origin.now) game.now.tags (length replayed.now.played)
+        ≤ largest_body) }
+    ensures large { IsErrOf result PackError.TooLarge
+        ↔ (largest_body < body_size (name_of origin.now) game.now.tags (length replayed.now.played)) }
     ensures origin { IsErrOf result PackError.NoOrigin → ⊥ }
     ensures kept { (some : List ℕ) × (out.new.items ≡ out.old.items ++ some) }
 {
@@ -99,7 +112,8 @@ fn put_size(
     Ok(())
 }
 
-/// Appends the size of the record, and the number and the offset of the game. Answers an error where
+/// Appends the size of the record, and the number and the offset of the game. Answers an error
+/// where
 /// no run gives a game such a number, offset or file name.
 fn put_front(
     origin: &GameOrigin,
@@ -107,13 +121,18 @@ fn put_front(
     replayed: &Replayed,
     out: &mut Vec<u8>,
 ) -> Result<(), PackError>
-    ensures front { OnOk result (PutsFront origin.now.number origin.now.offset (body_size (name_of origin.now) game.now.tags (length replayed.now.played)) out.old.items out.new.items) }
+    ensures front { OnOk result
+        (PutsFront origin.now.number origin.now.offset
+        (body_size (name_of origin.now) game.now.tags (length replayed.now.played)) out.old.items
+        out.new.items) }
     ensures placed { OnOk result ((origin.now.number < 2 ^ 64) × (origin.now.offset < 2 ^ 64)
         × (is_origin origin.now.number origin.now.offset (name_of origin.now) ≡ true)) }
     ensures origin { IsErrOf result PackError.NoOrigin
         → is_origin origin.now.number origin.now.offset (name_of origin.now) ≡ false }
-    ensures within { OnOk result (body_size (name_of origin.now) game.now.tags (length replayed.now.played) ≤ largest_body) }
-    ensures large { IsErrOf result PackError.TooLarge ↔ (largest_body < body_size (name_of origin.now) game.now.tags (length replayed.now.played)) }
+    ensures within { OnOk result (body_size (name_of origin.now) game.now.tags (length replayed.now.played)
+        ≤ largest_body) }
+    ensures large { IsErrOf result PackError.TooLarge
+        ↔ (largest_body < body_size (name_of origin.now) game.now.tags (length replayed.now.played)) }
     ensures kept { (some : List ℕ) × (out.new.items ≡ out.old.items ++ some) }
 {
     put_size(origin, game, replayed, out)?;
@@ -125,7 +144,8 @@ fn put_front(
     Ok(())
 }
 
-/// The marks of the position after so many plies. Where another ply follows, no legal move is looked for.
+/// The marks of the position after so many plies. Where another ply follows, no legal move is
+/// looked for.
 fn marks_after(replayed: &Replayed, plies: usize) -> Marks
     requires within { plies ≤ length replayed.now.played }
     requires line { IsLinePlayed replayed.now }
@@ -147,7 +167,9 @@ fn put_head(
 ) -> Result<(), AllocError>
     requires count { length game.now.tags < 2 ^ 27 }
     requires line { IsLinePlayed replayed.now }
-    ensures head { OnOk result (PutsHead (name_of origin.now) game.now.tags game.now.result replayed.now out.old.items out.new.items) }
+    ensures head { OnOk result
+        (PutsHead (name_of origin.now) game.now.tags game.now.result replayed.now out.old.items
+        out.new.items) }
     ensures kept { (some : List ℕ) × (out.new.items ≡ out.old.items ++ some) }
 {
     let count = game.tags().len() as u32;
@@ -173,7 +195,8 @@ fn put_text(text: &[u8], out: &mut Vec<u8>) -> Result<(), AllocError>
 /// Appends the name, where there is one.
 fn put_name(name: Option<&[u8]>, out: &mut Vec<u8>) -> Result<(), AllocError>
     requires { name_size (option_map (λ bytes. bytes.now) name) < 2 ^ 32 }
-    ensures name { OnOk result (out.new.items ≡ out.old.items ++ name_bytes (option_map (λ bytes. bytes.now) name.entry)) }
+    ensures name { OnOk result (out.new.items
+        ≡ out.old.items ++ name_bytes (option_map (λ bytes. bytes.now) name.entry)) }
     ensures kept { (some : List ℕ) × (out.new.items ≡ out.old.items ++ some) }
 {
     match name {
@@ -221,7 +244,8 @@ fn put_plies(replayed: &Replayed, out: &mut Vec<u8>) -> Result<(), AllocError>
     Ok(())
 }
 
-/// Appends the record of the game; where it would be too large or memory is refused, some bytes of it.
+/// Appends the record of the game; where it would be too large or memory is refused, some bytes of
+/// it.
 fn put_fields(
     origin: &GameOrigin,
     game: &RawGame,
@@ -229,8 +253,11 @@ fn put_fields(
     out: &mut Vec<u8>,
 ) -> Result<(), PackError>
     requires { IsLinePlayed replayed.now }
-    ensures record { OnOk result ((packed : PackedGame) × IsPacked (name_of origin.now) origin.now.number origin.now.offset game.now replayed.now packed × FitsRecord packed × (out.new.items ≡ out.old.items ++ record_bytes packed)) }
-    ensures large { IsErrOf result PackError.TooLarge ↔ (largest_body < body_size (name_of origin.now) game.now.tags (length replayed.now.played)) }
+    ensures record { OnOk result ((packed : PackedGame)
+        × IsPacked (name_of origin.now) origin.now.number origin.now.offset game.now replayed.now
+        packed × FitsRecord packed × (out.new.items ≡ out.old.items ++ record_bytes packed)) }
+    ensures large { IsErrOf result PackError.TooLarge
+        ↔ (largest_body < body_size (name_of origin.now) game.now.tags (length replayed.now.played)) }
     ensures origin { IsErrOf result PackError.NoOrigin
         → is_origin origin.now.number origin.now.offset (name_of origin.now) ≡ false }
     ensures kept { (some : List ℕ) × (out.new.items ≡ out.old.items ++ some) }
@@ -244,8 +271,10 @@ fn put_fields(
     Ok(())
 }
 
-/// Appends the record of the game that comes from there: its name, its tags and its result as they stand, and the main line of the replay,
-/// which is one of the game. Where the record would be too large, no run gives the game such a number, offset or file name, or memory is refused,
+/// Appends the record of the game that comes from there: its name, its tags and its result as they
+/// stand, and the main line of the replay,
+/// which is one of the game. Where the record would be too large, no run gives the game such a
+/// number, offset or file name, or memory is refused,
 /// nothing is appended.
 pub fn put_record(
     origin: &GameOrigin,
@@ -254,8 +283,11 @@ pub fn put_record(
     out: &mut Vec<u8>,
 ) -> Result<(), PackError>
     requires { IsSomeReplay (tag_in fen_tag game.now.tags) game.now.elements replayed.now }
-    ensures record { OnOk result ((packed : PackedGame) × IsPacked (name_of origin.now) origin.now.number origin.now.offset game.now replayed.now packed × FitsRecord packed × (out.new.items ≡ out.old.items ++ record_bytes packed)) }
-    ensures large { IsErrOf result PackError.TooLarge ↔ (largest_body < body_size (name_of origin.now) game.now.tags (length replayed.now.played)) }
+    ensures record { OnOk result ((packed : PackedGame)
+        × IsPacked (name_of origin.now) origin.now.number origin.now.offset game.now replayed.now
+        packed × FitsRecord packed × (out.new.items ≡ out.old.items ++ record_bytes packed)) }
+    ensures large { IsErrOf result PackError.TooLarge
+        ↔ (largest_body < body_size (name_of origin.now) game.now.tags (length replayed.now.played)) }
     ensures origin { IsErrOf result PackError.NoOrigin
         → is_origin origin.now.number origin.now.offset (name_of origin.now) ≡ false }
     ensures left { OnErr result (out.new.items ≡ out.old.items) }

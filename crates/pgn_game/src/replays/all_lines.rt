@@ -1,5 +1,6 @@
 //! All lines, played and kept.
-ghost use Rattle.std.specs.Prelude.{◌≡◌, ℕ, ◌+◌, ◌++◌, List, [], ◌∷◌, length, map, MatchResult, IfOk, IfSome, OnOk};
+ghost use Rattle.std.specs.Prelude.{◌≡◌, ℕ, ◌+◌, ◌++◌, List, [], ◌∷◌, length, map, MatchResult};
+ghost use Rattle.std.specs.Prelude.{IfOk, IfSome, OnOk};
 ghost use Rattle.chess.specs.Public.Positions.{State};
 ghost use Rattle.pgn_text.specs.Public.Elements.{item_of};
 ghost use Rattle.pgn_text.specs.Public.GameTexts.{IsPaired};
@@ -18,7 +19,8 @@ use chess::Move;
 use pgn_text::Element;
 use std::alloc::{AllocError, Global};
 
-/// A replay of all lines while it is kept: the positions of the main line, its moves, and all turns in the order of the text.
+/// A replay of all lines while it is kept: the positions of the main line, its moves, and all turns
+/// in the order of the text.
 #[derive(Drop)]
 struct ReplayKeeper {
     positions: Vec<GamePosition>,
@@ -51,7 +53,9 @@ impl ReplayKeeper {
     ) -> Result<(), AllocError>
         requires says { (before : State) × (word : List ℕ) × IsTurn inside before word turn.now }
         ensures turns { OnOk result (self.new.turns.items ≡ self.old.turns.items ++ turn.now ∷ []) }
-        ensures main { OnOk result (Keeps inside self.old.positions.items self.new.positions.items self.old.played.items self.new.played.items turn.now after.now) }
+        ensures main { OnOk result
+            (Keeps inside self.old.positions.items self.new.positions.items self.old.played.items
+            self.new.played.items turn.now after.now) }
     {
         self.turns.push(*turn)?;
         if !inside {
@@ -113,7 +117,9 @@ pub(crate) fn play_all_lines<'a>(
 ) -> Result<Replayed, GameFault<'a>>
     requires { IsPaired 0 (map item_of elements.now) }
     ensures { MatchResult result
-        (λ replayed. IsMainLine start.now (main_words (map item_of elements.now) 0) replayed.positions replayed.played
+        (λ replayed.
+        IsMainLine start.now (main_words (map item_of elements.now) 0) replayed.positions
+        replayed.played
         × ArePlayed start.now (map item_of elements.now) replayed.turns)
         (λ fault. IfSome (fault_of fault) (HaveFault start.now (map item_of elements.now))) }
 {

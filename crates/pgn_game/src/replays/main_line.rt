@@ -1,5 +1,6 @@
 //! The main line, played element by element.
-ghost use Rattle.std.specs.Prelude.{◌≡◌, ◌+◌, ◌<◌, ◌≤◌, ◌^◌, ◌++◌, ℕ, List, [], ◌∷◌, length, map, MatchOption, MatchResult, IfErr, IfOk, IfSome, OnOk};
+ghost use Rattle.std.specs.Prelude.{◌≡◌, ◌+◌, ◌<◌, ◌≤◌, ◌^◌, ◌++◌, ℕ, List, [], ◌∷◌, length, map};
+ghost use Rattle.std.specs.Prelude.{MatchOption, MatchResult, IfErr, IfOk, IfSome, OnOk};
 ghost use Rattle.chess.specs.Public.Positions.{State};
 ghost use Rattle.pgn_text.specs.Public.Elements.{item_of};
 ghost use Rattle.pgn_text.specs.Public.Games.{Item};
@@ -16,7 +17,8 @@ use chess::Move;
 use pgn_text::Element;
 use std::alloc::{AllocError, Global};
 
-/// The position that the main line leads to as far as it is played, how many plies lead to it, and how many variations are open.
+/// The position that the main line leads to as far as it is played, how many plies lead to it, and
+/// how many variations are open.
 #[derive(Drop)]
 pub(crate) struct MainWalk {
     pub(crate) position: GamePosition,
@@ -40,7 +42,8 @@ impl MainWalk {
     #[inline(always)]
     pub(crate) fn step<'a>(&mut self, element: Element<'a>) -> Result<Option<Move>, GameFault<'a>>
         requires room { (self.old.plies < usize.MAX) × (self.old.depth < usize.MAX) }
-        ensures within { (self.new.plies ≤ self.old.plies + 1) × (self.new.depth ≤ self.old.depth + 1) }
+        ensures within { (self.new.plies ≤ self.old.plies + 1)
+            × (self.new.depth ≤ self.old.depth + 1) }
         ensures stepped { MatchResult result
             (HasStepped self.old self.new (item_of element.entry))
             (IsStuck self.old (item_of element.entry)) }
@@ -61,12 +64,14 @@ impl MainWalk {
     }
 }
 
-/// The word of the next move of the main line, where so many variations are open before the elements.
+/// The word of the next move of the main line, where so many variations are open before the
+/// elements.
 pub(crate) fn next_word<'a>(elements: &[Element<'a>], outer: usize) -> Option<&'a [u8]>
     requires { outer + length elements.now < 2 ^ 64 }
     ensures { MatchOption result
         (main_words (map item_of elements.now) outer ≡ [])
-        (λ word. (more : List (List ℕ)) × (main_words (map item_of elements.now) outer ≡ word.now ∷ more)) }
+        (λ word. (more : List (List ℕ))
+        × (main_words (map item_of elements.now) outer ≡ word.now ∷ more)) }
 {
     let mut depth = outer;
     for element in elements {
@@ -101,7 +106,8 @@ impl LineKeeper {
     fn new(alloc: Global, start: GamePosition, elements: &[Element]) -> Result<Self, AllocError>
         ensures positions { IfOk result (λ line. line.positions.items ≡ start ∷ []) }
         ensures played { IfOk result (λ line. line.played.items ≡ []) }
-        ensures walk { IfOk result (λ line. (line.walk.position ≡ start) × (line.walk.plies ≡ 0) × (line.walk.depth ≡ 0)) }
+        ensures walk { IfOk result (λ line. (line.walk.position ≡ start) × (line.walk.plies ≡ 0)
+            × (line.walk.depth ≡ 0)) }
     {
         let moves = count_moves(elements);
         let mut positions = Vec::with_capacity(alloc, moves.saturating_add(1))?;
@@ -116,7 +122,8 @@ impl LineKeeper {
 
     /// Keeps the move that was played, and the position after it.
     fn keep(&mut self, m: Move) -> Result<(), AllocError>
-        ensures positions { OnOk result (self.new.positions.items ≡ self.old.positions.items ++ self.old.walk.position ∷ []) }
+        ensures positions { OnOk result (self.new.positions.items
+            ≡ self.old.positions.items ++ self.old.walk.position ∷ []) }
         ensures played { OnOk result (self.new.played.items ≡ self.old.played.items ++ m ∷ []) }
         ensures walk { self.new.walk ≡ self.old.walk }
     {
@@ -147,9 +154,11 @@ impl LineKeeper {
     /// Plays the element, if it is a move of the main line.
     fn step<'a>(&mut self, element: Element<'a>) -> Result<(), GameFault<'a>>
         requires room { (self.old.walk.plies < usize.MAX) × (self.old.walk.depth < usize.MAX) }
-        ensures within { (self.new.walk.plies ≤ self.old.walk.plies + 1) × (self.new.walk.depth ≤ self.old.walk.depth + 1) }
+        ensures within { (self.new.walk.plies ≤ self.old.walk.plies + 1)
+            × (self.new.walk.depth ≤ self.old.walk.depth + 1) }
         ensures kept { OnOk result ((start : State) (words : List (List ℕ)) (items : List Item)
-            → KeepsLine start words self.old (item_of element.entry ∷ items) → KeepsLine start words self.new items) }
+            → KeepsLine start words self.old (item_of element.entry ∷ items)
+            → KeepsLine start words self.new items) }
         ensures stuck { IfErr result (IsStuck self.old.walk (item_of element.entry)) }
     {
         if let Some(m) = self.walk.step(element)? {
@@ -166,8 +175,11 @@ pub(crate) fn play_main_line<'a>(
     elements: &[Element<'a>],
 ) -> Result<Replayed, GameFault<'a>>
     ensures { MatchResult result
-        (λ replayed. IsMainLine start (main_words (map item_of elements.now) 0) replayed.positions replayed.played × (replayed.turns ≡ []))
-        (λ fault. IfSome (fault_of fault) (IsMoveFault start 0 (main_words (map item_of elements.now) 0))) }
+        (λ replayed.
+        IsMainLine start (main_words (map item_of elements.now) 0) replayed.positions
+        replayed.played × (replayed.turns ≡ []))
+        (λ fault.
+        IfSome (fault_of fault) (IsMoveFault start 0 (main_words (map item_of elements.now) 0))) }
 {
     let mut line = LineKeeper::new(alloc, start, elements)?;
     for element in elements {
@@ -185,7 +197,8 @@ pub(crate) fn play_opening<'a>(
 ) -> Result<Replayed, GameFault<'a>>
     ensures { MatchResult result
         (IsBeginning start (main_words (map item_of elements.now) 0) most)
-        (λ fault. IfSome (fault_of fault) (IsMoveFault start 0 (main_words (map item_of elements.now) 0))) }
+        (λ fault.
+        IfSome (fault_of fault) (IsMoveFault start 0 (main_words (map item_of elements.now) 0))) }
 {
     let mut opening = LineKeeper::new(alloc, start, &[])?;
     for element in elements {
@@ -204,7 +217,8 @@ pub(crate) fn count_main_line<'a>(
 ) -> Result<usize, GameFault<'a>>
     ensures { MatchResult result
         (HasLinePlies start (main_words (map item_of elements.now) 0))
-        (λ fault. IfSome (fault_of fault) (IsMoveFault start 0 (main_words (map item_of elements.now) 0))) }
+        (λ fault.
+        IfSome (fault_of fault) (IsMoveFault start 0 (main_words (map item_of elements.now) 0))) }
 {
     let mut walk = MainWalk::new(start);
     for element in elements {

@@ -17,7 +17,8 @@ use pgn_text::{Element, RawGame};
 use std::alloc::Global;
 use std::marker::Model;
 
-/// The main line of a game while it is played, ply by ply. No position is kept but the one that is reached. Contracts see that position,
+/// The main line of a game while it is played, ply by ply. No position is kept but the one that is
+/// reached. Contracts see that position,
 /// the plies that lead to it, and the words of the moves that are still to be played.
 #[derive(Drop)]
 pub struct MainLine<'g, 'a> {
@@ -53,7 +54,9 @@ impl<'g, 'a> MainLine<'g, 'a> {
     pub fn begin(alloc: Global, raw: &'g RawGame<'a>) -> Result<Self, GameFault<'a>>
         ensures { MatchResult result
             (λ line. IsBegun (tag_in fen_tag raw.now.tags) raw.now.elements line)
-            (λ fault. IfSome (fault_of fault) (IsFault Main (tag_in fen_tag raw.now.tags) raw.now.elements)) }
+            (λ fault.
+            IfSome (fault_of fault)
+            (IsFault Main (tag_in fen_tag raw.now.tags) raw.now.elements)) }
     {
         let start = starting_position(alloc, raw.tags())?;
         Ok(MainLine {
@@ -78,12 +81,15 @@ impl<'g, 'a> MainLine<'g, 'a> {
         self.walk.plies
     }
 
-    /// Plays the next move; answers false where there is none. At a word that can't be played, the game has its fault.
+    /// Plays the next move; answers false where there is none. At a word that can't be played, the
+    /// game has its fault.
     #[inline(always)]
     pub fn advance(&mut self) -> Result<bool, GameFault<'a>>
         ensures { MatchResult result
             (HasAdvanced self.old self.new)
-            (λ fault. IfSome (fault_of fault) (IsMoveFault self.old.position self.old.plies self.old.words)) }
+            (λ fault.
+            IfSome (fault_of fault)
+            (IsMoveFault self.old.position self.old.plies self.old.words)) }
     {
         while let [element, rest @ ..] = self.rest {
             self.rest = rest;
@@ -94,11 +100,15 @@ impl<'g, 'a> MainLine<'g, 'a> {
         Ok(false)
     }
 
-    /// Appends the standard text of the next move, or `-` where there is none; the line stays as it is. At a word that can't be played, the
+    /// Appends the standard text of the next move, or `-` where there is none; the line stays as it
+    /// is. At a word that can't be played, the
     /// game has its fault.
     pub fn push_next(&self, out: &mut Vec<u8>) -> Result<(), GameFault<'a>>
-        ensures text { OnOk result ((text : List ℕ) × IsNextText self.now.position self.now.words text × (out.new.items ≡ out.old.items ++ text)) }
-        ensures fault { IfErr result (λ fault. IfSome (fault_of fault) (IsMoveFault self.now.position self.now.plies self.now.words)) }
+        ensures text { OnOk result ((text : List ℕ)
+            × IsNextText self.now.position self.now.words text
+            × (out.new.items ≡ out.old.items ++ text)) }
+        ensures fault { IfErr result (λ fault.
+            IfSome (fault_of fault) (IsMoveFault self.now.position self.now.plies self.now.words)) }
         ensures kept { (some : List ℕ) × (out.new.items ≡ out.old.items ++ some) }
     {
         let Some(word) = next_word(self.rest, self.walk.depth) else {

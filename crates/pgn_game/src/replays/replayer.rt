@@ -23,17 +23,22 @@ use std::alloc::Global;
 pub enum Lines {
     /// The main line; what stands in variations is not looked at.
     Main,
-    /// All lines: each variation is played from the position before the move that it stands for, and `--` and `Z0` are a pass in it.
+    /// All lines: each variation is played from the position before the move that it stands for,
+    /// and `--` and `Z0` are a pass in it.
     All,
 }
 
-/// Plays the lines of the game from its start: the position of its FEN tag, or the initial one. Each move is the only legal move that its
-/// word names, and no pass is made in check. At the first word in the order of the text that can't be played so, the game is refused for
-/// it; the word's ply is counted along its own line, where the first move of a variation has the ply of the move that it stands for.
+/// Plays the lines of the game from its start: the position of its FEN tag, or the initial one.
+/// Each move is the only legal move that its
+/// word names, and no pass is made in check. At the first word in the order of the text that can't
+/// be played so, the game is refused for
+/// it; the word's ply is counted along its own line, where the first move of a variation has the
+/// ply of the move that it stands for.
 pub fn replay<'a>(alloc: Global, raw: &RawGame<'a>, lines: Lines) -> Result<Replayed, GameFault<'a>>
     ensures { MatchResult result
         (λ replayed. IsReplay lines (tag_in fen_tag raw.now.tags) raw.now.elements replayed)
-        (λ fault. IfSome (fault_of fault) (IsFault lines (tag_in fen_tag raw.now.tags) raw.now.elements)) }
+        (λ fault.
+        IfSome (fault_of fault) (IsFault lines (tag_in fen_tag raw.now.tags) raw.now.elements)) }
 {
     let start = starting_position(alloc, raw.tags())?;
     match lines {
@@ -42,11 +47,13 @@ pub fn replay<'a>(alloc: Global, raw: &RawGame<'a>, lines: Lines) -> Result<Repl
     }
 }
 
-/// Plays these lines of the game and keeps nothing of them: whether they are sound, or the fault of a replay of them.
+/// Plays these lines of the game and keeps nothing of them: whether they are sound, or the fault of
+/// a replay of them.
 pub fn check_lines<'a>(alloc: Global, raw: &RawGame<'a>, lines: Lines) -> Result<(), GameFault<'a>>
     ensures { MatchResult result
         (λ _. IsSoundGame lines (tag_in fen_tag raw.now.tags) raw.now.elements)
-        (λ fault. IfSome (fault_of fault) (IsFault lines (tag_in fen_tag raw.now.tags) raw.now.elements)) }
+        (λ fault.
+        IfSome (fault_of fault) (IsFault lines (tag_in fen_tag raw.now.tags) raw.now.elements)) }
 {
     let start = starting_position(alloc, raw.tags())?;
     match lines {
@@ -70,12 +77,14 @@ fn is_flat(elements: &[Element<'_>]) -> bool
     true
 }
 
-/// Whether all lines are sound of a game whose main line is; or the fault of a replay of them. Without variations nothing is played.
+/// Whether all lines are sound of a game whose main line is; or the fault of a replay of them.
+/// Without variations nothing is played.
 pub fn check_variations<'a>(alloc: Global, raw: &RawGame<'a>) -> Result<(), GameFault<'a>>
     requires { IsSoundGame Main (tag_in fen_tag raw.now.tags) raw.now.elements }
     ensures { MatchResult result
         (λ _. IsSoundGame All (tag_in fen_tag raw.now.tags) raw.now.elements)
-        (λ fault. IfSome (fault_of fault) (IsFault All (tag_in fen_tag raw.now.tags) raw.now.elements)) }
+        (λ fault.
+        IfSome (fault_of fault) (IsFault All (tag_in fen_tag raw.now.tags) raw.now.elements)) }
 {
     raw.invariant();
     if is_flat(raw.elements()) {
@@ -84,7 +93,8 @@ pub fn check_variations<'a>(alloc: Global, raw: &RawGame<'a>) -> Result<(), Game
     check_lines(alloc, raw, Lines::All)
 }
 
-/// Plays the main line of the game up to so many plies, or to its end, and keeps the positions so far.
+/// Plays the main line of the game up to so many plies, or to its end, and keeps the positions so
+/// far.
 pub fn replay_opening<'a>(
     alloc: Global,
     raw: &RawGame<'a>,
@@ -92,18 +102,21 @@ pub fn replay_opening<'a>(
 ) -> Result<Replayed, GameFault<'a>>
     ensures { MatchResult result
         (IsOpening (tag_in fen_tag raw.now.tags) raw.now.elements most)
-        (λ fault. IfSome (fault_of fault) (IsFault Main (tag_in fen_tag raw.now.tags) raw.now.elements)) }
+        (λ fault.
+        IfSome (fault_of fault) (IsFault Main (tag_in fen_tag raw.now.tags) raw.now.elements)) }
 {
     let start = starting_position(alloc, raw.tags())?;
     play_opening(alloc, start, raw.elements(), most)
 }
 
-/// Counts the plies of the main line of the game, or reports its fault: just as a replay of the main line, but no position is kept.
+/// Counts the plies of the main line of the game, or reports its fault: just as a replay of the
+/// main line, but no position is kept.
 #[inline(never)]
 pub fn count_plies<'a>(alloc: Global, raw: &RawGame<'a>) -> Result<usize, GameFault<'a>>
     ensures { MatchResult result
         (HasPlies (tag_in fen_tag raw.now.tags) raw.now.elements)
-        (λ fault. IfSome (fault_of fault) (IsFault Main (tag_in fen_tag raw.now.tags) raw.now.elements)) }
+        (λ fault.
+        IfSome (fault_of fault) (IsFault Main (tag_in fen_tag raw.now.tags) raw.now.elements)) }
 {
     let start = starting_position(alloc, raw.tags())?;
     count_main_line(start, raw.elements())

@@ -1,5 +1,6 @@
 //! One walk over the lines of a game, with a visitor of its steps.
-ghost use Rattle.std.specs.Prelude.{◌≡◌, Bool, ◌+◌, ◌≤◌, ◌<◌, ◌∷◌, ◌++◌, ℕ, List, [], map, MatchResult, IfErr, IfSome, OnOk};
+ghost use Rattle.std.specs.Prelude.{◌≡◌, Bool, ◌+◌, ◌≤◌, ◌<◌, ◌∷◌, ◌++◌, ℕ, List, [], map};
+ghost use Rattle.std.specs.Prelude.{MatchResult, IfErr, IfSome, OnOk};
 ghost use Rattle.pgn_text.specs.Public.Elements.{item_of};
 ghost use Rattle.pgn_text.specs.Public.GameTexts.{IsPaired};
 ghost use Rattle.pgn_text.specs.Public.Games.{Item};
@@ -8,7 +9,9 @@ ghost use Rattle.pgn_game.specs.Public.Faults.{Fault, HaveFault, IsRefusedTurn};
 ghost use Rattle.pgn_game.specs.Public.Replays.{fault_of};
 ghost use Rattle.pgn_game.specs.declared.replays.walk.Level.{Level};
 ghost use Rattle.pgn_game.specs.Private.LineWalks.{begun, first_level, gone_on, is_inside};
-ghost use Rattle.pgn_game.specs.Private.Steps.{Beside, IsNoMove, LeadsAt, Step, StopsAt, Turned, Visits, Walks, WalksOn, around, shown_if, shown_items, IsWithin};
+ghost use Rattle.pgn_game.specs.Private.Steps.{Beside, IsNoMove, LeadsAt, Step, StopsAt, Turned};
+ghost use Rattle.pgn_game.specs.Private.Steps.{Visits, Walks, WalksOn, around, shown_if};
+ghost use Rattle.pgn_game.specs.Private.Steps.{shown_items, IsWithin};
 
 use crate::replays::line_stack::LineStack;
 use crate::turns::fault::GameFault;
@@ -19,7 +22,8 @@ use crate::turns::saying::is_null_move;
 use pgn_text::Element;
 use std::alloc::{AllocError, Global};
 
-/// A line as far as it was played: the position before its last turn and the one after it, and the plies that lead to the latter. Before
+/// A line as far as it was played: the position before its last turn and the one after it, and the
+/// plies that lead to the latter. Before
 /// the first turn both are the position that the line is played from.
 #[derive(Drop)]
 pub(crate) struct Level {
@@ -57,8 +61,11 @@ pub(crate) trait Visitor {
         ply: usize,
     ) -> Result<LineMove, GameFault<'a>>
         ensures turned { MatchResult result
-            (λ turn. IsTurn inside position.old word.now turn × (position.new ≡ after_turn position.old turn) × does self.old (Turned inside position.old turn) self.new)
-            (λ fault. (plies : ℕ) → ply ≡ plies + 1 → IfSome (fault_of fault) (IsRefusedTurn inside position.old plies word.now)) }
+            (λ turn. IsTurn inside position.old word.now turn
+            × (position.new ≡ after_turn position.old turn)
+            × does self.old (Turned inside position.old turn) self.new)
+            (λ fault. (plies : ℕ) → ply ≡ plies + 1
+            → IfSome (fault_of fault) (IsRefusedTurn inside position.old plies word.now)) }
         ensures kept { (some : List ℕ) × (text self.new ≡ text self.old ++ some) };
 
     /// Another element.
@@ -74,10 +81,15 @@ fn turn<'a, V: Visitor>(
     visitor: &mut V,
 ) -> Result<(), GameFault<'a>>
     requires room { stack.old.line.plies < usize.MAX }
-    ensures turned { OnOk result ((turn : LineMove) × IsTurn (is_inside (around stack.old)) stack.old.line.now word.now turn
+    ensures turned { OnOk result ((turn : LineMove)
+        × IsTurn (is_inside (around stack.old)) stack.old.line.now word.now turn
         × (stack.new.line ≡ gone_on stack.old.line turn) × (around stack.new ≡ around stack.old)
-        × V.does visitor.old (Turned (is_inside (around stack.old)) stack.old.line.now turn) visitor.new) }
-    ensures stuck { IfErr result (λ fault. IfSome (fault_of fault) (IsRefusedTurn (is_inside (around stack.old)) stack.old.line.now stack.old.line.plies word.now)) }
+        × V.does visitor.old (Turned (is_inside (around stack.old)) stack.old.line.now turn)
+        visitor.new) }
+    ensures stuck { IfErr result (λ fault.
+        IfSome (fault_of fault)
+        (IsRefusedTurn (is_inside (around stack.old)) stack.old.line.now stack.old.line.plies
+        word.now)) }
     ensures kept { (some : List ℕ) × (V.text visitor.new ≡ V.text visitor.old ++ some) }
 {
     let inside = stack.is_inside();
@@ -109,9 +121,14 @@ fn beside<V: Visitor>(
 ) -> Result<(), AllocError>
     requires { IsNoMove (item_of element) }
     ensures does { OnOk result (V.does visitor.old (Beside (item_of element.entry)) visitor.new) }
-    ensures walks { OnOk result ((items : List Item) (more : List Step) → WalksOn stack.new items more → WalksOn stack.old (item_of element.entry ∷ items) (Beside (item_of element.entry) ∷ more)) }
-    ensures sticks { OnOk result ((items : List Item) (fault : Fault) → StopsAt stack.new items fault → StopsAt stack.old (item_of element.entry ∷ items) fault) }
-    ensures leads { OnOk result ((items : List Item) (inside : Bool) (last : Level) → LeadsAt stack.new items inside last → LeadsAt stack.old (item_of element.entry ∷ items) inside last) }
+    ensures walks { OnOk result ((items : List Item) (more : List Step)
+        → WalksOn stack.new items more
+        → WalksOn stack.old (item_of element.entry ∷ items) (Beside (item_of element.entry) ∷ more)) }
+    ensures sticks { OnOk result ((items : List Item) (fault : Fault)
+        → StopsAt stack.new items fault → StopsAt stack.old (item_of element.entry ∷ items) fault) }
+    ensures leads { OnOk result ((items : List Item) (inside : Bool) (last : Level)
+        → LeadsAt stack.new items inside last
+        → LeadsAt stack.old (item_of element.entry ∷ items) inside last) }
     ensures within { OnOk result ((n : ℕ) → IsWithin n stack.old → IsWithin n stack.new) }
     ensures kept { (some : List ℕ) × (V.text visitor.new ≡ V.text visitor.old ++ some) }
 {
@@ -131,10 +148,15 @@ pub(crate) fn step<'a, V: Visitor>(
 ) -> Result<(), GameFault<'a>>
     requires room { stack.old.line.plies < usize.MAX }
     ensures walks { OnOk result ((step : Step) × V.does visitor.old step visitor.new
-        × ((items : List Item) (more : List Step) → WalksOn stack.new items more → WalksOn stack.old (item_of element.entry ∷ items) (step ∷ more))) }
-    ensures sticks { OnOk result ((items : List Item) (fault : Fault) → StopsAt stack.new items fault → StopsAt stack.old (item_of element.entry ∷ items) fault) }
-    ensures leads { OnOk result ((items : List Item) (inside : Bool) (last : Level) → LeadsAt stack.new items inside last → LeadsAt stack.old (item_of element.entry ∷ items) inside last) }
-    ensures stuck { IfErr result (λ fault. (items : List Item) → IfSome (fault_of fault) (StopsAt stack.old (item_of element.entry ∷ items))) }
+        × ((items : List Item) (more : List Step) → WalksOn stack.new items more
+        → WalksOn stack.old (item_of element.entry ∷ items) (step ∷ more))) }
+    ensures sticks { OnOk result ((items : List Item) (fault : Fault)
+        → StopsAt stack.new items fault → StopsAt stack.old (item_of element.entry ∷ items) fault) }
+    ensures leads { OnOk result ((items : List Item) (inside : Bool) (last : Level)
+        → LeadsAt stack.new items inside last
+        → LeadsAt stack.old (item_of element.entry ∷ items) inside last) }
+    ensures stuck { IfErr result (λ fault. (items : List Item)
+        → IfSome (fault_of fault) (StopsAt stack.old (item_of element.entry ∷ items))) }
     ensures within { OnOk result ((n : ℕ) → IsWithin n stack.old → IsWithin (n + 1) stack.new) }
     ensures kept { (some : List ℕ) × (V.text visitor.new ≡ V.text visitor.old ++ some) }
 {
@@ -144,7 +166,8 @@ pub(crate) fn step<'a, V: Visitor>(
     }
 }
 
-/// Which elements are gone over: all where variations are, else those that stand in no variation; and how many variations are open.
+/// Which elements are gone over: all where variations are, else those that stand in no variation;
+/// and how many variations are open.
 #[derive(Drop)]
 struct Shown {
     variations: bool,
@@ -155,7 +178,8 @@ impl Shown {
     /// Whether the element is gone over.
     fn shows(&mut self, element: Element) -> bool
         requires room { self.old.depth < usize.MAX }
-        ensures shown { (items : List Item) → shown_items self.old.variations self.old.depth (item_of element.entry ∷ items)
+        ensures shown { (items : List Item)
+            → shown_items self.old.variations self.old.depth (item_of element.entry ∷ items)
             ≡ shown_if result (item_of element.entry) (shown_items self.new.variations self.new.depth items) }
         ensures depth { self.new.depth ≤ self.old.depth + 1 }
     {
@@ -185,8 +209,12 @@ pub(crate) fn walk<'a, V: Visitor>(
 ) -> Result<(), GameFault<'a>>
     requires begun { (stack.old.line.plies ≡ 0) × (around stack.old ≡ []) }
     ensures walked { MatchResult result
-        (λ _. (steps : List Step) × WalksOn stack.old (shown_items variations 0 (map item_of elements.now)) steps × Visits V.does visitor.old steps visitor.new)
-        (λ fault. IfSome (fault_of fault) (StopsAt stack.old (shown_items variations 0 (map item_of elements.now)))) }
+        (λ _. (steps : List Step)
+        × WalksOn stack.old (shown_items variations 0 (map item_of elements.now)) steps
+        × Visits V.does visitor.old steps visitor.new)
+        (λ fault.
+        IfSome (fault_of fault)
+        (StopsAt stack.old (shown_items variations 0 (map item_of elements.now)))) }
     ensures kept { (some : List ℕ) × (V.text visitor.new ≡ V.text visitor.old ++ some) }
 {
     let mut shown = Shown {
@@ -202,7 +230,8 @@ pub(crate) fn walk<'a, V: Visitor>(
     Ok(())
 }
 
-/// Plays what the word says in the position, in a variation or not; or answers the fault of this ply.
+/// Plays what the word says in the position, in a variation or not; or answers the fault of this
+/// ply.
 pub(crate) fn play_turn<'a>(
     position: &mut GamePosition,
     inside: bool,
@@ -210,8 +239,10 @@ pub(crate) fn play_turn<'a>(
     ply: usize,
 ) -> Result<LineMove, GameFault<'a>>
     ensures { MatchResult result
-        (λ turn. IsTurn inside position.old word.now turn × (position.new ≡ after_turn position.old turn))
-        (λ fault. (plies : ℕ) → ply ≡ plies + 1 → IfSome (fault_of fault) (IsRefusedTurn inside position.old plies word.now)) }
+        (λ turn. IsTurn inside position.old word.now turn
+        × (position.new ≡ after_turn position.old turn))
+        (λ fault. (plies : ℕ) → ply ≡ plies + 1
+        → IfSome (fault_of fault) (IsRefusedTurn inside position.old plies word.now)) }
 {
     if is_null_move(inside, word) {
         return match position.pass() {

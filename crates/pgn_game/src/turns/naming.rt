@@ -14,8 +14,10 @@ use chess::{Move, SanError, play_word, play_word_san};
 
 /// The fault of this ply, whose word names no legal move or several.
 pub(crate) fn refused<'a>(error: SanError, word: &'a [u8], ply: usize) -> GameFault<'a>
-    ensures { (now : State) (plies : ℕ) → ply ≡ plies + 1 → (error ≡ SanError.None → NamesNone now word.now)
-        → (error ≡ SanError.Several → NamesSeveral now word.now) → IfSome (fault_of result) (IsRefusedWord now plies word.now) }
+    ensures { (now : State) (plies : ℕ) → ply ≡ plies + 1
+        → (error ≡ SanError.None → NamesNone now word.now)
+        → (error ≡ SanError.Several → NamesSeveral now word.now)
+        → IfSome (fault_of result) (IsRefusedWord now plies word.now) }
 {
     match error {
         SanError::None => GameFault::Illegal { word, ply },
@@ -32,7 +34,8 @@ pub(crate) fn play_named<'a>(
 ) -> Result<Move, GameFault<'a>>
     ensures { MatchResult result
         (λ m. IsOnlyNamed position.old word.now m × (position.new ≡ after position.old m))
-        (λ fault. (plies : ℕ) → ply ≡ plies + 1 → IfSome (fault_of fault) (IsRefusedWord position.old plies word.now)) }
+        (λ fault. (plies : ℕ) → ply ≡ plies + 1
+        → IfSome (fault_of fault) (IsRefusedWord position.old plies word.now)) }
 {
     match play_word(position, word) {
         Ok(m) => Ok(m),
@@ -40,7 +43,8 @@ pub(crate) fn play_named<'a>(
     }
 }
 
-/// Plays the only legal move that the word names, answers it and writes its standard text; or answers the fault of this ply.
+/// Plays the only legal move that the word names, answers it and writes its standard text; or
+/// answers the fault of this ply.
 #[inline(always)]
 pub(crate) fn play_named_san<'a>(
     position: &mut GamePosition,
@@ -49,8 +53,10 @@ pub(crate) fn play_named_san<'a>(
     san: &mut ArrayString<8>,
 ) -> Result<Move, GameFault<'a>>
     ensures { MatchResult result
-        (λ m. IsOnlyNamed position.old word.now m × (position.new ≡ after position.old m) × IsSan position.old m san.new.bytes)
-        (λ fault. (plies : ℕ) → ply ≡ plies + 1 → IfSome (fault_of fault) (IsRefusedWord position.old plies word.now)) }
+        (λ m. IsOnlyNamed position.old word.now m × (position.new ≡ after position.old m)
+        × IsSan position.old m san.new.bytes)
+        (λ fault. (plies : ℕ) → ply ≡ plies + 1
+        → IfSome (fault_of fault) (IsRefusedWord position.old plies word.now)) }
 {
     match play_word_san(position, word, san) {
         Ok(m) => Ok(m),

@@ -11,7 +11,8 @@ use std::marker::Model;
 /// The positions that games are played in.
 pub type GamePosition = Position<Bits>;
 
-/// The positions of a game's main line, and the moves between them; where all lines were replayed, also the turns of all of them.
+/// The positions of a game's main line, and the moves between them; where all lines were replayed,
+/// also the turns of all of them.
 #[derive(Drop)]
 pub struct Replayed {
     pub(crate) positions: Vec<GamePosition>,
@@ -24,7 +25,13 @@ impl Model for Replayed {
 
     ghost coded = { coded_replay };
 
-    ghost view = { λ replayed. record { positions = replayed.positions.items; played = replayed.played.items; turns = replayed.turns.items } };
+    ghost view = { λ replayed.
+        record {
+          positions = replayed.positions.items;
+          played = replayed.played.items;
+          turns =
+              replayed.turns.items;
+        } };
 
     ghost invariant = { λ replayed. length replayed.positions.items ≡ length replayed.played.items + 1 };
 }
@@ -54,14 +61,16 @@ impl Replayed {
         self.played[plies]
     }
 
-    /// How many turns are kept: where all lines were replayed, one for each move text of the game, also in variations; else 0.
+    /// How many turns are kept: where all lines were replayed, one for each move text of the game,
+    /// also in variations; else 0.
     pub fn turns(&self) -> usize
         ensures { result ≡ length self.now.turns }
     {
         self.turns.len()
     }
 
-    /// The turn that follows so many others in the order of the text: a move, or in a variation a pass.
+    /// The turn that follows so many others in the order of the text: a move, or in a variation a
+    /// pass.
     pub fn turn(&self, index: usize) -> LineMove
         requires { index < length self.now.turns }
         ensures { slice_get self.now.turns index ≡ Some result }

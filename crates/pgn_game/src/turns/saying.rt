@@ -25,7 +25,8 @@ pub(crate) fn named<'a>(
 ) -> Result<Move, GameFault<'a>>
     ensures { MatchResult result
         (IsOnlyNamed position.now word.now)
-        (λ fault. (plies : ℕ) → ply ≡ plies + 1 → IfSome (fault_of fault) (IsRefusedWord position.now plies word.now)) }
+        (λ fault. (plies : ℕ) → ply ≡ plies + 1
+        → IfSome (fault_of fault) (IsRefusedWord position.now plies word.now)) }
 {
     match resolve(position, word) {
         Ok(m) => Ok(m),

@@ -26,7 +26,8 @@ pub fn given_position<'a>(alloc: Global, contents: &[u8]) -> Result<GamePosition
     requires { IsContents contents.now }
     ensures { MatchResult result
         (IsStart (Some contents.now))
-        (λ fault. IfSome (fault_of fault) (λ reported. IsBadStart (Some contents.now) × (reported ≡ BadStart))) }
+        (λ fault. IfSome (fault_of fault) (λ reported. IsBadStart (Some contents.now)
+        × (reported ≡ BadStart))) }
 {
     let text = value_of(alloc, contents)?;
     match GamePosition::from_fen(text.as_slice()) {
@@ -43,7 +44,8 @@ pub(crate) fn starting_position<'a>(
     requires { HoldStrings (tags_of tags.now) }
     ensures { MatchResult result
         (IsStart (tag_in fen_tag (tags_of tags.now)))
-        (λ fault. IfSome (fault_of fault) (λ reported. IsBadStart (tag_in fen_tag (tags_of tags.now)) × (reported ≡ BadStart))) }
+        (λ fault. IfSome (fault_of fault) (λ reported.
+        IsBadStart (tag_in fen_tag (tags_of tags.now)) × (reported ≡ BadStart))) }
 {
     let name: &[u8] = b"FEN";
     match tags.get(&name) {

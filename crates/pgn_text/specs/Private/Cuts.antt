@@ -1,5 +1,6 @@
 -- Where a text is cut into blocks, by place: the words of the search, which the code equals.
-use Rattle.std.specs.Prelude.{◌≡◌, ℕ, ◌-◌, ◌<◌, ◌≤◌, Bool, false, ◌&&◌, ◌==◌, nat_eq, List, drop, get_or}
+use Rattle.std.specs.Prelude.{◌≡◌, ℕ, ◌-◌, ◌<◌, ◌≤◌, Bool, false, ◌&&◌, ◌==◌, nat_eq, List, drop}
+use Rattle.std.specs.Prelude.{get_or}
 use Rattle.std.specs.List.{starts_with}
 use Rattle.pgn_text.specs.Public.Blocks.{event_line}
 

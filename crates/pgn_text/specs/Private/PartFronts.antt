@@ -1,12 +1,17 @@
 -- Fronts of parts: what the functions of `error_position` answer where no whole part follows.
-use Rattle.std.specs.Prelude.{◌≡◌, ℕ, suc, Bool, true, false, ◌&&◌, ◌==◌, ◌≤◌, ◌⊎◌, nat_le, if◌then◌else◌, List, [], ◌∷◌, ◌++◌, length, take, codes, Option, Some, None}
+use Rattle.std.specs.Prelude.{◌≡◌, ℕ, suc, Bool, true, false, ◌&&◌, ◌==◌, ◌≤◌, ◌⊎◌, nat_le}
+use Rattle.std.specs.Prelude.{if◌then◌else◌, List, [], ◌∷◌, ◌++◌, length, take, codes, Option, Some}
+use Rattle.std.specs.Prelude.{None}
 use Rattle.std.specs.List.{list_all}
 use Rattle.pgn_text.specs.Public.Bytes.{is_white, is_digit, is_name_byte, is_check_mark, is_plain}
 use Rattle.pgn_text.specs.Public.Parts.{Part, Standing, Stands, spelled_part, number_of}
 use Rattle.pgn_text.specs.Public.Games.{is_result}
 use Rattle.pgn_text.specs.Private.Steps.{State, step}
 use Rattle.pgn_text.specs.declared.error.error_position.InTag.{InTag}
-use Rattle.pgn_text.specs.declared.error.error_position.InTag.TheVariants.{BeforeName, Name, AfterName, Contents, AfterBackslash, AfterString, Closed}
+use Rattle.pgn_text.specs.declared.error.error_position.InTag.TheVariants.{BeforeName, Name}
+use Rattle.pgn_text.specs.declared.error.error_position.InTag.TheVariants.{AfterName, Contents}
+use Rattle.pgn_text.specs.declared.error.error_position.InTag.TheVariants.{AfterBackslash}
+use Rattle.pgn_text.specs.declared.error.error_position.InTag.TheVariants.{AfterString, Closed}
 
 -- so many of the text's first bytes have the property, and no more
 pub record Longest (P : List ℕ → Type 0) (text : List ℕ) (n : ℕ) : Type 0 where
@@ -20,17 +25,19 @@ pub record Follows (max_depth : ℕ) (s : State) (p : Part) : Type 0 where
   pub goes_on : is_result p ≡ false → (t : State) × (step max_depth s p ≡ Some t)
 
 -- these bytes are the front of a part that may follow
-pub record IsPartFront (max_depth : ℕ) (place : Standing) (s : State) (front : List ℕ) : Type 0 where
-  pub part : Part
-  pub more : List ℕ
-  pub spelt : spelled_part part ≡ front ++ more
-  pub stands : Stands place part []
-  pub follows : Follows max_depth s part
+pub record IsPartFront (max_depth : ℕ) (place : Standing) (s : State) (front : List ℕ) : Type 0
+  where
+    pub part : Part
+    pub more : List ℕ
+    pub spelt : spelled_part part ≡ front ++ more
+    pub stands : Stands place part []
+    pub follows : Follows max_depth s part
 
 -- no part that stands at the front of the text may follow
 abbrev pub NoneFollows : ℕ → Standing → State → List ℕ → Type 0
 NoneFollows max_depth place s text =
-    (p : Part) (rest : List ℕ) → text ≡ spelled_part p ++ rest → Stands place p rest → Follows max_depth s p → ⊥
+    (p : Part) (rest : List ℕ) → text ≡ spelled_part p ++ rest → Stands place p rest
+    → Follows max_depth s p → ⊥
 
 -- no byte
 abbrev pub no_byte : ℕ → Bool
@@ -55,9 +62,11 @@ IsMoveFront x = (IsFrontOf is_digit [] x ⊎ IsFrontOf no_byte (codes "--") x)
 
 -- the bytes are the front of a result
 abbrev pub IsResultFront : List ℕ → Type 0
-IsResultFront x = (IsFrontOf no_byte (codes "1-0") x ⊎ IsFrontOf no_byte (codes "0-1") x) ⊎ IsFrontOf no_byte (codes "1/2-1/2") x
+IsResultFront x = (IsFrontOf no_byte (codes "1-0") x ⊎ IsFrontOf no_byte (codes "0-1") x)
+    ⊎ IsFrontOf no_byte (codes "1/2-1/2") x
 
--- the bytes are the front of a word that begins with no letter; it may be a result where no variation is open
+-- the bytes are the front of a word that begins with no letter; it may be a result where no
+-- variation is open
 abbrev pub IsWordFront : Bool → List ℕ → Type 0
 IsWordFront closed x = IsMoveFront x ⊎ ((closed ≡ true) × IsResultFront x)
 
@@ -67,14 +76,19 @@ is_glyph_front x = list_all is_digit x && (nat_le (length x) 3 && nat_le (number
 
 -- where in a tag the place after one byte more is, if a tag may have it there
 abbrev pub next_in : InTag → ℕ → Option InTag
-next_in BeforeName b = if is_white b then Some BeforeName else (if is_name_byte b then Some Name else None)
+next_in BeforeName b = if is_white b then Some BeforeName
+    else (if is_name_byte b then Some Name else None)
 next_in Name b =
-    if is_name_byte b then Some Name else (if is_white b then Some AfterName else (if b == 34 then Some Contents else None))
-next_in AfterName b = if is_white b then Some AfterName else (if b == 34 then Some Contents else None)
+    if is_name_byte b then Some Name
+    else (if is_white b then Some AfterName else (if b == 34 then Some Contents else None))
+next_in AfterName b = if is_white b then Some AfterName
+    else (if b == 34 then Some Contents else None)
 next_in Contents b =
-    if b == 92 then Some AfterBackslash else (if b == 34 then Some AfterString else (if is_plain b then Some Contents else None))
+    if b == 92 then Some AfterBackslash
+    else (if b == 34 then Some AfterString else (if is_plain b then Some Contents else None))
 next_in AfterBackslash b = if is_plain b then Some Contents else None
-next_in AfterString b = if is_white b then Some AfterString else (if b == 93 then Some Closed else None)
+next_in AfterString b = if is_white b then Some AfterString
+    else (if b == 93 then Some Closed else None)
 next_in Closed b = None
 
 -- the bytes go on from there to the tag's end

@@ -1,6 +1,9 @@
--- A game read part by part: what has to be remembered of the parts before a place, and how a part changes it.
-use Rattle.std.specs.Prelude.{◌≡◌, ℕ, Bool, true, false, ◌&&◌, ◌+◌, ◌-◌, nat_lt, if◌then◌else◌, List, [], ◌∷◌, Option, Some, None, MatchBool}
-use Rattle.pgn_text.specs.Public.Parts.{Part, ByteOrderMark, White, Brace, Line, EscapeLine, Tag, Word, Star, Dot, Glyph, Marks, Open, Close}
+-- A game read part by part: what has to be remembered of the parts before a place, and how a part
+-- changes it.
+use Rattle.std.specs.Prelude.{◌≡◌, ℕ, Bool, true, false, ◌&&◌, ◌+◌, ◌-◌, nat_lt, if◌then◌else◌}
+use Rattle.std.specs.Prelude.{List, [], ◌∷◌, Option, Some, None, MatchBool}
+use Rattle.pgn_text.specs.Public.Parts.{Part, ByteOrderMark, White, Brace, Line, EscapeLine, Tag}
+use Rattle.pgn_text.specs.Public.Parts.{Word, Star, Dot, Glyph, Marks, Open, Close}
 use Rattle.pgn_text.specs.Public.Games.{is_number, is_move_text, is_result}
 
 -- what is remembered of the parts so far
@@ -27,9 +30,11 @@ step max_depth state (White b) = Some state
 step max_depth state (Brace text) = Some state
 step max_depth state (Line text) = Some state
 step max_depth state (EscapeLine text) = Some state
-step max_depth state (Tag first name second contents third) = if state.in_tags then Some state else None
+step max_depth state (Tag first name second contents third) =
+    if state.in_tags then Some state else None
 step max_depth state (Word text) =
-    if is_move_text text then Some (record { in_tags = false; depth = state.depth; has_move = true })
+    if is_move_text text then
+    Some (record { in_tags = false; depth = state.depth; has_move = true })
     else (if is_number text then Some (in_movetext state) else None)
 step max_depth state Star = None
 step max_depth state Dot = Some (in_movetext state)

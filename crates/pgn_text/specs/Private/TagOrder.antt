@@ -7,7 +7,8 @@ use Rattle.std.specs.Cmp.Lexicographic.{slice_cmp}
 
 -- the contents that the map of tags has under the wanted name
 abbrev pub tag_at : BTreeMap (Bor (List ℕ)) (Bor (List ℕ)) → List ℕ → Option (List ℕ)
-tag_at tags wanted = option_map (λ contents. contents.now) (get_by (λ name. slice_cmp nat_cmp wanted name.now) tags)
+tag_at tags wanted =
+    option_map (λ contents. contents.now) (get_by (λ name. slice_cmp nat_cmp wanted name.now) tags)
 
 -- the names of a map of tags ascend
 abbrev pub AreOrdered : BTreeMap (Bor (List ℕ)) (Bor (List ℕ)) → Type 0

@@ -1,17 +1,24 @@
 -- The values of the lexer's types, as the definitions of `Reading` see them.
-use Rattle.std.specs.Prelude.{◌≡◌, ◌≤◌, ◌-◌, ℕ, Bool, false, List, length, take, drop, Option, Some, None, MatchOption}
+use Rattle.std.specs.Prelude.{◌≡◌, ◌≤◌, ◌-◌, ℕ, Bool, false, List, length, take, drop, Option, Some}
+use Rattle.std.specs.Prelude.{None, MatchOption}
 use Rattle.std.specs.Borrow.{Bor}
-use Rattle.pgn_text.specs.Public.Bytes.{is_white, is_digit, is_letter, is_name_byte, is_word_byte, is_mark, run_of, after_run}
+use Rattle.pgn_text.specs.Public.Bytes.{is_white, is_digit, is_letter, is_name_byte, is_word_byte}
+use Rattle.pgn_text.specs.Public.Bytes.{is_mark, run_of, after_run}
 use Rattle.pgn_text.specs.Public.Parts.{Standing as StandingOf}
-use Rattle.pgn_text.specs.Private.Reading.{is_single, Kept, KeptGap, KeptComment, KeptTag, KeptMove, KeptNumber, KeptResult, KeptStray, KeptDot, KeptGlyph, KeptMarks, KeptOpen, KeptClose}
+use Rattle.pgn_text.specs.Private.Reading.{is_single, Kept, KeptGap, KeptComment, KeptTag, KeptMove}
+use Rattle.pgn_text.specs.Private.Reading.{KeptNumber, KeptResult, KeptStray, KeptDot, KeptGlyph}
+use Rattle.pgn_text.specs.Private.Reading.{KeptMarks, KeptOpen, KeptClose}
 use Rattle.pgn_text.specs.Shared.StringTexts.{contents_front}
 use Rattle.pgn_text.specs.Private.Steps.{State}
 use Rattle.pgn_text.specs.declared.lex.class.ByteClass.{ByteClass}
-use Rattle.pgn_text.specs.declared.lex.class.ByteClass.TheVariants.{White, Digit, Letter, Name, Word, Mark, Single}
+use Rattle.pgn_text.specs.declared.lex.class.ByteClass.TheVariants.{White, Digit, Letter, Name}
+use Rattle.pgn_text.specs.declared.lex.class.ByteClass.TheVariants.{Word, Mark, Single}
 use Rattle.pgn_text.specs.declared.game.progress.Progress.{Progress}
 use Rattle.pgn_text.specs.declared.lex.scan.Standing.{Standing}
 use Rattle.pgn_text.specs.declared.lex.token.Token.{Token}
-use Rattle.pgn_text.specs.declared.lex.token.Token.TheVariants.{Gap, Comment, Tag, Move, Number, Result, Stray, Dot, Glyph, Marks, Open, Close}
+use Rattle.pgn_text.specs.declared.lex.token.Token.TheVariants.{Gap, Comment, Tag, Move, Number}
+use Rattle.pgn_text.specs.declared.lex.token.Token.TheVariants.{Result, Stray, Dot, Glyph, Marks}
+use Rattle.pgn_text.specs.declared.lex.token.Token.TheVariants.{Open, Close}
 
 -- the test of a class
 abbrev pub test_of : ByteClass → ℕ → Bool
@@ -42,13 +49,16 @@ pub record RunTo (test : ℕ → Bool) (block : List ℕ) (from end : ℕ) : Typ
 
 -- the longest contents of a string from the place `from` of a block reach to the place `end`
 pub record ContentsTo (block : List ℕ) (from end : ℕ) : Type 0 where
-  pub found : contents_front false (drop from block) ≡ Some (take (end - from) (drop from block), drop end block)
+  pub found : contents_front false (drop from block)
+      ≡ Some (take (end - from) (drop from block), drop end block)
   pub forward : from ≤ end
   pub within : end ≤ length block
 
 -- the place after the longest contents of a string from a place on, or none
 abbrev pub EndsContents : List ℕ → ℕ → Option ℕ → Type 0
-EndsContents block from found = MatchOption found (contents_front false (drop from block) ≡ None) (λ end. ContentsTo block from end)
+EndsContents block from found =
+    MatchOption found (contents_front false (drop from block)
+    ≡ None) (λ end. ContentsTo block from end)
 
 -- what a token keeps of a part
 abbrev pub token_of : Token → Kept
@@ -69,11 +79,13 @@ token_of Close = KeptClose
 abbrev pub found_of : Token × Bor (List ℕ) → Kept × List ℕ
 found_of found = (token_of found.0, found.1.now)
 
--- what a game keeps of a tag that was found in a block, by its name, its contents and the place after it, and the text after it
+-- what a game keeps of a tag that was found in a block, by its name, its contents and the place
+-- after it, and the text after it
 abbrev pub tag_of : List ℕ → Bor (List ℕ) × Bor (List ℕ) × ℕ → Kept × List ℕ
 tag_of block found = (KeptTag found.0.now found.1.now, drop found.2 block)
 
--- what a game keeps of a glyph that was found in a block, by its number and the place after it, and the text after it
+-- what a game keeps of a glyph that was found in a block, by its number and the place after it, and
+-- the text after it
 abbrev pub glyph_of : List ℕ → ℕ × ℕ → Kept × List ℕ
 glyph_of block found = (KeptGlyph found.0, drop found.1 block)
 
@@ -87,4 +99,5 @@ now_of text = text.now
 
 -- how far a game has been read, as the definitions see it
 abbrev pub state_of : Progress → State
-state_of progress = record { in_tags = progress.in_tags; depth = progress.depth; has_move = progress.has_move }
+state_of progress =
+    record { in_tags = progress.in_tags; depth = progress.depth; has_move = progress.has_move }

@@ -1,5 +1,7 @@
--- Classes of bytes, and what a longest run is. A byte is a number below 256; letters and digits are those of ASCII.
-use Rattle.std.specs.Prelude.{ℕ, Bool, true, false, not, ◌&&◌, ◌||◌, ◌==◌, ◌-◌, nat_le, List, [], ◌∷◌, length, slice_index, if◌then◌else◌}
+-- Classes of bytes, and what a longest run is. A byte is a number below 256; letters and digits are
+-- those of ASCII.
+use Rattle.std.specs.Prelude.{ℕ, Bool, true, false, not, ◌&&◌, ◌||◌, ◌==◌, ◌-◌, nat_le, List, []}
+use Rattle.std.specs.Prelude.{◌∷◌, length, slice_index, if◌then◌else◌}
 
 -- the number is a byte
 abbrev pub is_byte : ℕ → Bool
@@ -23,7 +25,8 @@ is_name_byte b = (is_letter b || is_digit b) || b == 95
 
 -- a byte of a word: that of a name, or one of + # = : - /
 abbrev pub is_word_byte : ℕ → Bool
-is_word_byte b = is_name_byte b || ((b == 43 || b == 35) || (b == 61 || b == 58)) || (b == 45 || b == 47)
+is_word_byte b = is_name_byte b || ((b == 43 || b == 35) || (b == 61 || b == 58))
+    || (b == 45 || b == 47)
 
 -- a suffix mark: ! or ?
 abbrev pub is_mark : ℕ → Bool
@@ -54,7 +57,8 @@ abbrev pub is_empty : {X : Type 0} → List X → Bool
 is_empty [] = true
 is_empty (x ∷ xs) = false
 
--- the text ends here, or goes on with a byte that fails the test: so a run of bytes before it is as long as it can be
+-- the text ends here, or goes on with a byte that fails the test: so a run of bytes before it is as
+-- long as it can be
 abbrev pub stops : (ℕ → Bool) → List ℕ → Bool
 stops test [] = true
 stops test (b ∷ rest) = not (test b)

@@ -2,7 +2,8 @@
 use Rattle.std.specs.Prelude.{ℕ, List, map}
 use Rattle.std.specs.Borrow.{Bor}
 use Rattle.std.specs.BTreeMap.{BTreeMap}
-use Rattle.pgn_text.specs.Public.Games.{Item, MoveText, GlyphNumber, CommentText, VariationOpen, VariationClose}
+use Rattle.pgn_text.specs.Public.Games.{Item, MoveText, GlyphNumber, CommentText, VariationOpen}
+use Rattle.pgn_text.specs.Public.Games.{VariationClose}
 use Rattle.pgn_text.specs.declared.game.Element.{Element}
 use Rattle.pgn_text.specs.declared.game.Element.TheVariants.{Move, Glyph, Comment, Open, Close}
 

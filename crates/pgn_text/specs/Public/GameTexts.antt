@@ -1,5 +1,6 @@
 -- A game as its reader hands it out.
-use Rattle.std.specs.Prelude.{◌≡◌, ◌⊎◌, ℕ, ◌+◌, ◌-◌, ◌<◌, List, [], ◌∷◌, map, bytes_eq, codes, if◌then◌else◌, Option, Some, None, IsTrue}
+use Rattle.std.specs.Prelude.{◌≡◌, ◌⊎◌, ℕ, ◌+◌, ◌-◌, ◌<◌, List, [], ◌∷◌, map, bytes_eq, codes}
+use Rattle.std.specs.Prelude.{if◌then◌else◌, Option, Some, None, IsTrue}
 use Rattle.std.specs.List.{list_all}
 use Rattle.std.specs.List.Sorted.{IsStrictlySortedBy}
 use Rattle.std.specs.Ordering.{nat_cmp}
@@ -7,9 +8,11 @@ use Rattle.std.specs.Cmp.Lexicographic.{slice_cmp}
 use Rattle.pgn_text.specs.Public.Bytes.{is_name_byte}
 use Rattle.pgn_text.specs.Public.Parts.{Part, spelled}
 use Rattle.pgn_text.specs.Public.Strings.{IsContents}
-use Rattle.pgn_text.specs.Public.Games.{Item, MoveText, GlyphNumber, CommentText, VariationOpen, VariationClose, items_of, first_tag, result_of}
+use Rattle.pgn_text.specs.Public.Games.{Item, MoveText, GlyphNumber, CommentText, VariationOpen}
+use Rattle.pgn_text.specs.Public.Games.{VariationClose, items_of, first_tag, result_of}
 
--- a game: its place in the block, its bytes as they stand there, its tags by their names, its elements and its result
+-- a game: its place in the block, its bytes as they stand there, its tags by their names, its
+-- elements and its result
 pub record GameText : Type 0 where
   pub at : ℕ
   pub text : List ℕ
@@ -41,14 +44,18 @@ HoldStrings tags = (name contents : List ℕ) → tag_in name tags ≡ Some cont
 
 -- each name under which something stands is made of the bytes of names
 abbrev pub HaveNames : List (List ℕ × List ℕ) → Type 0
-HaveNames tags = (name contents : List ℕ) → tag_in name tags ≡ Some contents → IsTrue (list_all is_name_byte name)
+HaveNames tags = (name contents : List ℕ) → tag_in name tags ≡ Some contents
+    → IsTrue (list_all is_name_byte name)
 
 -- a result (PGN 8.2.6)
 abbrev pub IsResult : List ℕ → Type 0
-IsResult result = (result ≡ codes "1-0") ⊎ (result ≡ codes "0-1") ⊎ (result ≡ codes "1/2-1/2") ⊎ (result ≡ codes "*")
+IsResult result = (result ≡ codes "1-0") ⊎ (result ≡ codes "0-1") ⊎ (result ≡ codes "1/2-1/2")
+    ⊎ (result ≡ codes "*")
 
--- what holds of each game that is handed out: the names of its tags ascend in the order of their bytes, so none is there twice, and are made
--- of the bytes of names, its tags hold contents of strings, its variations are paired, and its result is one of the four
+-- what holds of each game that is handed out: the names of its tags ascend in the order of their
+-- bytes, so none is there twice, and are made
+-- of the bytes of names, its tags hold contents of strings, its variations are paired, and its
+-- result is one of the four
 pub record IsGameText (game : GameText) : Type 0 where
   pub ordered : IsStrictlySortedBy (slice_cmp nat_cmp) (tag_names game.tags)
   pub strings : HoldStrings game.tags
@@ -56,7 +63,8 @@ pub record IsGameText (game : GameText) : Type 0 where
   pub paired : IsPaired 0 game.elements
   pub ends : IsResult game.result
 
--- the game is the one that these parts make at this place: its bytes are theirs, of each name it has the first tag, and its elements and result
+-- the game is the one that these parts make at this place: its bytes are theirs, of each name it
+-- has the first tag, and its elements and result
 -- are theirs
 pub record ShowsGame (game : GameText) (at : ℕ) (parts : List Part) : Type 0 where
   pub place : game.at ≡ at

@@ -1,8 +1,12 @@
 -- Which parts make a game, and what is read off them (PGN 8.1, 8.2, 8.2.5, 8.2.6, 10).
-use Rattle.std.specs.Prelude.{◌≡◌, ℕ, Bool, true, false, not, ◌&&◌, ◌||◌, ◌==◌, ◌-◌, ◌≤◌, ◌↔◌, if◌then◌else◌, List, [], ◌∷◌, ◌++◌, flat_map, drop, count_by, bytes_eq, codes, nat_eq, Option, Some, None, IsTrue}
+use Rattle.std.specs.Prelude.{◌≡◌, ℕ, Bool, true, false, not, ◌&&◌, ◌||◌, ◌==◌, ◌-◌, ◌≤◌, ◌↔◌}
+use Rattle.std.specs.Prelude.{if◌then◌else◌, List, [], ◌∷◌, ◌++◌, flat_map, drop, count_by}
+use Rattle.std.specs.Prelude.{bytes_eq, codes, nat_eq, Option, Some, None, IsTrue}
 use Rattle.std.specs.List.{list_all, starts_with}
 use Rattle.pgn_text.specs.Public.Bytes.{is_digit, is_letter, is_check_mark, is_empty, begins}
-use Rattle.pgn_text.specs.Public.Parts.{Part, ByteOrderMark, White, Brace, Line, EscapeLine, Tag, Word, Star, Dot, Glyph, Marks, Open, Close, spelled_part, number_of, AllStand}
+use Rattle.pgn_text.specs.Public.Parts.{Part, ByteOrderMark, White, Brace, Line, EscapeLine, Tag}
+use Rattle.pgn_text.specs.Public.Parts.{Word, Star, Dot, Glyph, Marks, Open, Close, spelled_part}
+use Rattle.pgn_text.specs.Public.Parts.{number_of, AllStand}
 
 -- a word of digits only is a move number (PGN 8.2.2)
 abbrev pub is_number : List ℕ → Bool
@@ -10,7 +14,8 @@ is_number word = not (is_empty word) && list_all is_digit word
 
 -- a word that is a result (PGN 8.2.6)
 abbrev pub is_result_word : List ℕ → Bool
-is_result_word word = bytes_eq word (codes "1-0") || bytes_eq word (codes "0-1") || bytes_eq word (codes "1/2-1/2")
+is_result_word word = bytes_eq word (codes "1-0") || bytes_eq word (codes "0-1")
+    || bytes_eq word (codes "1/2-1/2")
 
 -- castling written with zeros, and then any number of + and #
 abbrev pub is_zero_castling : List ℕ → Bool
@@ -22,7 +27,8 @@ is_zero_castling word =
 abbrev pub is_move_text : List ℕ → Bool
 is_move_text word = begins is_letter word || is_zero_castling word || bytes_eq word (codes "--")
 
--- the part may stand in a gap between games: white space, a comment, an escape line or a byte order mark
+-- the part may stand in a gap between games: white space, a comment, an escape line or a byte order
+-- mark
 abbrev pub is_gap_part : Part → Bool
 is_gap_part ByteOrderMark = true
 is_gap_part (White b) = true
@@ -82,7 +88,8 @@ Each P xs = EachFrom P [] xs
 abbrev pub depth_after : List Part → ℕ
 depth_after front = count_by is_open front - count_by is_close front
 
--- a move stands before this place in its own line: at the same depth, and nothing between them has a smaller depth
+-- a move stands before this place in its own line: at the same depth, and nothing between them has
+-- a smaller depth
 pub record MoveInLine (front : List Part) : Type 0 where
   pub earlier : List Part
   pub move : Part
@@ -90,7 +97,8 @@ pub record MoveInLine (front : List Part) : Type 0 where
   pub parted : front ≡ earlier ++ move ∷ later
   pub is_move : IsTrue (is_move move)
   pub same_depth : depth_after earlier ≡ depth_after front
-  pub one_line : (some more : List Part) → later ≡ some ++ more → depth_after front ≤ depth_after (earlier ++ move ∷ some)
+  pub one_line : (some more : List Part) → later ≡ some ++ more
+      → depth_after front ≤ depth_after (earlier ++ move ∷ some)
 
 -- there is a first part, and it is not one of a gap
 abbrev pub begins_outside_gap : List Part → Bool
@@ -98,19 +106,22 @@ begins_outside_gap [] = false
 begins_outside_gap (part ∷ back) = not (is_gap_part part)
 
 -- the parts are a game between the bytes `before` and `after` of a block
-pub record IsGame (max_depth : ℕ) (file_start : Bool) (before : List ℕ) (parts : List Part) (after : List ℕ) : Type 0 where
+pub record IsGame (max_depth : ℕ) (file_start : Bool) (before : List ℕ) (parts : List Part)
+    (after : List ℕ) : Type 0 where
   -- each part may stand where it does
   pub stand : AllStand file_start before parts after
   -- the game's first byte is not part of a gap
   pub begins : IsTrue (begins_outside_gap parts)
   -- before a tag stand only tags and what a gap may have
-  pub tags_first : Each (λ front part back. IsTrue (is_tag part) → IsTrue (list_all (λ p. is_tag p || is_gap_part p) front)) parts
+  pub tags_first : Each (λ front part back. IsTrue (is_tag part)
+      → IsTrue (list_all (λ p. is_tag p || is_gap_part p) front)) parts
   -- the last part is a result, and no other part is
   pub result_last : Each (λ front part back. IsTrue (is_result part) ↔ (back ≡ [])) parts
   -- each word is a number, a result or a move
   pub meant : IsTrue (list_all is_meant parts)
   -- a variation is ended only where one is open
-  pub closed_were_open : Each (λ front part back. count_by is_close front ≤ count_by is_open front) parts
+  pub closed_were_open : Each (λ front part back. count_by is_close front
+      ≤ count_by is_open front) parts
   -- variations nest no deeper than the limit
   pub depth : Each (λ front part back. depth_after front ≤ max_depth) parts
   -- all variations are ended before the result
@@ -139,11 +150,13 @@ abbrev pub double_mark : ℕ → ℕ → ℕ
 double_mark first second =
     if first == 33 then (if second == 33 then 3 else 5) else (if second == 33 then 6 else 4)
 
--- the glyphs of a run of marks, which is cut into pairs from the left; a last one alone is a single mark
+-- the glyphs of a run of marks, which is cut into pairs from the left; a last one alone is a single
+-- mark
 abbrev pub glyphs_of_marks : List ℕ → List Item
 glyphs_of_marks [] = []
 glyphs_of_marks (mark ∷ []) = GlyphNumber (single_mark mark) ∷ []
-glyphs_of_marks (first ∷ second ∷ more) = GlyphNumber (double_mark first second) ∷ glyphs_of_marks more
+glyphs_of_marks (first ∷ second ∷ more) =
+    GlyphNumber (double_mark first second) ∷ glyphs_of_marks more
 
 -- the elements that a part gives
 abbrev pub items_of_part : Part → List Item

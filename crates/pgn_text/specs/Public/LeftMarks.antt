@@ -17,7 +17,8 @@ abbrev pub mark_place : PieceStart → ℕ
 mark_place (Game place) = place
 mark_place (Unreadable place) = place
 
--- a call gave the mark of the first of the pieces left: whatever pieces are left after it, with it in front they are those that were left before
+-- a call gave the mark of the first of the pieces left: whatever pieces are left after it, with it
+-- in front they are those that were left before
 pub record TakesMark (max_depth : ℕ) (old new : Left) (mark : PieceStart) : Type 0 where
   pub shown : spec.Piece
   pub is : IsMark mark shown
@@ -25,7 +26,8 @@ pub record TakesMark (max_depth : ℕ) (old new : Left) (mark : PieceStart) : Ty
   pub starts : mark_place mark < new.at
   pub within : new.at ≤ length new.block
   pub same : (new.block ≡ old.block) × (new.file_start ≡ old.file_start) × (new.failed ≡ old.failed)
-  pub completes : (more : List spec.Piece) → ArePiecesLeft max_depth new more → ArePiecesLeft max_depth old (shown ∷ more)
+  pub completes : (more : List spec.Piece) → ArePiecesLeft max_depth new more
+      → ArePiecesLeft max_depth old (shown ∷ more)
 
 -- what a call of `next` did, by its answer: the end comes where no piece is left
 abbrev pub GivesMark : ℕ → Left → Option PieceStart → Left → Type 0

@@ -1,4 +1,5 @@
--- The limits of texts. Every definition takes those of blocks and of nesting as values; contracts name them by these words.
+-- The limits of texts. Every definition takes those of blocks and of nesting as values; contracts
+-- name them by these words.
 use Rattle.std.specs.Prelude.{ℕ, ◌+◌, ◌^◌}
 
 -- the most bytes that a block may have and still be read

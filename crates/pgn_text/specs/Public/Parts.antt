@@ -1,7 +1,11 @@
--- The parts of a text, and where each may stand (PGN 5 comments, 6 escape lines, 7 tokens, 8.1 tags, 8.2 movetext).
-use Rattle.std.specs.Prelude.{ℕ, Bool, not, ◌&&◌, ◌||◌, ◌+◌, ◌*◌, ◌-◌, nat_le, List, [], ◌∷◌, ◌++◌, flat_map, length, bytes_eq, IsTrue}
+-- The parts of a text, and where each may stand (PGN 5 comments, 6 escape lines, 7 tokens, 8.1
+-- tags, 8.2 movetext).
+use Rattle.std.specs.Prelude.{ℕ, Bool, not, ◌&&◌, ◌||◌, ◌+◌, ◌*◌, ◌-◌, nat_le, List, [], ◌∷◌, ◌++◌}
+use Rattle.std.specs.Prelude.{flat_map, length, bytes_eq, IsTrue}
 use Rattle.std.specs.List.{list_all}
-use Rattle.pgn_text.specs.Public.Bytes.{is_white, is_digit, is_name_byte, is_word_byte, is_mark, is_not_line_feed, is_not_brace, ends_in_line_feed, is_empty, stops}
+use Rattle.pgn_text.specs.Public.Bytes.{is_white, is_digit, is_name_byte, is_word_byte, is_mark}
+use Rattle.pgn_text.specs.Public.Bytes.{is_not_line_feed, is_not_brace, ends_in_line_feed, is_empty}
+use Rattle.pgn_text.specs.Public.Bytes.{stops}
 use Rattle.pgn_text.specs.Public.Strings.{IsContents}
 
 -- a part of a text, with its bytes
@@ -14,7 +18,8 @@ pub data Part : Type 0 where
   Brace : List ℕ → Part
   -- a comment from a semicolon to the end of its line, without the line feed (PGN 5)
   Line : List ℕ → Part
-  -- an escape line, from a percent sign in column one to the end of its line, without the line feed (PGN 6)
+  -- an escape line, from a percent sign in column one to the end of its line, without the line feed
+  -- (PGN 6)
   EscapeLine : List ℕ → Part
   -- a tag: white space, its name, white space, its string's contents, white space (PGN 8.1.1)
   Tag : List ℕ → List ℕ → List ℕ → List ℕ → List ℕ → Part
@@ -62,7 +67,8 @@ number_from n (d ∷ digits) = number_from (10 * n + (d - 48)) digits
 abbrev pub number_of : List ℕ → ℕ
 number_of digits = number_from 0 digits
 
--- the place after these bytes of a block is in column one: after a line feed, or at the start of the file or after a byte order
+-- the place after these bytes of a block is in column one: after a line feed, or at the start of
+-- the file or after a byte order
 -- mark there (`file_start` says that the block is at the start of the file)
 abbrev pub is_column_one : Bool → List ℕ → Bool
 is_column_one file_start before =
@@ -78,7 +84,12 @@ pub record Standing : Type 0 where
 
 -- how a part stands after these bytes of a block
 abbrev pub standing_of : Bool → List ℕ → Standing
-standing_of file_start before = record { file_start = file_start && is_empty before; column_one = is_column_one file_start before }
+standing_of file_start before =
+    record {
+      file_start = file_start && is_empty before;
+      column_one =
+          is_column_one file_start before;
+    }
 
 -- the part may stand so, with those bytes after it
 abbrev pub Stands : Standing → Part → List ℕ → Type 0
@@ -88,21 +99,26 @@ Stands place (White b) after = IsTrue (is_white b)
 -- a brace comment ends at the first closing brace: it doesn't nest
 Stands place (Brace text) after = IsTrue (list_all is_not_brace text)
 -- a line comment ends where its line does
-Stands place (Line text) after = IsTrue (list_all is_not_line_feed text) × IsTrue (stops is_not_line_feed after)
+Stands place (Line text) after = IsTrue (list_all is_not_line_feed text)
+    × IsTrue (stops is_not_line_feed after)
 -- an escape line stands in column one only, and ends where its line does
 Stands place (EscapeLine text) after =
-    IsTrue place.column_one × IsTrue (list_all is_not_line_feed text) × IsTrue (stops is_not_line_feed after)
+    IsTrue place.column_one × IsTrue (list_all is_not_line_feed text)
+    × IsTrue (stops is_not_line_feed after)
 Stands place (Tag first name second contents third) after =
-    IsTrue (list_all is_white first) × IsTrue (not (is_empty name)) × IsTrue (list_all is_name_byte name)
+    IsTrue (list_all is_white first) × IsTrue (not (is_empty name))
+    × IsTrue (list_all is_name_byte name)
     × IsTrue (list_all is_white second) × IsContents contents × IsTrue (list_all is_white third)
 -- a word is not cut short
 Stands place (Word text) after =
-    IsTrue (not (is_empty text)) × IsTrue (list_all is_word_byte text) × IsTrue (stops is_word_byte after)
+    IsTrue (not (is_empty text)) × IsTrue (list_all is_word_byte text)
+    × IsTrue (stops is_word_byte after)
 Stands place Star after = Unit {0}
 Stands place Dot after = Unit {0}
 -- a glyph has one to three digits, which write at most 255, and no digit follows
 Stands place (Glyph digits) after =
-    IsTrue (not (is_empty digits)) × IsTrue (list_all is_digit digits) × IsTrue (nat_le (length digits) 3)
+    IsTrue (not (is_empty digits)) × IsTrue (list_all is_digit digits)
+    × IsTrue (nat_le (length digits) 3)
     × IsTrue (nat_le (number_of digits) 255) × IsTrue (stops is_digit after)
 -- a run of marks is not cut short
 Stands place (Marks marks) after =
@@ -110,7 +126,8 @@ Stands place (Marks marks) after =
 Stands place Open after = Unit {0}
 Stands place Close after = Unit {0}
 
--- each part may stand where those before it put it; `before` and `after` are the bytes round all of them
+-- each part may stand where those before it put it; `before` and `after` are the bytes round all of
+-- them
 abbrev pub AllStand : Bool → List ℕ → List Part → List ℕ → Type 0
 AllStand file_start before [] after = Unit {0}
 AllStand file_start before (part ∷ back) after =

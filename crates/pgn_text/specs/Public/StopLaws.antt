@@ -16,7 +16,8 @@ EachTextStopsOnce =
 abbrev pub FrontsOfGameFronts : Type 0
 FrontsOfGameFronts =
     (max_depth : ℕ) (file_start : Bool) (before front more : List ℕ)
-    → IsGameFront max_depth file_start before (front ++ more) → IsGameFront max_depth file_start before front
+    → IsGameFront max_depth file_start before (front ++ more)
+    → IsGameFront max_depth file_start before front
 
 -- a text that begins with a game stops after it
 abbrev pub StopsAfterGame : Type 0
@@ -29,13 +30,16 @@ StopsAfterGame =
 abbrev pub StopsAfterChange : Type 0
 StopsAfterChange =
     (max_depth : ℕ) (file_start : Bool) (before game text : List ℕ) (change place : ℕ)
-    → IsGameFront max_depth file_start before game → take change text ≡ take change game → change ≤ length text
+    → IsGameFront max_depth file_start before game → take change text ≡ take change game
+    → change ≤ length text
     → IsLongestViablePrefix max_depth file_start before text place → change ≤ place
 
--- bytes of a block that are no game stop by themselves where they do in the block, so nothing that stands before them is needed
+-- bytes of a block that are no game stop by themselves where they do in the block, so nothing that
+-- stands before them is needed
 abbrev pub UnreadableStopsAlone : Type 0
 UnreadableStopsAlone =
-    (max_depth offset : ℕ) (block : List ℕ) (before : List Piece) (at : ℕ) (bytes : List ℕ) (after : List Piece) (place : ℕ)
+    (max_depth offset : ℕ) (block : List ℕ) (before : List Piece) (at : ℕ) (bytes : List ℕ)
+    (after : List Piece) (place : ℕ)
     → ArePieces max_depth (offset == 0) [] (before ++ Unreadable at bytes ∷ after) block
     → IsLongestViablePrefix max_depth (offset == 0) (take at block) (drop at block) place
     → IsLongestViablePrefix max_depth ((offset + at) == 0) [] bytes place

@@ -4,7 +4,9 @@ ghost use Rattle.std.specs.Prelude.{◌≡◌, ◌+◌, ◌<◌, ◌≤◌, ◌�
 ghost use Rattle.pgn_text.specs.Private.ErrorPosition.{FrontWithin, IsReached};
 ghost use Rattle.pgn_text.specs.Public.Bytes.{is_check_mark};
 ghost use Rattle.pgn_text.specs.Public.Limits.{depth_limit};
-ghost use Rattle.pgn_text.specs.Private.PartFronts.{Longest, IsPartFront, IsTagFront, IsWordFront, NoneFollows, front_length, is_glyph_front, next_in, no_byte};
+ghost use Rattle.pgn_text.specs.Private.PartFronts.{Longest, IsPartFront, IsTagFront, IsWordFront};
+ghost use Rattle.pgn_text.specs.Private.PartFronts.{NoneFollows, front_length, is_glyph_front};
+ghost use Rattle.pgn_text.specs.Private.PartFronts.{next_in, no_byte};
 ghost use Rattle.pgn_text.specs.Public.Parts.{standing_of};
 ghost use Rattle.pgn_text.specs.Public.StopPlaces.{StandsWithin, tag_name_of};
 ghost use Rattle.pgn_text.specs.Public.Stops.{IsErrorPosition};
@@ -42,7 +44,8 @@ fn castling_stop(text: &[u8], word: &[u8]) -> usize
     count
 }
 
-/// How many of the text's first bytes a word that begins with no letter may have; `closed` says that a result may stand here.
+/// How many of the text's first bytes a word that begins with no letter may have; `closed` says
+/// that a result may stand here.
 fn word_stop(text: &[u8], closed: bool) -> usize
     ensures { Longest (IsWordFront closed) text.now result }
 {
@@ -129,11 +132,15 @@ fn glyph_stop(text: &[u8]) -> usize
     count
 }
 
-/// How many bytes at the place of the block one part may have that the game may go on with, where no whole part does.
+/// How many bytes at the place of the block one part may have that the game may go on with, where
+/// no whole part does.
 fn part_stop(block: &[u8], at: usize, file_start: bool, progress: Progress) -> usize
     requires place { at ≤ length block.now }
-    requires stuck { NoneFollows depth_limit (standing_of file_start (take at block.now)) (state_of progress) (drop at block.now) }
-    ensures { Longest (IsPartFront depth_limit (standing_of file_start (take at block.now)) (state_of progress)) (drop at block.now) result }
+    requires stuck { NoneFollows depth_limit (standing_of file_start (take at block.now)) (state_of progress)
+        (drop at block.now) }
+    ensures { Longest
+        (IsPartFront depth_limit (standing_of file_start (take at block.now)) (state_of progress))
+        (drop at block.now) result }
 {
     let text = &block[at..];
     let Some((first, rest)) = text.split_first() else {
@@ -249,7 +256,8 @@ pub struct Stop {
     pub within: Within,
 }
 
-/// The place of the block up to which its bytes from `begin` on are the front of a gap and a game, no more of them are, and what
+/// The place of the block up to which its bytes from `begin` on are the front of a gap and a game,
+/// no more of them are, and what
 /// it stands in.
 pub fn locate_error(block: &[u8], begin: usize, file_start: bool) -> Stop
     requires { begin ≤ length block.now }
@@ -271,7 +279,8 @@ pub fn locate_error(block: &[u8], begin: usize, file_start: bool) -> Stop
     }
 }
 
-/// The place of the block up to which its bytes from `begin` on are the front of a gap and a game; no more of them are.
+/// The place of the block up to which its bytes from `begin` on are the front of a gap and a game;
+/// no more of them are.
 pub fn error_position_of(block: &[u8], begin: usize, file_start: bool) -> usize
     requires { begin ≤ length block.now }
     ensures { IsErrorPosition depth_limit file_start block.now begin result }

@@ -8,7 +8,8 @@ ghost use Rattle.pgn_text.specs.Private.Tokens.{token_of};
 use crate::lex::place::part_at;
 use crate::lex::token::Token;
 
-/// How many elements the part gives: a run of `!` and `?` gives one for each two, and one for a last mark alone.
+/// How many elements the part gives: a run of `!` and `?` gives one for each two, and one for a
+/// last mark alone.
 fn element_count(token: Token<'_>) -> usize
     ensures { result ≡ length (items_of_kept (token_of token.entry)) }
 {

@@ -34,14 +34,22 @@ impl<'a> Model for Games<'a> {
 
     ghost Value = { Left };
 
-    ghost view = { λ games. record { block = games.block.now; file_start = games.file_start; at = games.at; failed = games.failed } };
+    ghost view = { λ games.
+        record {
+          block = games.block.now;
+          file_start = games.file_start;
+          at = games.at;
+          failed =
+              games.failed;
+        } };
 
     ghost invariant = { λ games. games.at ≤ length games.block.now };
 }
 
 impl<'a> Games<'a> {
     pub(crate) fn new(alloc: Global, block: &'a [u8], file_start: bool) -> Self
-        ensures { result ≡ record { block = block.now; file_start = file_start; at = 0; failed = false } }
+        ensures { result
+            ≡ record { block = block.now; file_start = file_start; at = 0; failed = false } }
     {
         Games {
             alloc,
@@ -114,14 +122,22 @@ impl<'a> Model for Marks<'a> {
 
     ghost Value = { Left };
 
-    ghost view = { λ marks. record { block = marks.block.now; file_start = marks.file_start; at = marks.at; failed = false } };
+    ghost view = { λ marks.
+        record {
+          block = marks.block.now;
+          file_start = marks.file_start;
+          at = marks.at;
+          failed =
+              false;
+        } };
 
     ghost invariant = { λ marks. marks.at ≤ length marks.block.now };
 }
 
 impl<'a> Marks<'a> {
     pub(crate) fn new(block: &'a [u8], file_start: bool) -> Self
-        ensures { result ≡ record { block = block.now; file_start = file_start; at = 0; failed = false } }
+        ensures { result
+            ≡ record { block = block.now; file_start = file_start; at = 0; failed = false } }
     {
         Marks {
             block,

@@ -52,7 +52,8 @@ impl Progress {
     /// Goes on after a move.
     #[inline(always)]
     pub(crate) fn pass_move(&mut self)
-        ensures { state_of self.new ≡ record { in_tags = false; depth = self.old.depth; has_move = true } }
+        ensures { state_of self.new
+            ≡ record { in_tags = false; depth = self.old.depth; has_move = true } }
     {
         self.in_tags = false;
         self.has_move = true;
@@ -61,7 +62,8 @@ impl Progress {
     /// Goes on in a variation, if one may begin here.
     #[inline(always)]
     pub(crate) fn open(&mut self) -> bool
-        ensures { Steps result (state_of self.new) (step_kept depth_limit (state_of self.old) KeptOpen) }
+        ensures { Steps result (state_of self.new)
+            (step_kept depth_limit (state_of self.old) KeptOpen) }
     {
         if self.has_move && self.depth < MAX_DEPTH {
             self.in_tags = false;
@@ -76,7 +78,8 @@ impl Progress {
     /// Goes on after a variation, if one may end here.
     #[inline(always)]
     pub(crate) fn close(&mut self) -> bool
-        ensures { Steps result (state_of self.new) (step_kept depth_limit (state_of self.old) KeptClose) }
+        ensures { Steps result (state_of self.new)
+            (step_kept depth_limit (state_of self.old) KeptClose) }
     {
         if self.depth > 0 {
             self.in_tags = false;
@@ -91,7 +94,8 @@ impl Progress {
     /// Goes on after the part, if it may stand here. A result is no such part.
     #[inline(always)]
     pub(crate) fn step(&mut self, token: Token<'_>) -> bool
-        ensures { Steps result (state_of self.new) (step_kept depth_limit (state_of self.old) (token_of token.entry)) }
+        ensures { Steps result (state_of self.new)
+            (step_kept depth_limit (state_of self.old) (token_of token.entry)) }
     {
         match token {
             Token::Gap | Token::Comment(_) => true,

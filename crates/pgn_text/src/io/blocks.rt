@@ -1,5 +1,7 @@
 //! The blocks of a text: from its begin or an event line to the next event line or the end.
-ghost use Rattle.std.specs.Prelude.{◌≡◌, ◌≢◌, ◌↔◌, ◌⊎◌, ℕ, ◌+◌, ◌-◌, ◌^◌, ◌<◌, ◌≤◌, true, false, List, [], ◌++◌, length, take, drop, IsTrue, IfOk, IfErr, IsErrOf};
+ghost use Rattle.std.specs.Prelude.{◌≡◌, ◌≢◌, ◌↔◌, ◌⊎◌, ℕ, ◌+◌, ◌-◌, ◌^◌, ◌<◌, ◌≤◌, true, false};
+ghost use Rattle.std.specs.Prelude.{List, [], ◌++◌, length, take, drop, IsTrue, IfOk, IfErr};
+ghost use Rattle.std.specs.Prelude.{IsErrOf};
 ghost use Rattle.std.specs.Borrow.{sem};
 ghost use Rattle.std.specs.Io.BufRead.{Rests};
 ghost use Rattle.std.specs.Io.KnownBytes.{IsAtEnd};
@@ -7,7 +9,8 @@ ghost use Rattle.pgn_text.specs.Private.Cuts.{is_cut};
 ghost use Rattle.pgn_text.specs.Private.Held.{IsOccupiedBy};
 ghost use Rattle.pgn_text.specs.Public.Limits.{block_limit, largest_offset, window_limit};
 ghost use Rattle.pgn_text.specs.Private.Phases.{is_failed, is_ended, is_over};
-ghost use Rattle.pgn_text.specs.Private.Searches.{FindsCut, FindsMore, FindsEnd, FailsFrom, GivesUp, StepGives};
+ghost use Rattle.pgn_text.specs.Private.Searches.{FindsCut, FindsMore, FindsEnd, FailsFrom};
+ghost use Rattle.pgn_text.specs.Private.Searches.{GivesUp, StepGives};
 ghost use Rattle.pgn_text.specs.Public.Tallies.{Reads};
 ghost use Rattle.pgn_text.specs.Public.Windows.{EndsIn, HoldsTheRest, IsBlock, Gives, fresh_window};
 ghost use Rattle.pgn_text.specs.contracts.io.blocks.Blocks.{the_row};
@@ -88,8 +91,10 @@ pub enum Phase {
 
 /// The blocks of the text that a reader gives, in order.
 ///
-/// No more bytes are held than a block of the limit and one read of 8,192 bytes, however long the text is. The bytes of a block
-/// that was given are given up at the next read, those of a block over the limit as they are searched.
+/// No more bytes are held than a block of the limit and one read of 8,192 bytes, however long the
+/// text is. The bytes of a block
+/// that was given are given up at the next read, those of a block over the limit as they are
+/// searched.
 #[derive(Drop)]
 pub struct Blocks {
     /// The bytes held.
@@ -153,7 +158,8 @@ impl Blocks {
         ensures fault { IsErrOf result ReadError.Read
             ↔ ((input.old.faulted ≡ false) × (input.new.faulted ≡ true)) }
 
-        // What was read, what the call gives of it and of the bytes held, and that the rest of these is held.
+        // What was read, what the call gives of it and of the bytes held, and that the rest of
+        // these is held.
         ensures* after_borrow { sem 𝓛 (Rests the_row self.entry (λ new. (read : List ℕ)
             × Reads (R.remaining input.old.inner) (R.remaining input.new.inner)
             input.old.moved input.new.moved read
@@ -209,7 +215,8 @@ impl Blocks {
     fn current(&self, size: u64) -> Block<'_>
         requires place { size ≤ self.now.place }
         requires held { size ≤ block_limit → size ≤ length self.now.done }
-        ensures { (bytes : List ℕ) → length bytes ≡ size → (size ≤ block_limit → EndsIn self.now.done size bytes)
+        ensures { (bytes : List ℕ) → length bytes ≡ size
+            → (size ≤ block_limit → EndsIn self.now.done size bytes)
             → IsBlock block_limit self.now bytes result }
     {
         let body = if size > BLOCK_LIMIT as u64 {
@@ -264,7 +271,8 @@ fn is_more<R: Read>(input: &mut Tally<R>) -> Result<bool, ReadError>
     }
 }
 
-/// How many of the first bytes held are given up before the next read, where `lost` bytes of the block that begins at `begin`
+/// How many of the first bytes held are given up before the next read, where `lost` bytes of the
+/// block that begins at `begin`
 /// were given up already and no event line is held after its first byte.
 fn given_up(held: usize, begin: usize, lost: u64) -> usize
     requires within { (begin ≤ held) × (lost + held < 2 ^ 64) }
@@ -279,7 +287,8 @@ fn given_up(held: usize, begin: usize, lost: u64) -> usize
     }
 }
 
-/// Reads up to the end of the block that begins at `at`: the next event line, or the end of the text.
+/// Reads up to the end of the block that begins at `at`: the next event line, or the end of the
+/// text.
 fn find_end<R: Read>(
     buf: &mut Buffer,
     at: usize,

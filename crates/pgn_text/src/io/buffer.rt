@@ -1,5 +1,6 @@
 //! Bytes that are held, with room after them for those that a read gives.
-ghost use Rattle.std.specs.Prelude.{◌≡◌, ◌≢◌, ◌↔◌, ℕ, ◌+◌, ◌^◌, ◌<◌, ◌≤◌, true, false, List, [], ◌++◌, length, take, drop, vec_len, IfOk, IfErr, IsErrOf, OnOk};
+ghost use Rattle.std.specs.Prelude.{◌≡◌, ◌≢◌, ◌↔◌, ℕ, ◌+◌, ◌^◌, ◌<◌, ◌≤◌, true, false, List, []};
+ghost use Rattle.std.specs.Prelude.{◌++◌, length, take, drop, vec_len, IfOk, IfErr, IsErrOf, OnOk};
 ghost use Rattle.pgn_text.specs.Public.Tallies.{AppendsRead, Reads};
 
 use crate::io::blocks::ReadError;
@@ -9,7 +10,8 @@ use std::alloc::{AllocError, Global};
 use std::io::Read;
 use std::marker::Model;
 
-/// Bytes in a row. The room after them is kept when bytes are given up, so that each of its places is filled with zeros once.
+/// Bytes in a row. The room after them is kept when bytes are given up, so that each of its places
+/// is filled with zeros once.
 #[derive(Drop)]
 pub struct Buffer {
     /// The bytes, and room for more.
@@ -82,7 +84,8 @@ impl Buffer {
         ensures ok { IfOk result (AppendsRead self.old self.new
             (R.remaining input.old.inner) (R.remaining input.new.inner)
             input.old.moved input.new.moved count) }
-        ensures err { IfErr result (λ error. (error ≢ ReadError.Failed) × (error ≢ ReadError.InputTooLong)
+        ensures err { IfErr result (λ error. (error ≢ ReadError.Failed)
+            × (error ≢ ReadError.InputTooLong)
             × Reads (R.remaining input.old.inner) (R.remaining input.new.inner)
             input.old.moved input.new.moved []) }
         ensures fault { IsErrOf result ReadError.Read ↔ (input.new.faulted ≡ true) }
@@ -101,7 +104,8 @@ impl Buffer {
     }
 }
 
-/// Makes sure of memory for so many bytes in all: twice what there is, but past the window no more than they need.
+/// Makes sure of memory for so many bytes in all: twice what there is, but past the window no more
+/// than they need.
 fn reserve(room: &mut Vec<u8>, size: usize) -> Result<(), AllocError>
     requires { vec_len room.old ≤ size }
     ensures { room.new.items ≡ room.old.items }
@@ -137,7 +141,8 @@ fn fill<R: Read>(
     requires within { len + count ≤ vec_len room.old }
     requires sound { input.old.faulted ≡ false }
     ensures size { length room.new.items ≡ length room.old.items }
-    ensures ok { IfOk result (λ more. AppendsRead (take len room.old.items) (take (len + more) room.new.items)
+    ensures ok { IfOk result (λ more.
+        AppendsRead (take len room.old.items) (take (len + more) room.new.items)
         (R.remaining input.old.inner) (R.remaining input.new.inner)
         input.old.moved input.new.moved count more) }
     ensures err { IfErr result (λ error. (error ≡ ReadError.Read)

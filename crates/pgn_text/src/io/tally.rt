@@ -51,7 +51,8 @@ impl<T> Tally<T> {
         self.faulted
     }
 
-    /// How many bytes the reads gave, the skips passed over or the writes took. The count stays at `u64::MAX`.
+    /// How many bytes the reads gave, the skips passed over or the writes took. The count stays at
+    /// `u64::MAX`.
     pub fn moved(&self) -> u64
         ensures { result ≡ self.now.moved }
     {

@@ -77,7 +77,8 @@ pub(crate) fn is_in(class: ByteClass, byte: u8) -> bool
     CLASSES[byte as usize] & flag(class) != 0
 }
 
-/// Whether the byte may stand in a string: a tab, or anything from the space on but the delete byte.
+/// Whether the byte may stand in a string: a tab, or anything from the space on but the delete
+/// byte.
 #[inline(always)]
 pub(crate) fn is_plain(byte: u8) -> bool
     ensures { result ≡ is_plain_byte byte }

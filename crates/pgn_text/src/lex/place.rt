@@ -4,7 +4,8 @@ ghost use Rattle.std.specs.Prelude.{◌≡◌, ◌<◌, ◌≤◌, Bool, length,
 ghost use Rattle.pgn_text.specs.Public.Parts.{is_column_one as is_in_column_one, standing_of};
 ghost use Rattle.pgn_text.specs.Private.Reading.{KeptComment, KeptDot, KeptGap, KeptNumber};
 ghost use Rattle.pgn_text.specs.Private.Tokens.{standing_view, token_of};
-ghost use Rattle.pgn_text.specs.Private.Walk.{KeptAt, Passes, NothingAt, GapPartAt, NoGapPartAt, LongestGapTo};
+ghost use Rattle.pgn_text.specs.Private.Walk.{KeptAt, Passes, NothingAt, GapPartAt, NoGapPartAt};
+ghost use Rattle.pgn_text.specs.Private.Walk.{LongestGapTo};
 
 use crate::lex::class::{ByteClass, is_in, run_end};
 use crate::lex::scan::{Found, Standing, gap_part, part};
@@ -40,7 +41,8 @@ fn standing_at(block: &[u8], at: usize, file_start: bool) -> Standing
 #[inline(always)]
 pub(crate) fn number_at(block: &[u8], at: usize) -> Option<usize>
     requires { at < length block.now }
-    ensures { MatchOption result (Unit {0}) (λ end. (file_start : Bool) → KeptAt file_start block.now at KeptNumber end) }
+    ensures { MatchOption result (Unit {0}) (λ end. (file_start : Bool)
+        → KeptAt file_start block.now at KeptNumber end) }
 {
     if !is_in(ByteClass::Digit, block[at]) {
         return None;
@@ -52,7 +54,8 @@ pub(crate) fn number_at(block: &[u8], at: usize) -> Option<usize>
     Some(end)
 }
 
-/// The place after the period at the place of the block, or the place itself where none stands there.
+/// The place after the period at the place of the block, or the place itself where none stands
+/// there.
 #[inline(always)]
 pub(crate) fn after_dot(block: &[u8], at: usize) -> usize
     requires { at ≤ length block.now }
@@ -67,7 +70,8 @@ pub(crate) fn after_dot(block: &[u8], at: usize) -> usize
     }
 }
 
-/// The place after the byte of white space at the place of the block, or the place itself where none stands there.
+/// The place after the byte of white space at the place of the block, or the place itself where
+/// none stands there.
 #[inline(always)]
 pub(crate) fn after_white(block: &[u8], at: usize) -> usize
     requires { at ≤ length block.now }
@@ -87,7 +91,9 @@ pub(crate) fn after_white(block: &[u8], at: usize) -> usize
 pub(crate) fn comment_at(block: &[u8], at: usize) -> Option<(&[u8], usize)>
     requires place { at < length block.now }
     requires brace { get_or block.now at 0 ≡ 123 }
-    ensures { (file_start : Bool) → MatchOption result (NothingAt file_start block.now at) (λ found. KeptAt file_start block.now at (KeptComment found.0.now) found.1) }
+    ensures { (file_start : Bool)
+        → MatchOption result (NothingAt file_start block.now at) (λ found.
+        KeptAt file_start block.now at (KeptComment found.0.now) found.1) }
 {
     let Some(len) = memchr(b'}', &block[at + 1..]) else {
         return None;
@@ -99,7 +105,8 @@ pub(crate) fn comment_at(block: &[u8], at: usize) -> Option<(&[u8], usize)>
 /// The part at the place of the block, and the place after it.
 pub(crate) fn part_at(block: &[u8], at: usize, file_start: bool) -> Option<(Token<'_>, usize)>
     requires { at ≤ length block.now }
-    ensures { MatchOption result (NothingAt file_start block.now at) (λ found. KeptAt file_start block.now at (token_of found.0) found.1) }
+    ensures { MatchOption result (NothingAt file_start block.now at) (λ found.
+        KeptAt file_start block.now at (token_of found.0) found.1) }
 {
     let Some((token, rest)) = part(&block[at..], standing_at(block, at, file_start)) else {
         return None;
@@ -111,7 +118,8 @@ pub(crate) fn part_at(block: &[u8], at: usize, file_start: bool) -> Option<(Toke
 #[inline(always)]
 fn gap_part_at(block: &[u8], at: usize, file_start: bool) -> Option<usize>
     requires { at ≤ length block.now }
-    ensures { MatchOption result (NoGapPartAt file_start block.now at) (λ end. GapPartAt file_start block.now at end) }
+    ensures { MatchOption result (NoGapPartAt file_start block.now at) (λ end.
+        GapPartAt file_start block.now at end) }
 {
     if at < block.len() && is_in(ByteClass::White, block[at]) {
         return Some(at + 1);

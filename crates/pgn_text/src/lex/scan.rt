@@ -1,9 +1,12 @@
 //! The part at the front of a text, one function for each kind.
 
-ghost use Rattle.std.specs.Prelude.{◌≡◌, ◌≤◌, length, drop, if◌then◌else◌, option_map, IfSome, Some, None};
+ghost use Rattle.std.specs.Prelude.{◌≡◌, ◌≤◌, length, drop, if◌then◌else◌, option_map, IfSome};
+ghost use Rattle.std.specs.Prelude.{Some, None};
 ghost use Rattle.pgn_text.specs.Public.Bytes.{is_not_line_feed, run_of, after_run};
 ghost use Rattle.pgn_text.specs.Public.Parts.{EscapeLine, Line, number_of};
-ghost use Rattle.pgn_text.specs.Private.Reading.{rest_after, brace_front, mark_front, gap_front, tag_front, is_glyph, glyph_front, game_front, part_front, kept_found};
+ghost use Rattle.pgn_text.specs.Private.Reading.{rest_after, brace_front, mark_front, gap_front};
+ghost use Rattle.pgn_text.specs.Private.Reading.{tag_front, is_glyph, glyph_front, game_front};
+ghost use Rattle.pgn_text.specs.Private.Reading.{part_front, kept_found};
 ghost use Rattle.pgn_text.specs.Private.Tokens.{found_of, glyph_of, now_of, standing_view};
 
 use crate::lex::class::{ByteClass, is_in, run, run_end};
@@ -70,7 +73,11 @@ fn line(text: &[u8]) -> (&[u8], &[u8])
 /// The comment whose semicolon stands before the text.
 #[inline(always)]
 fn line_comment(text: &[u8]) -> Found<'_>
-    ensures { found_of result ≡ kept_found (Line (run_of is_not_line_feed text.now), after_run is_not_line_feed text.now) }
+    ensures { found_of result
+        ≡ kept_found (
+          Line (run_of is_not_line_feed text.now),
+          after_run is_not_line_feed text.now,
+        ) }
 {
     let (comment, rest) = line(text);
     (Token::Comment(comment), rest)
@@ -79,7 +86,10 @@ fn line_comment(text: &[u8]) -> Found<'_>
 /// The escape line whose percent sign stands before the text.
 #[inline(always)]
 fn escape_line(text: &[u8], column_one: bool) -> Option<Found<'_>>
-    ensures { option_map found_of result ≡ option_map kept_found (if column_one then Some (EscapeLine (run_of is_not_line_feed text.now), after_run is_not_line_feed text.now) else None) }
+    ensures { option_map found_of result
+        ≡ option_map kept_found (if column_one then
+        Some (EscapeLine (run_of is_not_line_feed text.now), after_run is_not_line_feed text.now)
+        else None) }
 {
     if column_one {
         Some((Token::Gap, line(text).1))
@@ -91,7 +101,8 @@ fn escape_line(text: &[u8], column_one: bool) -> Option<Found<'_>>
 /// The byte order mark whose first byte stands before the text.
 #[inline(always)]
 fn byte_order_mark(text: &[u8], file_start: bool) -> Option<Found<'_>>
-    ensures { option_map found_of result ≡ option_map kept_found (if file_start then mark_front text.now else None) }
+    ensures { option_map found_of result
+        ≡ option_map kept_found (if file_start then mark_front text.now else None) }
 {
     if file_start && text.starts_with(&[0xBB, 0xBF]) {
         Some((Token::Gap, &text[2..]))
@@ -103,7 +114,8 @@ fn byte_order_mark(text: &[u8], file_start: bool) -> Option<Found<'_>>
 /// The part of a gap at the front of the text.
 #[inline(always)]
 pub(crate) fn gap_part(text: &[u8], place: Standing) -> Option<Found<'_>>
-    ensures { option_map found_of result ≡ option_map kept_found (gap_front (standing_view place) text.now) }
+    ensures { option_map found_of result
+        ≡ option_map kept_found (gap_front (standing_view place) text.now) }
 {
     let Some((first, rest)) = text.split_first() else {
         return None;
@@ -143,11 +155,13 @@ fn glyph_number(digits: &[u8]) -> Option<u8>
     u8::try_from(number).ok()
 }
 
-/// The glyph whose dollar sign stands before the place of the block: its number, and the place after it.
+/// The glyph whose dollar sign stands before the place of the block: its number, and the place
+/// after it.
 #[inline(always)]
 pub(crate) fn glyph_at(block: &[u8], begin: usize) -> Option<(u8, usize)>
     requires { begin ≤ length block.now }
-    ensures found { option_map (glyph_of block.now) result ≡ option_map kept_found (glyph_front (drop begin block.now)) }
+    ensures found { option_map (glyph_of block.now) result
+        ≡ option_map kept_found (glyph_front (drop begin block.now)) }
     ensures within { IfSome result (λ found. found.1 ≤ length block.now) }
 {
     let end = run_end(ByteClass::Digit, block, begin);
@@ -198,7 +212,8 @@ pub(crate) fn game_part(text: &[u8]) -> Option<Found<'_>>
 /// The part at the front of the text.
 #[inline(always)]
 pub(crate) fn part(text: &[u8], place: Standing) -> Option<Found<'_>>
-    ensures { option_map found_of result ≡ option_map kept_found (part_front (standing_view place) text.now) }
+    ensures { option_map found_of result
+        ≡ option_map kept_found (part_front (standing_view place) text.now) }
 {
     match gap_part(text, place) {
         Some(found) => Some(found),

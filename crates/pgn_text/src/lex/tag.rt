@@ -1,6 +1,7 @@
 //! Tags at places of a block.
 
-ghost use Rattle.std.specs.Prelude.{◌≡◌, ◌+◌, ◌<◌, ◌≤◌, length, drop, option_map, IfSome, Some, None, MatchBool};
+ghost use Rattle.std.specs.Prelude.{◌≡◌, ◌+◌, ◌<◌, ◌≤◌, length, drop, option_map, IfSome, Some};
+ghost use Rattle.std.specs.Prelude.{None, MatchBool};
 ghost use Rattle.pgn_text.specs.Private.Reading.{kept_found, rest_after, tag_front};
 ghost use Rattle.pgn_text.specs.Private.Tokens.{tag_of};
 
@@ -11,16 +12,20 @@ use crate::lex::quoted::contents_end;
 #[inline(always)]
 fn stands(byte: u8, block: &[u8], at: usize) -> bool
     requires { at ≤ length block.now }
-    ensures { MatchBool result ((at < length block.now) × (rest_after byte (drop at block.now) ≡ Some (drop (at + 1) block.now))) (rest_after byte (drop at block.now) ≡ None) }
+    ensures { MatchBool result ((at < length block.now)
+        × (rest_after byte (drop at block.now) ≡ Some (drop (at + 1) block.now)))
+        (rest_after byte (drop at block.now) ≡ None) }
 {
     at < block.len() && block[at] == byte
 }
 
-/// The tag whose opening bracket stands before the place of the block: its name, the contents of its string, and the place after it.
+/// The tag whose opening bracket stands before the place of the block: its name, the contents of
+/// its string, and the place after it.
 #[inline(always)]
 pub(crate) fn tag_at(block: &[u8], begin: usize) -> Option<(&[u8], &[u8], usize)>
     requires { begin ≤ length block.now }
-    ensures found { option_map (tag_of block.now) result ≡ option_map kept_found (tag_front (drop begin block.now)) }
+    ensures found { option_map (tag_of block.now) result
+        ≡ option_map kept_found (tag_front (drop begin block.now)) }
     ensures within { IfSome result (λ found. found.2 ≤ length block.now) }
 {
     let start = run_end(ByteClass::White, block, begin);

@@ -3,7 +3,10 @@
 ghost use Rattle.std.specs.Prelude.{◌≡◌};
 ghost use Rattle.std.specs.List.{list_all};
 ghost use Rattle.pgn_text.specs.Public.Bytes.{begins, is_check_mark, is_digit, is_letter};
-ghost use Rattle.pgn_text.specs.Public.Games.{is_zero_castling as is_zero_castling_word, is_move_text as is_move_word, is_number as is_number_word, is_result_word as is_result_text};
+ghost use Rattle.pgn_text.specs.Public.Games.{is_zero_castling as is_zero_castling_word};
+ghost use Rattle.pgn_text.specs.Public.Games.{is_move_text as is_move_word};
+ghost use Rattle.pgn_text.specs.Public.Games.{is_number as is_number_word};
+ghost use Rattle.pgn_text.specs.Public.Games.{is_result_word as is_result_text};
 ghost use Rattle.pgn_text.specs.Private.Reading.{is_kept_result, kept_word};
 ghost use Rattle.pgn_text.specs.Private.Tokens.{token_of};
 

@@ -1,7 +1,9 @@
-//! The squares between two squares, as words. They are made of the lines through both squares; that each word has just the squares between is
+//! The squares between two squares, as words. They are made of the lines through both squares; that
+//! each word has just the squares between is
 //! proved by computing all of them.
 
-// Of two squares, each with its number and its lines: the squares that lines of both have, and that stand between them in order.
+// Of two squares, each with its number and its lines: the squares that lines of both have, and that
+// stand between them in order.
 macro_rules! word {
     (($a:literal $f:literal $r:literal $d:literal $u:literal), ($b:literal $g:literal $s:literal $e:literal $v:literal)) => {
         (($f & $g) | ($r & $s) | ($d & $e) | ($u & $v)) & ((u64::MAX << $a) ^ (u64::MAX << $b))
@@ -18,7 +20,8 @@ macro_rules! rows {
     ([$($here:tt)*]; $squares:tt) => { [$(row!($here; $squares)),*] };
 }
 
-// The table of the squares: the number of each, and the squares of its file, its rank, its rising and its falling diagonal, without itself.
+// The table of the squares: the number of each, and the squares of its file, its rank, its rising
+// and its falling diagonal, without itself.
 macro_rules! table {
     ($squares:tt) => { rows!($squares; $squares) };
 }

@@ -40,7 +40,8 @@ fn after_separators(separator: u8, text: &[u8]) -> &[u8]
 
 /// The first field of a text, and what follows it; `None` where only spaces are left.
 pub(crate) fn next_field(text: &[u8]) -> Option<(&[u8], &[u8])>
-    ensures { MatchOption result (fields_of text.now ≡ []) (λ found. fields_of text.now ≡ found.0.now ∷ fields_of found.1.now) }
+    ensures { MatchOption result (fields_of text.now ≡ []) (λ found. fields_of text.now
+        ≡ found.0.now ∷ fields_of found.1.now) }
 {
     let rest = after_separators(b' ', text);
     if rest.is_empty() {
@@ -51,7 +52,9 @@ pub(crate) fn next_field(text: &[u8]) -> Option<(&[u8], &[u8])>
 
 /// The text of the first rank, and what follows its slash, if a slash follows it.
 pub(crate) fn next_rank(text: &[u8]) -> (&[u8], Option<&[u8]>)
-    ensures { MatchOption result.1 (parted_at 47 text.now ≡ result.0.now ∷ []) (λ rest. parted_at 47 text.now ≡ result.0.now ∷ parted_at 47 rest.now) }
+    ensures { MatchOption result.1 (parted_at 47 text.now
+        ≡ result.0.now ∷ []) (λ rest. parted_at 47 text.now
+        ≡ result.0.now ∷ parted_at 47 rest.now) }
 {
     let (rank, rest) = split_run(b'/', text);
     match rest {

@@ -1,8 +1,11 @@
 //! The fields after the men of a text in Forsyth-Edwards notation (PGN 16.1.3.2 to 16.1.3.6).
-ghost use Rattle.std.specs.Prelude.{◌≡◌, ◌≢◌, ◌⊎◌, ◌↔◌, ℕ, Option, [], codes, length, IsTrue, MatchOption};
+ghost use Rattle.std.specs.Prelude.{◌≡◌, ◌≢◌, ◌⊎◌, ◌↔◌, ℕ, Option, [], codes, length, IsTrue};
+ghost use Rattle.std.specs.Prelude.{MatchOption};
 ghost use Rattle.std.specs.List.{list_all};
 ghost use Rattle.chess.specs.Public.Squares.{Place};
-ghost use Rattle.chess.specs.Public.Fen.{side_text, has_byte, is_distinct, is_right_letter, GivesRights, GivesEnPassant, is_digit, number_from, IsCount, GiveCounts, fields_of};
+ghost use Rattle.chess.specs.Public.Fen.{side_text, has_byte, is_distinct, is_right_letter};
+ghost use Rattle.chess.specs.Public.Fen.{GivesRights, GivesEnPassant, is_digit, number_from};
+ghost use Rattle.chess.specs.Public.Fen.{IsCount, GiveCounts, fields_of};
 ghost use Rattle.chess.specs.declared.board.man.Side.{Side};
 ghost use Rattle.chess.specs.declared.board.man.CastlingRights.{CastlingRights};
 
@@ -11,7 +14,8 @@ use crate::fen::read::fields::next_field;
 
 /// The side that the text names.
 pub(crate) fn read_side(text: &[u8]) -> Option<Side>
-    ensures { MatchOption result ((side : Side) → text.now ≡ side_text side → ⊥) (λ side. text.now ≡ side_text side) }
+    ensures { MatchOption result ((side : Side) → text.now ≡ side_text side
+        → ⊥) (λ side. text.now ≡ side_text side) }
 {
     match text {
         [b'w'] => Some(Side::White),
@@ -71,7 +75,10 @@ fn are_right_letters(text: &[u8]) -> bool
 
 /// Whether that is a dash, or distinct letters of `KQkq`.
 fn are_rights(text: &[u8]) -> bool
-    ensures { IsTrue result ↔ ((text.now ≡ codes "-") ⊎ ((text.now ≢ []) × IsTrue (list_all is_right_letter text.now) × IsTrue (is_distinct text.now))) }
+    ensures { IsTrue result
+        ↔ ((text.now ≡ codes "-")
+        ⊎ ((text.now ≢ []) × IsTrue (list_all is_right_letter text.now)
+        × IsTrue (is_distinct text.now))) }
 {
     if let [b'-'] = text {
         return true;
@@ -84,7 +91,8 @@ fn are_rights(text: &[u8]) -> bool
 
 /// The castling rights that the text gives.
 pub(crate) fn read_rights(text: &[u8]) -> Option<CastlingRights>
-    ensures { MatchOption result ((rights : CastlingRights) → GivesRights text.now rights → ⊥) (λ rights. GivesRights text.now rights) }
+    ensures { MatchOption result ((rights : CastlingRights) → GivesRights text.now rights
+        → ⊥) (λ rights. GivesRights text.now rights) }
 {
     if !are_rights(text) {
         return None;
@@ -99,7 +107,8 @@ pub(crate) fn read_rights(text: &[u8]) -> Option<CastlingRights>
 
 /// The square of that name, as `e3`.
 fn square_of(text: &[u8]) -> Option<Square>
-    ensures { MatchOption result ((s : Place) → GivesEnPassant text.now (Some s) → ⊥) (λ s. GivesEnPassant text.now (Some s)) }
+    ensures { MatchOption result ((s : Place) → GivesEnPassant text.now (Some s)
+        → ⊥) (λ s. GivesEnPassant text.now (Some s)) }
 {
     match text {
         [file, rank] => {
@@ -114,7 +123,8 @@ fn square_of(text: &[u8]) -> Option<Square>
 
 /// The en passant square that the text gives, if it gives one.
 pub(crate) fn read_en_passant(text: &[u8]) -> Option<Option<Square>>
-    ensures { MatchOption result ((given : Option Place) → GivesEnPassant text.now given → ⊥) (λ given. GivesEnPassant text.now given) }
+    ensures { MatchOption result ((given : Option Place) → GivesEnPassant text.now given
+        → ⊥) (λ given. GivesEnPassant text.now given) }
 {
     if let [b'-'] = text {
         return Some(None);
@@ -143,7 +153,8 @@ fn read_count(text: &[u8]) -> Option<u32>
 
 /// The halfmove clock and the fullmove number, of which the second or both may be missing.
 pub(crate) fn read_counts(text: &[u8]) -> Option<(u32, u32)>
-    ensures { MatchOption result ((clock number : ℕ) → GiveCounts (fields_of text.now) clock number → ⊥)
+    ensures { MatchOption result ((clock number : ℕ) → GiveCounts (fields_of text.now) clock number
+        → ⊥)
         (λ counts. GiveCounts (fields_of text.now) counts.0 counts.1) }
 {
     let Some((clock_field, rest)) = next_field(text) else {

@@ -1,4 +1,5 @@
-//! What is kept of the rights and the en passant square of a text, and what may be wrong with its men.
+//! What is kept of the rights and the en passant square of a text, and what may be wrong with its
+//! men.
 ghost use Rattle.std.specs.Prelude.{◌≡◌, ◌↔◌, true, Some, IsTrue, MatchOption};
 ghost use Rattle.chess.specs.Public.Squares.{Place, IsOnBoard};
 ghost use Rattle.chess.specs.Public.Placements.{man_at};
@@ -35,7 +36,8 @@ fn are_at_home<B: Board>(board: &B, side: Side, wing: Wing) -> bool
 
 /// Whether the right is given, and its king and rook stand at home.
 fn keeps_right<B: Board>(board: &B, given: CastlingRights, side: Side, wing: Wing) -> bool
-    ensures { (result ≡ true) ↔ ((has_right given side wing ≡ true) × AreAtHome (B.men board.now) side wing) }
+    ensures { (result ≡ true)
+        ↔ ((has_right given side wing ≡ true) × AreAtHome (B.men board.now) side wing) }
 {
     given.has(side, wing) && are_at_home(board, side, wing)
 }
@@ -43,7 +45,8 @@ fn keeps_right<B: Board>(board: &B, given: CastlingRights, side: Side, wing: Win
 /// The rights that are given, without those whose king or rook is not at home.
 pub(crate) fn kept_rights<B: Board>(board: &B, given: CastlingRights) -> CastlingRights
     ensures { (side : Side) (wing : Wing)
-        → (has_right result side wing ≡ true) ↔ ((has_right given side wing ≡ true) × AreAtHome (B.men board.now) side wing) }
+        → (has_right result side wing ≡ true)
+        ↔ ((has_right given side wing ≡ true) × AreAtHome (B.men board.now) side wing) }
 {
     CastlingRights {
         white_king_side: keeps_right(board, given, Side::White, Wing::KingSide),
@@ -84,7 +87,8 @@ pub(crate) fn kept_en_passant<B: Board>(
     turn: Side,
     given: Option<Square>,
 ) -> Option<Square>
-    ensures { (s : Place) → (result ≡ Some s) ↔ ((given ≡ Some s) × FitsEnPassant (B.men board.now) turn s) }
+    ensures { (s : Place) → (result ≡ Some s)
+        ↔ ((given ≡ Some s) × FitsEnPassant (B.men board.now) turn s) }
 {
     let square = given?;
     if fits_en_passant(board, turn, square) {
@@ -96,7 +100,8 @@ pub(crate) fn kept_en_passant<B: Board>(
 
 /// The square of the side's king, if it has one king and no other.
 pub(crate) fn only_king<B: Board>(board: &B, side: Side) -> Option<Square>
-    ensures { MatchOption result ((s : Place) → IsOnlyKing (B.men board.now) side s → ⊥) (IsOnlyKing (B.men board.now) side) }
+    ensures { MatchOption result ((s : Place) → IsOnlyKing (B.men board.now) side s
+        → ⊥) (IsOnlyKing (B.men board.now) side) }
 {
     let mut kings = board.squares_of(Man {
         side,

@@ -13,7 +13,8 @@ use crate::moves::castling::rank_of_pawns;
 use crate::moves::pseudo_legal::{promotes, square_ahead};
 use crate::position::Position;
 
-/// The squares of the men that may make the move that is said, whether or not their king is then attacked.
+/// The squares of the men that may make the move that is said, whether or not their king is then
+/// attacked.
 #[inline(always)]
 pub(crate) fn candidate_origins<B: Board>(position: &Position<B>, said: &ParsedSan) -> SquareSet
     ensures { HoldsExactly (IsCandidate position.now (said_by said.now)) result }
@@ -128,7 +129,8 @@ impl<B: Board> Position<B> {
     #[inline(always)]
     fn stepper(&self, to: Square) -> Option<Square>
         ensures { MatchOption result ((s : Place) → IsOnBoard s → IsStepper self.now to s → ⊥)
-            (λ from. IsOnBoard from × IsStepper self.now to from × ((s : Place) → IsOnBoard s → IsStepper self.now to s → s ≡ from)) }
+            (λ from. IsOnBoard from × IsStepper self.now to from
+            × ((s : Place) → IsOnBoard s → IsStepper self.now to s → s ≡ from)) }
     {
         if !self.is_empty(to) {
             return None;

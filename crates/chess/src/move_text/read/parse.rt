@@ -1,9 +1,17 @@
 //! What a move text says, read from its end (PGN 8.2.3).
-ghost use Rattle.std.specs.Prelude.{◌≡◌, ◌↔◌, ◌⊎◌, reverse, Some, None, IfSome, MatchOption, IsTrue};
+ghost use Rattle.std.specs.Prelude.{◌≡◌, ◌↔◌, ◌⊎◌, reverse, Some, None, IfSome, MatchOption};
+ghost use Rattle.std.specs.Prelude.{IsTrue};
 ghost use Rattle.chess.specs.Public.San.{IsCastlingText};
-ghost use Rattle.chess.specs.Private.SanWords.{IsReadSaid, SaysPlainly, SaysPawnTakes, IsBeforeMarks, IsWholeLetter, IsCastlingStem, kind_given, number_given, kind_of, is_of, last_of, before_last, unmarked, before_equals, stem, after_target_rank, after_sign, after_rank, after_file};
+ghost use Rattle.chess.specs.Private.SanWords.{IsReadSaid, SaysPlainly, SaysPawnTakes};
+ghost use Rattle.chess.specs.Private.SanWords.{IsBeforeMarks, IsWholeLetter, IsCastlingStem};
+ghost use Rattle.chess.specs.Private.SanWords.{kind_given, number_given, kind_of, is_of, last_of};
+ghost use Rattle.chess.specs.Private.SanWords.{before_last, unmarked, before_equals, stem};
+ghost use Rattle.chess.specs.Private.SanWords.{after_target_rank, after_sign, after_rank};
+ghost use Rattle.chess.specs.Private.SanWords.{after_file};
 ghost use Rattle.chess.specs.declared.board.man.Wing.{Wing};
-ghost use Rattle.chess.specs.declared.move_text.read.parse.ByteClass.TheVariants.{Digit, FileLetter, PromotionLetter};
+ghost use Rattle.chess.specs.declared.move_text.read.parse.ByteClass.TheVariants.{Digit};
+ghost use Rattle.chess.specs.declared.move_text.read.parse.ByteClass.TheVariants.{FileLetter};
+ghost use Rattle.chess.specs.declared.move_text.read.parse.ByteClass.TheVariants.{PromotionLetter};
 
 use crate::board::{Kind, Square, Wing};
 use crate::letters::kind_of;
@@ -102,9 +110,12 @@ fn split_parts(text: &[u8]) -> Option<Parts<'_>>
         ((last_of Digit (stem (reverse text.now)) ≡ None) ⊎ (last_of FileLetter (after_target_rank (reverse text.now)) ≡ None))
         (λ parts. (last_of Digit (stem (reverse text.now)) ≡ Some parts.target_rank)
         × (last_of FileLetter (after_target_rank (reverse text.now)) ≡ Some parts.target_file)) }
-    ensures promotion { IfSome result (λ parts. parts.promotion ≡ last_of PromotionLetter (unmarked (reverse text.now))) }
-    ensures rank { IfSome result (λ parts. parts.rank ≡ last_of Digit (after_sign (reverse text.now))) }
-    ensures file { IfSome result (λ parts. parts.file ≡ last_of FileLetter (after_rank (reverse text.now))) }
+    ensures promotion { IfSome result (λ parts. parts.promotion
+        ≡ last_of PromotionLetter (unmarked (reverse text.now))) }
+    ensures rank { IfSome result (λ parts. parts.rank
+        ≡ last_of Digit (after_sign (reverse text.now))) }
+    ensures file { IfSome result (λ parts. parts.file
+        ≡ last_of FileLetter (after_rank (reverse text.now))) }
     ensures rest { IfSome result (λ parts. reverse parts.rest.now ≡ after_file (reverse text.now)) }
 {
     let (promotion, rest) = take_last(ByteClass::PromotionLetter, unmarked(text));
@@ -126,7 +137,8 @@ fn split_parts(text: &[u8]) -> Option<Parts<'_>>
     })
 }
 
-/// The kind of the letter that is the whole text, or none where the text is empty; `None` where it is neither.
+/// The kind of the letter that is the whole text, or none where the text is empty; `None` where it
+/// is neither.
 #[inline(always)]
 fn whole_letter(text: &[u8]) -> Option<Option<Kind>>
     ensures { IsWholeLetter (reverse text.now) result }
@@ -180,7 +192,8 @@ pub(crate) fn plainly_said(letter: Option<u8>, file: u8, rank: u8) -> Option<Par
     })
 }
 
-/// What a pawn's capture says, from the file that it leaves and the target's bytes, if that is what the bytes are.
+/// What a pawn's capture says, from the file that it leaves and the target's bytes, if that is what
+/// the bytes are.
 #[inline(always)]
 pub(crate) fn pawn_takes(from: u8, file: u8, rank: u8) -> Option<ParsedSan>
     ensures { MatchOption result (Unit {0}) (SaysPawnTakes from file rank) }
@@ -209,7 +222,8 @@ pub(crate) fn before_mark(text: &[u8]) -> &[u8]
     }
 }
 
-/// What the text says, if it is a target alone or a letter and a target, or says of a pawn or a piece that it takes, with one mark at most,
+/// What the text says, if it is a target alone or a letter and a target, or says of a pawn or a
+/// piece that it takes, with one mark at most,
 /// as most texts are; else it may be a move text of another form.
 #[inline(always)]
 pub(crate) fn read_frequent(text: &[u8]) -> Option<ParsedSan>

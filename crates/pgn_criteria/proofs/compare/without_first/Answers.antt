@@ -7,4 +7,5 @@ returns-in-92-clause-contents c = after_escape c.args.contents.now c.requires (o
 
 pub returns-in-len1-up-clause-contents : goal.returns-in-len1-up-clause-contents
 returns-in-len1-up-clause-contents c =
-    after_byte c.args.contents.now c.requires (λ long first. (λ quote. grind arith, λ backslash. grind arith))
+    after_byte c.args.contents.now c.requires (λ long first.
+    (λ quote. grind arith, λ backslash. grind arith))

@@ -11,13 +11,16 @@ loop-asked-preserved c =
     let before = c.loop-asked.own.items in
     let one = c.beside.result in
     let asked = c.asked-item.result in
-    let conditions : take (i + 1) all ≡ take i all ++ (asked ∷ []) = alternatives_to all i asked c.loop-asked-test.true c.asked-item.is in
+    let conditions : take (i + 1) all ≡ take i all ++ (asked ∷ []) =
+    alternatives_to all i asked c.loop-asked-test.true c.asked-item.is in
     subst (λ x. AreTurned x (take (i + 1) all)) (sym c.in_ok-push.ensures.items)
     (subst (λ y. AreTurned (before ++ (one ∷ [])) y) (sym conditions)
-    (turned_more before (take i all) one asked c.loop-asked.invariant c.beside.ensures.class c.beside.ensures.square c.beside.ensures.on_board))
+    (turned_more before (take i all) one asked c.loop-asked.invariant c.beside.ensures.class
+    c.beside.ensures.square c.beside.ensures.on_board))
 
 pub returns : goal.returns
 returns c =
     let all = c.args.all.now in
     let end : c.loop-asked.asked-index ≡ length all = omega arith in
-    subst (AreTurned c.loop-asked.own.items) (ap (λ n. take n all) end ∙ take-length all) c.loop-asked.invariant
+    subst (AreTurned c.loop-asked.own.items) (ap (λ n. take n all) end
+    ∙ take-length all) c.loop-asked.invariant

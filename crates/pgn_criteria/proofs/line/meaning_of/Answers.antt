@@ -3,7 +3,7 @@ use Rattle.std.specs.Prelude.{codes}
 use Rattle.std.specs.Cmp.Lexicographic.{same_text}
 use Rattle.pgn_criteria.specs.Public.Lines.{IsLine, Spells, SpellsCondition}
 use Rattle.pgn_criteria.specs.Private.Reading.{core_of}
-use Rattle.pgn_criteria.specs.Private.Stages.{seen}
+use Rattle.pgn_criteria.specs.Private.Stages.{condition_seen}
 use Rattle.pgn_criteria.specs.declared.condition.Condition.{Condition}
 use Rattle.pgn_criteria.specs.declared.line.Meaning.{Meaning}
 use Rattle.pgn_criteria.specs.declared.line.Meaning.TheVariants.{Nothing, Or, Asks}
@@ -11,13 +11,17 @@ use Rattle.pgn_criteria.proofs.ConditionFacts.{line_read, line_spelled}
 use Rattle.pgn_criteria.proofs.line.meaning_of.Goals as goal
 
 -- a line whose core spells it means it
-means_it : (line text : List ℕ) (means : Meaning (List ℕ)) → text ≡ core_of line → Spells text means → IsLine line means
+means_it : (line text : List ℕ) (means : Meaning (List ℕ)) → text ≡ core_of line → Spells text means
+    → IsLine line means
 means_it line text means is spells = line_spelled line means (subst (λ x. Spells x means) is spells)
 
 -- a line whose core spells nothing else means nothing
-means_none : (line text : List ℕ) → text ≡ core_of line → (Spells text Nothing → ⊥) → text ≢ codes "or"
-    → ((condition : Condition (List ℕ)) → SpellsCondition text condition → ⊥) → (means : Meaning (List ℕ)) → IsLine line means → ⊥
-means_none line text is skipped or asked means line_is = none means (subst (λ x. Spells x means) (sym is) (line_read line means line_is))
+means_none : (line text : List ℕ) → text ≡ core_of line → (Spells text Nothing → ⊥)
+    → text ≢ codes "or"
+    → ((condition : Condition (List ℕ)) → SpellsCondition text condition → ⊥)
+    → (means : Meaning (List ℕ)) → IsLine line means → ⊥
+means_none line text is skipped or asked means line_is =
+    none means (subst (λ x. Spells x means) (sym is) (line_read line means line_is))
   where
     none : (means : Meaning (List ℕ)) → Spells text means → ⊥
     none Nothing spells = skipped spells
@@ -26,20 +30,27 @@ means_none line text is skipped or asked means line_is = none means (subst (λ x
 
 pub returns-then-is_nothing : goal.returns-then-is_nothing
 returns-then-is_nothing c =
-    means_it c.args.line.now c.core_of-text.result.now Nothing c.core_of-text.ensures (c.is_nothing.ensures.0 c.if-is_nothing.true)
+    means_it c.args.line.now c.core_of-text.result.now Nothing c.core_of-text.ensures
+    (c.is_nothing.ensures.0 c.if-is_nothing.true)
 
 pub returns-then-eq : goal.returns-then-eq
 returns-then-eq c =
     means_it c.args.line.now c.core_of-text.result.now Or c.core_of-text.ensures
-    (same_text c.core_of-text.result.now c.as_slice.result.now (sym c.if-eq.true ∙ c.eq.ensures) ∙ c.as_slice.ensures)
+    (same_text c.core_of-text.result.now c.as_slice.result.now (sym c.if-eq.true ∙ c.eq.ensures)
+    ∙ c.as_slice.ensures)
 
 pub returns : goal.returns
 returns c =
-    means_it c.args.line.now c.core_of-text.result.now (Asks (seen (λ bytes. bytes.now) c.in_ok-condition_of.field-0)) c.core_of-text.ensures
+    means_it c.args.line.now c.core_of-text.result.now
+    (Asks (condition_seen (λ bytes. bytes.now) c.in_ok-condition_of.field-0))
+    c.core_of-text.ensures
     c.in_ok-condition_of.ensures
 
 pub returns-in_err-condition_of : goal.returns-in_err-condition_of
 returns-in_err-condition_of c =
     let no_or : c.core_of-text.result.now ≢ codes "or" = search rules in
-    let some : Spells c.core_of-text.result.now Nothing → ⊥ = λ spells. let t = c.is_nothing.ensures.1 spells in absurd (cc (t, c.if-is_nothing.false)) in
-    rw c.from_residual.ensures (means_none c.args.line.now c.core_of-text.result.now c.core_of-text.ensures some no_or c.in_err-condition_of.ensures)
+    let some : Spells c.core_of-text.result.now Nothing → ⊥ = λ spells. let t =
+    c.is_nothing.ensures.1 spells in absurd (cc (t, c.if-is_nothing.false)) in
+    rw c.from_residual.ensures
+    (means_none c.args.line.now c.core_of-text.result.now c.core_of-text.ensures some no_or
+    c.in_err-condition_of.ensures)

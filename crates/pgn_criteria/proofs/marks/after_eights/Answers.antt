@@ -15,11 +15,19 @@ loop-rest-preserved c =
     record {
       lacks = λ later.
           c.loop-rest.invariant.lacks
-          (eight_lack c.args.check c.args.stuck rest _ c.loop-rest-test.true (rest_after 24 rest _ refl)
-          (λ both. let yes = c.shows.ensures.1 both in let no = c.if-shows.false in absurd (cc)) later);
+          (eight_lack c.args.check c.args.stuck rest _ c.loop-rest-test.true
+          (rest_after 24 rest _ refl)
+          (λ both. let yes = c.shows.ensures.1 both in let no = c.if-shows.false in
+          absurd (cc)) later);
       met = λ set needs turn.
-          let here = eight_met c.args.check c.args.stuck rest _ c.loop-rest-test.true (rest_after 24 rest _ refl)
-          (λ both. let yes = c.shows.ensures.1 both in let no = c.if-shows.false in absurd (cc)) set needs turn in
-          let so_far = c.loop-rest.invariant.met set needs turn in
-          (λ none. so_far.0 (here.0 none), λ side left next. so_far.1 side left (here.1 side left next));
+          let here =
+          eight_met c.args.check c.args.stuck rest _ c.loop-rest-test.true
+          (rest_after 24 rest _ refl)
+          (λ both. let yes = c.shows.ensures.1 both in let no = c.if-shows.false in
+          absurd (cc)) set needs turn in
+          let so_far = c.loop-rest.invariant.met set needs turn in (
+            λ none. so_far.0 (here.0 none),
+            λ side left next.
+                so_far.1 side left (here.1 side left next),
+          );
     }

@@ -9,5 +9,7 @@ returns-then-asks_mark c = λ t.
     let all = c.args.conditions.now in
     let i = c.loop-condition.condition-index in
     let own = c.condition-item.result in
-    one_needs (seen (λ text. text.items)) c.args.mark all i own (drop (i + 1) all) (alternatives_from all i own c.loop-condition-test.true c.condition-item.is) c.if-not-condition.true
+    one_needs (seen (λ text. text.items)) c.args.mark all i own (drop (i + 1) all)
+    (alternatives_from all i own c.loop-condition-test.true c.condition-item.is)
+    c.if-not-condition.true
     (sym c.asks_mark.ensures ∙ c.if-asks_mark.true)

@@ -9,8 +9,12 @@ loop-rest-init c = c.after_eights-rest.ensures.lacks
 pub loop-rest-preserved : goal.loop-rest-preserved
 loop-rest-preserved c = λ later.
     c.loop-rest.invariant
-    (marks_on c.args.check c.args.stuck c.loop-rest.rest.now _ c.in-len3-up.len_at_least (rest_is c.loop-rest.rest.now _ refl)
+    (marks_on c.args.check c.args.stuck c.loop-rest.rest.now _ c.in-len3-up.len_at_least
+    (rest_is c.loop-rest.rest.now _ refl)
     (λ both. let yes = c.shows.ensures.1 both in let no = c.if-shows.false in absurd (cc)) later)
 
 pub returns : goal.returns
-returns c = λ none. c.loop-rest.invariant (marks_end c.args.check c.args.stuck c.loop-rest.rest.now (omega (arith, c.in_default.len_below)))
+returns c =
+    λ none. c.loop-rest.invariant
+    (marks_end c.args.check c.args.stuck c.loop-rest.rest.now
+    (omega (arith, c.in_default.len_below)))

@@ -1,9 +1,12 @@
 use Rattle.std.proofs.Common.{◌↔◌, drop, map}
-use Rattle.pgn_criteria.specs.Private.Stages.{AllOfHeading, AreGood, seen}
+use Rattle.pgn_criteria.specs.Private.Stages.{AllClaims, IsGood, AllOfHeading, game_seen, stated}
 use Rattle.pgn_criteria.proofs.meets.are_of_heading.Given as goal
 
 abbrev pub invariant-loop-condition : goal.invariant-loop-condition
 invariant-loop-condition g l =
-    AreGood (map (seen (λ text. text.items)) (drop l.condition-index l.conditions))
-    × (AllOfHeading (g.H.Headed.heading l.game) (map (seen (λ text. text.items)) (drop l.condition-index l.conditions))
-    ↔ AllOfHeading (g.H.Headed.heading l.game) (map (seen (λ text. text.items)) l.conditions))
+    AllClaims IsGood
+    (map (stated (game_seen (λ text. text.items))) (drop l.condition-index l.conditions))
+    × (AllOfHeading (g.H.Headed.heading l.game)
+    (map (stated (game_seen (λ text. text.items))) (drop l.condition-index l.conditions))
+    ↔ AllOfHeading (g.H.Headed.heading l.game)
+    (map (stated (game_seen (λ text. text.items))) l.conditions))

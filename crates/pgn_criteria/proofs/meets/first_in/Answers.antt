@@ -6,7 +6,8 @@ use Rattle.pgn_criteria.proofs.meets.first_in.Goals as goal
 
 pub sooner-best-requires-clause-good : goal.sooner-best-requires-clause-good
 sooner-best-requires-clause-good c =
-    (good_from c.args.alternatives.now c.loop-alternative.alternative-index c.alternative-item.result c.loop-alternative-test.true c.alternative-item.is
+    (good_from c.args.alternatives.now c.loop-alternative.alternative-index
+    c.alternative-item.result c.loop-alternative-test.true c.alternative-item.is
     c.loop-alternative.invariant.good).0
 
 pub loop-alternative-preserved : goal.loop-alternative-preserved
@@ -16,9 +17,12 @@ loop-alternative-preserved c =
     let i = c.loop-alternative.alternative-index in
     let own = c.alternative-item.result in
     record {
-      good = (good_from all i own c.loop-alternative-test.true c.alternative-item.is c.loop-alternative.invariant.good).1;
+      good = (good_from all i own c.loop-alternative-test.true c.alternative-item.is
+          c.loop-alternative.invariant.good).1;
       first =
-          subst (λ x. IsFirst (λ plies. Meets heading c.args.replayed.now plies x) c.args.min c.args.max c.sooner-best.result)
+          subst (λ x.
+          IsFirst (λ plies. Meets heading c.args.replayed.now plies x) c.args.min c.args.max
+          c.sooner-best.result)
           (sym (alternatives_to all i own c.loop-alternative-test.true c.alternative-item.is))
           (c.sooner-best.ensures (take i all) c.loop-alternative.invariant.first);
     }
@@ -29,5 +33,7 @@ returns c =
     let all = c.args.alternatives.now in
     let i = c.loop-alternative.alternative-index in
     let end : i ≡ length all = omega arith in
-    subst (λ x. IsFirst (λ plies. Meets heading c.args.replayed.now plies x) c.args.min c.args.max c.loop-alternative.best) (ap (λ n. take n all) end ∙ take-length all)
+    subst (λ x.
+    IsFirst (λ plies. Meets heading c.args.replayed.now plies x) c.args.min c.args.max
+    c.loop-alternative.best) (ap (λ n. take n all) end ∙ take-length all)
     c.loop-alternative.invariant.first

@@ -1,4 +1,5 @@
-use Rattle.std.proofs.Common.{◌≡◌, ◌++◌, ◌∷◌, [], Bool, List, length, take, drop, sym, ap, ◌∙◌, subst, arith}
+use Rattle.std.proofs.Common.{◌≡◌, ◌++◌, ◌∷◌, [], Bool, List, length, take, drop, sym, ap, ◌∙◌}
+use Rattle.std.proofs.Common.{subst, arith}
 use Rattle.std.proofs.Math.Seq.{take-length}
 use Rattle.std.proofs.lemmas.List.{take_at}
 use Rattle.pgn_criteria.specs.Public.Meeting.{Heading, AreMet}
@@ -19,20 +20,29 @@ loop-alternative-preserved g c =
     let i = c.loop-alternative.alternative-index in
     let own = c.alternative-item.result in
     record {
-      good = (good_from all i own c.loop-alternative-test.true c.alternative-item.is c.loop-alternative.invariant.good).1;
+      good = (good_from all i own c.loop-alternative-test.true c.alternative-item.is
+          c.loop-alternative.invariant.good).1;
       so_far =
           let new = c.add_alternative.new.met in
-          let whole : List Bool = take c.loop-alternative.met.len (new ++ drop (length new) c.loop-alternative.met.items) in
+          let whole : List Bool =
+          take c.loop-alternative.met.len (new
+          ++ drop (length new) c.loop-alternative.met.items) in
           let is : whole ≡ new =
-          take_at new (drop (length new) c.loop-alternative.met.items) c.loop-alternative.met.len (c.add_alternative.auto.met ∙ c.deref_mut.ensures.len) in
-          subst (λ x. AreMet heading replay x whole) (sym (alternatives_to all i own c.loop-alternative-test.true c.alternative-item.is))
+          take_at new (drop (length new) c.loop-alternative.met.items) c.loop-alternative.met.len
+          (c.add_alternative.auto.met ∙ c.deref_mut.ensures.len) in
+          subst (λ x. AreMet heading replay x whole)
+          (sym (alternatives_to all i own c.loop-alternative-test.true c.alternative-item.is))
           (subst (AreMet heading replay (take i all ++ own ∷ [])) (sym is)
-          (c.add_alternative.ensures (take i all) (subst (AreMet heading replay (take i all)) (sym c.deref_mut.ensures.value) c.loop-alternative.invariant.so_far)));
+          (c.add_alternative.ensures (take i all)
+          (subst (AreMet heading replay (take i all)) (sym c.deref_mut.ensures.value)
+          c.loop-alternative.invariant.so_far)));
     }
 
 pub returns : goal.returns
 returns g c =
     let all = c.args.alternatives.now in
     let end : c.loop-alternative.alternative-index ≡ length all = omega arith in
-    subst (λ x. AreMet (g.H.Headed.heading c.args.game.now) c.args.replayed.now x c.loop-alternative.met.items)
+    subst (λ x.
+    AreMet (g.H.Headed.heading c.args.game.now) c.args.replayed.now x
+    c.loop-alternative.met.items)
     (ap (λ n. take n all) end ∙ take-length all) c.loop-alternative.invariant.so_far

@@ -9,8 +9,11 @@ add_ranks-requires t c =
     let text = c.args.ranks.now in
     let first = c.next_part.result.0.now in
     let parts : parted_at 47 text ≡ first ∷ parted_at 47 c.in-Some.after.now =
-    subst (λ o. MatchOption o (parted_at 47 text ≡ first ∷ []) (λ rest. parted_at 47 text ≡ first ∷ parted_at 47 rest.now)) c.in-Some.is c.next_part.ensures in
-    let less : length c.in-Some.after.now < length text = part_shorter 47 text first c.in-Some.after.now parts in
+    subst (λ o.
+    MatchOption o (parted_at 47 text ≡ first ∷ []) (λ rest. parted_at 47 text
+    ≡ first ∷ parted_at 47 rest.now)) c.in-Some.is c.next_part.ensures in
+    let less : length c.in-Some.after.now < length text =
+    part_shorter 47 text first c.in-Some.after.now parts in
     search rules
 
 pub returns : goal.returns
@@ -18,7 +21,10 @@ returns t c =
     let text = c.args.ranks.now in
     let first = c.next_part.result.0.now in
     let parts : parted_at 47 text ≡ first ∷ parted_at 47 c.in-Some.after.now =
-    subst (λ o. MatchOption o (parted_at 47 text ≡ first ∷ []) (λ rest. parted_at 47 text ≡ first ∷ parted_at 47 rest.now)) c.in-Some.is c.next_part.ensures in
+    subst (λ o.
+    MatchOption o (parted_at 47 text ≡ first ∷ []) (λ rest. parted_at 47 text
+    ≡ first ∷ parted_at 47 rest.now)) c.in-Some.is c.next_part.ensures in
     subst (λ x. OnOk c.add_rank-2.result (c.add_rank-2.new.text.items ≡ x))
-    (ranks_added c.args.text.now.items c.add_ranks.new.text.items c.push.new.self.items text first c.in-Some.after.now parts c.in_ok-add_ranks.ensures c.in_ok-push.ensures.items)
+    (ranks_added c.args.text.now.items c.add_ranks.new.text.items c.push.new.self.items text first
+    c.in-Some.after.now parts c.in_ok-add_ranks.ensures c.in_ok-push.ensures.items)
     c.add_rank-2.ensures

@@ -3,4 +3,6 @@ use Rattle.pgn_criteria.specs.Private.Stages.{AreMirrored, seen}
 use Rattle.pgn_criteria.proofs.mirror.all_mirrored.Given as goal
 
 abbrev pub invariant-loop-condition : goal.invariant-loop-condition
-invariant-loop-condition l = AreMirrored (map (seen (λ text. text.items)) l.own.items) (map (seen (λ text. text.items)) (take l.condition-index l.conditions))
+invariant-loop-condition l =
+    AreMirrored (map (seen (λ text. text.items)) l.own.items)
+    (map (seen (λ text. text.items)) (take l.condition-index l.conditions))

@@ -12,8 +12,11 @@ returns-else-byte-file c out text san begins =
     let castle : m.castle ≡ None = no_wing m.castle (sym c.is_some.ensures ∙ c.if-is_some.false) in
     let kind : san.man.kind ≡ Pawn = cc (san.here, c.at.ensures, c.in-Some.is, c.in-Pawn.is) in
     let is : (b ≡ file_letter m.from.file) ⊎ (b ≡ file_letter m.to.file) =
-    subst (λ k. Begins m None k b) kind (subst (λ w. Begins m w san.man.kind b) castle (begins_text c.args.position.now m text b san begins)) in
+    subst (λ k. Begins m None k b) kind
+    (subst (λ w. Begins m w san.man.kind b) castle
+    (begins_text c.args.position.now m text b san begins)) in
     elim is [
       | inl from ↦ c.if-byte-file.false (omega (arith, from, c.file.ensures.number))
-      | inr to ↦ let number = c.file-else-byte-file.ensures.number in grind (arith, nat_tests, out, to, number)
+      | inr to ↦ let number = c.file-else-byte-file.ensures.number in
+          grind (arith, nat_tests, out, to, number)
     ]

@@ -10,7 +10,8 @@ returns-else-byte-kind_letter c P out text san ends =
     let b = c.args.byte in
     let castle : m.castle ≡ None = no_wing m.castle (sym c.is_some.ensures ∙ c.if-is_some.false) in
     let is : (b ≡ kind_letter c.in-Some.kind) ⊎ (b ≡ rank_digit m.to.rank) =
-    subst (λ p. Ends m None p b) c.in-Some.is (subst (λ w. Ends m w m.promote b) castle (ends_text P m text b san ends)) in
+    subst (λ p. Ends m None p b) c.in-Some.is
+    (subst (λ w. Ends m w m.promote b) castle (ends_text P m text b san ends)) in
     elim is [
       | inl letter ↦ c.if-byte-kind_letter.false (letter ∙ sym c.kind_letter.ensures)
       | inr rank ↦ let number = c.rank.ensures.number in grind (arith, nat_tests, out, rank, number)
@@ -22,5 +23,6 @@ returns-in-None c P out text san ends =
     let b = c.args.byte in
     let castle : m.castle ≡ None = no_wing m.castle (sym c.is_some.ensures ∙ c.if-is_some.false) in
     let is : b ≡ rank_digit m.to.rank =
-    subst (λ p. Ends m None p b) c.in-None.is (subst (λ w. Ends m w m.promote b) castle (ends_text P m text b san ends)) in
+    subst (λ p. Ends m None p b) c.in-None.is
+    (subst (λ w. Ends m w m.promote b) castle (ends_text P m text b san ends)) in
     let number = c.rank-in-None.ensures.number in grind (arith, nat_tests, out, is, number)

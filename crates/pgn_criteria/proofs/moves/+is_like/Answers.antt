@@ -17,10 +17,16 @@ is_like-requires-then-first-byte t c = search rules
 
 pub returns-else-is_like : goal.returns-else-is_like
 returns-else-is_like t c =
-    reports_star c.args.word.now _ c.args.text.now _ _ c.is_like-then-first-eq42.result c.is_like-else-is_like.result
-    (first_and_rest c.args.word.now c.in-len1-up-word.len_at_least ∙ ap (λ b. b ∷ take (length c.args.word.now - 1) (drop 1 c.args.word.now)) c.if-first-eq42.true)
-    (first_and_rest c.args.text.now c.in-len1-up.len_at_least) (sym c.is_check_mark.ensures ∙ c.if-is_check_mark.false) c.if-is_like.false
+    reports_star c.args.word.now _ c.args.text.now _ _ c.is_like-then-first-eq42.result
+    c.is_like-else-is_like.result
+    (first_and_rest c.args.word.now c.in-len1-up-word.len_at_least
+    ∙ ap (λ b. b ∷ take (length c.args.word.now - 1) (drop 1 c.args.word.now))
+    c.if-first-eq42.true)
+    (first_and_rest c.args.text.now c.in-len1-up.len_at_least) (sym c.is_check_mark.ensures
+    ∙ c.if-is_check_mark.false) c.if-is_like.false
     c.is_like-then-first-eq42.ensures c.is_like-else-is_like.ensures
 
 pub returns-in_default : goal.returns-in_default
-returns-in_default t c = reports_stars c.args.word.now c.args.text.now c.are_stars.result c.are_stars.ensures (no_bytes c.args.text.now c.in_default.len_below)
+returns-in_default t c =
+    reports_stars c.args.word.now c.args.text.now c.are_stars.result c.are_stars.ensures
+    (no_bytes c.args.text.now c.in_default.len_below)

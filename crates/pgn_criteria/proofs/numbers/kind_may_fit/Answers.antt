@@ -10,6 +10,9 @@ unfolding FitsKind
 returns-in-Some g c = λ none.
     let man = c.args.man in
     let men = g.S.Seen.men c.args.start.now in
-    nowhere_of (λ p. count_of p man ≤ c.in-Some.most) (λ p. FitsKind p man.side c.args.limits.now man.kind) men (codes_in c.args.plies.now)
-    (λ p fits. c.in-Some.ensures (count_of p man) (subst (λ limit. Allows limit (count_of p man)) (sym c.of.ensures) fits))
+    nowhere_of (λ p. count_of p man ≤ c.in-Some.most) (λ p.
+    FitsKind p man.side c.args.limits.now man.kind) men (codes_in c.args.plies.now)
+    (λ p fits.
+    c.in-Some.ensures (count_of p man)
+    (subst (λ limit. Allows limit (count_of p man)) (sym c.of.ensures) fits))
     (c.is_met_somewhere.ensures men c.squares_with.ensures none)

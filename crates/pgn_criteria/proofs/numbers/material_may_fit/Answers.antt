@@ -1,7 +1,7 @@
 use Rattle.std.proofs.Common.{◌⊎◌, inl, inr, subst}
 use Rattle.pgn_criteria.specs.Private.Marks.{SaysOfNumbers}
 use Rattle.pgn_criteria.specs.Public.Materials.{FitsMaterial}
-use Rattle.pgn_criteria.specs.Private.Stages.{claim_seen}
+use Rattle.pgn_criteria.specs.Private.Stages.{position_seen}
 use Rattle.pgn_criteria.specs.Public.Sieves.{codes_in}
 use Rattle.pgn_criteria.proofs.StandFacts.{nowhere_of, nowhere_either}
 use Rattle.pgn_criteria.proofs.numbers.material_may_fit.Goals as goal
@@ -11,9 +11,14 @@ returns-then-not-condition g c = λ same.
     let own = c.args.condition.now in
     let fixed = c.if-not-condition.true in (
       c.if-condition.false,
-      nowhere_of (λ p. FitsMaterial p c.in-Material.white c.in-Material.black) (SaysOfNumbers own.is_either (claim_seen (λ text. text.items) own.claim)) (g.S.Seen.men c.args.start.now)
+      nowhere_of (λ p. FitsMaterial p c.in-Material.white c.in-Material.black)
+          (SaysOfNumbers own.is_either (position_seen (λ text. text.items) own.claim))
+          (g.S.Seen.men c.args.start.now)
           (codes_in c.args.plies.now)
-          (λ p says. elim (subst (λ claim. SaysOfNumbers own.is_either (claim_seen (λ text. text.items) claim) p) c.in-Material.is says) [
+          (λ p says.
+          elim (subst (λ claim.
+          SaysOfNumbers own.is_either (position_seen (λ text. text.items) claim) p)
+          c.in-Material.is says) [
             | inl plain ↦ plain
             | inr turned ↦ let either = turned.0 in absurd (cc)
           ])
@@ -26,12 +31,18 @@ returns-else-not-condition g c = λ none.
     let men = g.S.Seen.men c.args.start.now in
     let codes = codes_in c.args.plies.now in (
       c.if-condition.false,
-      nowhere_of (λ p. FitsMaterial p c.in-Material.white c.in-Material.black ⊎ FitsMaterial p c.in-Material.black c.in-Material.white)
-          (SaysOfNumbers own.is_either (claim_seen (λ text. text.items) own.claim)) men codes
-          (λ p says. elim (subst (λ claim. SaysOfNumbers own.is_either (claim_seen (λ text. text.items) claim) p) c.in-Material.is says) [
+      nowhere_of (λ p. FitsMaterial p c.in-Material.white c.in-Material.black
+          ⊎ FitsMaterial p c.in-Material.black c.in-Material.white)
+          (SaysOfNumbers own.is_either (position_seen (λ text. text.items) own.claim)) men codes
+          (λ p says.
+          elim (subst (λ claim.
+          SaysOfNumbers own.is_either (position_seen (λ text. text.items) claim) p)
+          c.in-Material.is says) [
             | inl plain ↦ inl plain
             | inr turned ↦ inr turned.1
           ])
-          (nowhere_either (λ p. FitsMaterial p c.in-Material.white c.in-Material.black) (λ p. FitsMaterial p c.in-Material.black c.in-Material.white) men codes
-          (c.sides_may_fit.ensures c.if-sides_may_fit.false) (c.sides_may_fit-in-Material.ensures none)),
+          (nowhere_either (λ p. FitsMaterial p c.in-Material.white c.in-Material.black) (λ p.
+          FitsMaterial p c.in-Material.black c.in-Material.white) men codes
+          (c.sides_may_fit.ensures c.if-sides_may_fit.false)
+          (c.sides_may_fit-in-Material.ensures none)),
     )

@@ -1,7 +1,7 @@
 use Rattle.std.proofs.Common.{◌+◌, drop, map}
 use Rattle.pgn_criteria.specs.Public.Sieves.{codes_in}
 use Rattle.pgn_criteria.specs.Private.Marks.{SaysOfNumbers}
-use Rattle.pgn_criteria.specs.Private.Stages.{claim_seen, seen}
+use Rattle.pgn_criteria.specs.Private.Stages.{position_seen, seen}
 use Rattle.pgn_criteria.proofs.MarkFacts.{one_material, placed_of}
 use Rattle.pgn_criteria.proofs.MeetFacts.{alternatives_from}
 use Rattle.pgn_criteria.proofs.numbers.numbers_are_shown.Goals as goal
@@ -13,6 +13,9 @@ returns-then-not-material_may_fit g c = λ same.
     let own = c.condition-item.result in
     let S = c.args.start.now in
     let facts = c.material_may_fit.ensures c.if-not-material_may_fit.true in
-    placed_of (SaysOfNumbers own.is_either (claim_seen (λ text. text.items) own.claim)) (map (seen (λ text. text.items)) all)
-    (one_material (seen (λ text. text.items)) all i own (drop (i + 1) all) (alternatives_from all i own c.loop-condition-test.true c.condition-item.is) facts.0)
-    (g.S.Seen.men S) (g.S.Seen.turn S) (g.S.Seen.checked S) (g.S.Seen.stuck S) (codes_in c.args.plies.now) facts.1
+    placed_of (SaysOfNumbers own.is_either (position_seen (λ text. text.items) own.claim))
+    (map (seen (λ text. text.items)) all)
+    (one_material (seen (λ text. text.items)) all i own (drop (i + 1) all)
+    (alternatives_from all i own c.loop-condition-test.true c.condition-item.is) facts.0)
+    (g.S.Seen.men S) (g.S.Seen.turn S) (g.S.Seen.checked S) (g.S.Seen.stuck S)
+    (codes_in c.args.plies.now) facts.1

@@ -1,18 +1,17 @@
-use Rattle.std.proofs.Common.{◌≡◌, ◌∷◌, ◌++◌, [], ℕ, List, map, sym, ap, ◌∙◌, subst, Vec, Global}
+use Rattle.std.proofs.Common.{◌≡◌, ◌∷◌, ◌++◌, [], List, sym, ap, ◌∙◌, subst}
 use Rattle.pgn_criteria.specs.Public.Lines.{SpellsCriteria}
-use Rattle.pgn_criteria.specs.Private.Stages.{seen}
-use Rattle.pgn_criteria.specs.declared.condition.Condition.{Condition}
-use Rattle.pgn_criteria.proofs.ParseFacts.{IsBuilt, built_start, built_next, built_more, built_end, first_part, rest_shorter}
+use Rattle.pgn_criteria.specs.Public.Conditions.{Conditions}
+use Rattle.pgn_criteria.proofs.ParseFacts.{IsBuilt, built_start, built_next, built_more, built_end}
+use Rattle.pgn_criteria.proofs.ParseFacts.{first_part, rest_shorter}
 use Rattle.pgn_criteria.proofs.parse.build.Goals as goal
-
-abbrev pub conditions : Vec (Condition (Vec ℕ Global)) Global → List (Condition (List ℕ))
-conditions a = map (seen (λ bytes. bytes.items)) a.items
 
 pub loop-last-init : goal.loop-last-init
 loop-last-init c =
-    subst (λ (x : List (List (Condition (List ℕ)))). IsBuilt c.args.text.now c.args.text.now x (conditions c.new-last.result)) (sym c.new-alternatives.ensures.items)
-    (subst (λ (x : List (Condition (Vec ℕ Global))). IsBuilt c.args.text.now c.args.text.now [] (map (seen (λ bytes. bytes.items)) x)) (sym c.new-last.ensures.items)
-    (built_start c.args.text.now c.requires))
+    subst (λ (x : List Conditions).
+    IsBuilt c.args.text.now c.args.text.now x c.new-last.result)
+    (sym c.new-alternatives.ensures.items)
+    (subst (λ (x : Conditions). IsBuilt c.args.text.now c.args.text.now [] x)
+    (sym c.new-last.ensures) (built_start c.args.text.now c.requires))
 
 pub loop-last-smaller : goal.loop-last-smaller
 loop-last-smaller c =
@@ -21,22 +20,30 @@ loop-last-smaller c =
 
 pub add_line-requires : goal.add_line-requires
 add_line-requires c =
-    built_next c.args.text.now c.loop-last.rest.now c.next_part.result.0.now c.loop-last.alternatives.items (conditions c.loop-last.last) c.loop-last.invariant
-    (first_part (λ after. after.now) c.loop-last.rest.now c.next_part.result.0.now c.next_part.result.1 c.next_part.ensures)
+    built_next c.args.text.now c.loop-last.rest.now c.next_part.result.0.now
+    c.loop-last.alternatives.items c.loop-last.last c.loop-last.invariant
+    (first_part (λ after. after.now) c.loop-last.rest.now c.next_part.result.0.now
+    c.next_part.result.1 c.next_part.ensures)
 
 pub loop-last-preserved : goal.loop-last-preserved
 loop-last-preserved c =
     let parts = rw c.in-Some.is at c.next_part.ensures in
     let added = c.in_ok-add_line.ensures in
-    built_more c.args.text.now c.loop-last.rest.now c.next_part.result.0.now c.in-Some.after.now c.loop-last.alternatives.items (conditions c.loop-last.last)
-    c.add_line.new.alternatives.items (conditions c.add_line.new.last) c.loop-last.invariant (record { own = added.0; is = added.1; same = added.2 }) parts
+    built_more c.args.text.now c.loop-last.rest.now c.next_part.result.0.now c.in-Some.after.now
+    c.loop-last.alternatives.items c.loop-last.last
+    c.add_line.new.alternatives.items c.add_line.new.last c.loop-last.invariant
+    (record { own = added.0; is = added.1; same = added.2 }) parts
 
 pub returns-in_default : goal.returns-in_default
 returns-in_default c =
     let added = c.in_ok-add_line.ensures in
     let parts = rw c.in_default.is at c.next_part.ensures in
-    let view : c.push.new.self.items ≡ c.add_line.new.alternatives.items ++ (conditions c.add_line.new.last ∷ []) =
-    c.in_ok-push.ensures.items ∙ ap (λ a. c.add_line.new.alternatives.items ++ (a ∷ [])) c.in_ok-own.ensures in
+    let view : c.push.new.self.items ≡ c.add_line.new.alternatives.items
+    ++ (c.add_line.new.last ∷ []) =
+    c.in_ok-push.ensures.items
+    ∙ ap (λ a. c.add_line.new.alternatives.items ++ (a ∷ [])) c.in_ok-own.ensures in
     subst (SpellsCriteria c.args.text.now) (sym view)
-    (built_end c.args.text.now c.loop-last.rest.now c.next_part.result.0.now c.loop-last.alternatives.items (conditions c.loop-last.last)
-    c.add_line.new.alternatives.items (conditions c.add_line.new.last) c.loop-last.invariant (record { own = added.0; is = added.1; same = added.2 }) parts)
+    (built_end c.args.text.now c.loop-last.rest.now c.next_part.result.0.now
+    c.loop-last.alternatives.items c.loop-last.last
+    c.add_line.new.alternatives.items c.add_line.new.last c.loop-last.invariant
+    (record { own = added.0; is = added.1; same = added.2 }) parts)

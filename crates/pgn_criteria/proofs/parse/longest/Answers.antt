@@ -11,4 +11,8 @@ loop-alternative-preserved c n above rest =
     let own = c.alternative-item.result in
     let front = alternatives_from all i own c.loop-alternative-test.true c.alternative-item.is in
     c.loop-alternative.invariant n (omega (arith, above, c.larger-most.ensures))
-    (subst (EachAsksWithin n) (sym front) (all_ask_more c.in_ok-own.own n (omega (arith, above, c.larger-most.ensures)) own c.in_ok-own.ensures, rest))
+    (subst (EachAsksWithin n) (sym front) (
+      all_ask_more c.in_ok-own.own n (omega (arith, above, c.larger-most.ensures)) own
+          c.in_ok-own.ensures,
+      rest,
+    ))

@@ -7,7 +7,8 @@ use Rattle.pgn_criteria.proofs.rank.advance.Goals.{then-goes_on, else-goes_on}
 abbrev IsKept : goal.Joined-goes_on → ℕ → Type 0
 IsKept c next = record {
   low : next < 512;
-  after : (place : ℕ) → Has next place ↔ IsAfter c.args.class c.args.squares.now c.args.reached (c.loop-place.place + 1) place;
+  after : (place : ℕ) → Has next place
+      ↔ IsAfter c.args.class c.args.squares.now c.args.reached (c.loop-place.place + 1) place;
 }
 
 pub loop-place-preserved : goal.loop-place-preserved
@@ -22,11 +23,14 @@ loop-place-preserved c =
           let here = c.goes_on.ensures.0 w.if-goes_on.true in
           subst (IsKept c) (sym w.next-is) (record {
             low = added_low next place c.loop-place-test.true c.loop-place.invariant.low;
-            after = place_added class squares reached next place c.loop-place-test.true here.0 here.1 c.loop-place.invariant.after;
+            after = place_added class squares reached next place c.loop-place-test.true here.0
+                here.1 c.loop-place.invariant.after;
           })
       | else-goes_on w ↦
           subst (IsKept c) (sym w.next-is) (record {
             low = c.loop-place.invariant.low;
-            after = place_kept class squares reached next place (λ here. absurd (cc (c.goes_on.ensures.1 here, w.if-goes_on.false))) c.loop-place.invariant.after;
+            after = place_kept class squares reached next place (λ here.
+                absurd (cc (c.goes_on.ensures.1 here, w.if-goes_on.false)))
+                c.loop-place.invariant.after;
           })
     ]

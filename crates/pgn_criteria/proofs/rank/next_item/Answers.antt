@@ -10,11 +10,14 @@ returns-in_err-item-clause-next c =
     let all = c.args.items.now in
     rw c.from_residual.ensures
     (subst HasNoItem (sym (first_and_rest all c.in-len1-up.len_at_least))
-    (byte_fails (slice_index_or all 0 0) (take (length all - 1) (drop 1 all)) c.if-first-eq91.false (sym c.item_of.ensures ∙ c.in_err-item.was)))
+    (byte_fails (slice_index_or all 0 0) (take (length all - 1) (drop 1 all)) c.if-first-eq91.false
+    (sym c.item_of.ensures ∙ c.in_err-item.was)))
 
 pub returns-clause-next : goal.returns-clause-next
 returns-clause-next c =
     let all = c.args.items.now in
     let after = take (length all - 1) (drop 1 all) in
-    subst (λ x. IsNextItem x c.in_ok-item.item after) (sym (first_and_rest all c.in-len1-up.len_at_least))
-    (byte_next (slice_index_or all 0 0) after c.in_ok-item.item c.if-first-eq91.false (sym c.item_of.ensures ∙ c.in_ok-item.was))
+    subst (λ x. IsNextItem x c.in_ok-item.item after)
+    (sym (first_and_rest all c.in-len1-up.len_at_least))
+    (byte_next (slice_index_or all 0 0) after c.in_ok-item.item c.if-first-eq91.false
+    (sym c.item_of.ensures ∙ c.in_ok-item.was))

@@ -8,8 +8,12 @@ pub loop-step-preserved : goal.loop-step-preserved
 loop-step-preserved c = record {
   low = c.advance-now.ensures.low;
   goes_on = λ items.
-      let left : c.args.count - c.loop-step.step ≡ (c.args.count - (c.loop-step.step + 1)) + 1 = omega arith in
-      let one = run_more c.args.class c.args.squares.now c.loop-step.now c.advance-now.result (c.args.count - c.loop-step.step) (c.args.count - (c.loop-step.step + 1)) items c.told-squares left c.advance-now.ensures.after in
+      let left : c.args.count - c.loop-step.step ≡ (c.args.count - (c.loop-step.step + 1)) + 1 =
+      omega arith in
+      let one =
+      run_more c.args.class c.args.squares.now c.loop-step.now c.advance-now.result
+      (c.args.count - c.loop-step.step) (c.args.count
+      - (c.loop-step.step + 1)) items c.told-squares left c.advance-now.ensures.after in
       let all = c.loop-step.invariant.goes_on items in
       (λ goes. all.0 (one.0 goes), λ goes. one.1 (all.1 goes));
 }
@@ -17,7 +21,13 @@ loop-step-preserved c = record {
 pub returns-clause-goes_on : goal.returns-clause-goes_on
 returns-clause-goes_on c items =
     let none : c.args.count - c.loop-step.step ≡ 0 = omega arith in
-    let all = subst (λ n. Goes c.args.squares.now c.loop-step.now (Run c.args.class n) items → Goes c.args.squares.now c.args.reached (Run c.args.class c.args.count) items) none (c.loop-step.invariant.goes_on items).0 in
-    let back = subst (λ n. Goes c.args.squares.now c.args.reached (Run c.args.class c.args.count) items → Goes c.args.squares.now c.loop-step.now (Run c.args.class n) items) none (c.loop-step.invariant.goes_on items).1 in
+    let all =
+    subst (λ n. Goes c.args.squares.now c.loop-step.now (Run c.args.class n) items
+    → Goes c.args.squares.now c.args.reached (Run c.args.class c.args.count) items) none
+    (c.loop-step.invariant.goes_on items).0 in
+    let back =
+    subst (λ n. Goes c.args.squares.now c.args.reached (Run c.args.class c.args.count) items
+    → Goes c.args.squares.now c.loop-step.now (Run c.args.class n) items) none
+    (c.loop-step.invariant.goes_on items).1 in
     let end = run_none c.args.class c.args.squares.now c.loop-step.now items in
     (λ ends. all (end.0 ends), λ goes. end.1 (back goes))

@@ -1,4 +1,5 @@
-use Rattle.std.proofs.Common.{◌≡◌, ◌↔◌, ◌++◌, ◌∷◌, ◌+◌, ℕ, length, drop, map, subst, sym, ap, ◌∙◌, arith}
+use Rattle.std.proofs.Common.{◌≡◌, ◌↔◌, ◌++◌, ◌∷◌, ◌+◌, ℕ, length, drop, map, subst, sym, ap, ◌∙◌}
+use Rattle.std.proofs.Common.{arith}
 use Rattle.std.proofs.lemmas.List.{append-nil, map-append}
 use Rattle.std.proofs.Math.Seq.{drop-length}
 use Rattle.chess.specs.Public.Positions.{State}
@@ -21,22 +22,38 @@ loop-alternative-preserved c =
     let rest = drop (i + 1) all in
     let front = alternatives_from all i own c.loop-alternative-test.true c.alternative-item.is in
     let most = c.loop-alternative.invariant.still.0 in
-    let asked = within_from most all i own c.loop-alternative-test.true c.alternative-item.is c.loop-alternative.invariant.still.1 in
-    let so_far : (ply : ℕ) (P : State) → SomeHold heading replay ply P (before ++ own ∷ rest) ↔ SomeHold heading replay ply P c.args.alternatives.now =
-    λ ply P. subst (λ x. SomeHold heading replay ply P (before ++ x) ↔ SomeHold heading replay ply P c.args.alternatives.now) front (c.loop-alternative.invariant.kept ply P) in
+    let asked =
+    within_from most all i own c.loop-alternative-test.true c.alternative-item.is
+    c.loop-alternative.invariant.still.1 in
+    let so_far : (ply : ℕ) (P : State) → SomeHold heading replay ply P (before ++ own ∷ rest)
+    ↔ SomeHold heading replay ply P c.args.alternatives.now =
+    λ ply P. subst (λ x. SomeHold heading replay ply P (before ++ x)
+    ↔ SomeHold heading replay ply P c.args.alternatives.now) front
+    (c.loop-alternative.invariant.kept ply P) in
     record {
-      good = (good_from all i own c.loop-alternative-test.true c.alternative-item.is c.loop-alternative.invariant.good).1;
+      good = (good_from all i own c.loop-alternative-test.true c.alternative-item.is
+          c.loop-alternative.invariant.good).1;
       still = (most, asked.1);
       kept = λ ply P.
           elim c.if-is_of_game.branch [
             | then-is_of_game+in_ok-push w ↦
-                let one = kept_one heading replay ply P before rest own most (c.is_of_game.ensures.0 w.if-is_of_game.true) asked.0 in
-                let items = ap (map (λ a. on_positions a.now)) (ap (λ v. v.items) w.left-is ∙ w.in_ok-push.ensures.items) ∙ map-append (λ a. on_positions a.now) c.loop-alternative.left.items _ in
-                subst (λ x. SomeHold heading replay ply P (x ++ rest) ↔ SomeHold heading replay ply P c.args.alternatives.now) (sym items)
+                let one =
+                kept_one heading replay ply P before rest own most
+                (c.is_of_game.ensures.0 w.if-is_of_game.true) asked.0 in
+                let items =
+                ap (map (λ a. on_positions a.now)) (ap (λ v. v.items) w.left-is
+                ∙ w.in_ok-push.ensures.items)
+                ∙ map-append (λ a. on_positions a.now) c.loop-alternative.left.items _ in
+                subst (λ x. SomeHold heading replay ply P (x ++ rest)
+                ↔ SomeHold heading replay ply P c.args.alternatives.now) (sym items)
                 (λ s. (so_far ply P).0 (one.0 s), λ s. one.1 ((so_far ply P).1 s))
             | else-is_of_game w ↦
-                let one = dropped_one heading replay ply P before rest own c.is_of_game.result w.if-is_of_game.false c.is_of_game.ensures in
-                subst (λ v. SomeHold heading replay ply P (map (λ a. on_positions a.now) v.items ++ rest) ↔ SomeHold heading replay ply P c.args.alternatives.now) (sym w.left-is)
+                let one =
+                dropped_one heading replay ply P before rest own c.is_of_game.result
+                w.if-is_of_game.false c.is_of_game.ensures in
+                subst (λ v.
+                SomeHold heading replay ply P (map (λ a. on_positions a.now) v.items ++ rest)
+                ↔ SomeHold heading replay ply P c.args.alternatives.now) (sym w.left-is)
                 (λ s. (so_far ply P).0 (one.0 s), λ s. one.1 ((so_far ply P).1 s))
           ];
     }
@@ -48,8 +65,11 @@ returns-clause-kept c ply P =
     let all = c.args.alternatives.now in
     let left = map (λ a. on_positions a.now) c.loop-alternative.left.items in
     let end : c.loop-alternative.alternative-index ≡ length all = omega arith in
-    let none : left ++ drop c.loop-alternative.alternative-index all ≡ left = ap (λ n. left ++ drop n all) end ∙ ap (λ x. left ++ x) (drop-length all) ∙ append-nil left in
-    subst (λ x. SomeHold heading replay ply P x ↔ SomeHold heading replay ply P all) none (c.loop-alternative.invariant.kept ply P)
+    let none : left ++ drop c.loop-alternative.alternative-index all ≡ left =
+    ap (λ n. left ++ drop n all) end ∙ ap (λ x. left ++ x) (drop-length all) ∙ append-nil left
+    in
+    subst (λ x. SomeHold heading replay ply P x
+    ↔ SomeHold heading replay ply P all) none (c.loop-alternative.invariant.kept ply P)
 
 pub returns-clause-free : goal.returns-clause-free
 returns-clause-free c = none_of_none (λ a. a.now) c.loop-alternative.left.items

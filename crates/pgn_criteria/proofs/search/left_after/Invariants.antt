@@ -8,6 +8,8 @@ abbrev pub invariant-loop-alternative : goal.invariant-loop-alternative
 invariant-loop-alternative l = record {
   good : AllGood (drop l.alternative-index l.alternatives);
   still : (most : ℕ) × EachAsksWithin most (drop l.alternative-index l.alternatives);
-  kept : (ply : ℕ) (P : State) → SomeHold (heading_of l.game) l.opening ply P (map (λ a. on_positions a.now) l.left.items ++ drop l.alternative-index l.alternatives)
+  kept : (ply : ℕ) (P : State)
+      → SomeHold (heading_of l.game) l.opening ply P (map (λ a. on_positions a.now) l.left.items
+      ++ drop l.alternative-index l.alternatives)
       ↔ SomeHold (heading_of l.game) l.opening ply P l.alternatives;
 }

@@ -1,4 +1,5 @@
-use Rattle.std.proofs.Common.{◌↔◌, ◌⊎◌, ◌<◌, false, get_or, length, IsTrue, sym, ◌∙◌, inl, inr, arith}
+use Rattle.std.proofs.Common.{◌↔◌, ◌⊎◌, ◌<◌, false, get_or, length, IsTrue, sym, ◌∙◌, inl, inr}
+use Rattle.std.proofs.Common.{arith}
 use Rattle.pgn_criteria.specs.Private.Stages.{FitsAt, FitsAbout}
 use Rattle.pgn_criteria.proofs.SpanFacts.{reports_about, run_known, done_more, left_more}
 use Rattle.pgn_criteria.proofs.spans.add_plies.Goals as goal
@@ -10,7 +11,9 @@ loop-ply-preserved c =
     let own = c.args.alternative.now in
     let at = c.loop-ply.ply in
     let now = c.loop-ply.met in
-    let reports = reports_about replay own at c.run_on-run.result c.many_of-many.result c.run_on-run.ensures c.many_of-many.ensures in
+    let reports =
+    reports_about replay own at c.run_on-run.result c.many_of-many.result c.run_on-run.ensures
+    c.many_of-many.ensures in
     let within : at < length now = omega (arith, c.loop-ply-test.true, c.loop-ply.auto.met) in
     let here : IsTrue c.if-met-ply.met ↔ (IsTrue (get_or now at false) ⊎ FitsAbout replay own at) =
     elim c.if-met-ply.branch [
@@ -24,7 +27,10 @@ loop-ply-preserved c =
       )
     ] in
     record {
-      done = done_more c.args.met.now now (FitsAbout replay own) at c.if-met-ply.met within c.loop-ply.invariant.left c.loop-ply.invariant.done here;
-      left = left_more c.args.met.now now (FitsAbout replay own) at c.if-met-ply.met within c.loop-ply.invariant.left;
-      known = run_known (FitsAt replay own) at c.run_on-run.result c.checked_sub-known.result c.run_on-run.ensures c.checked_sub-known.ensures;
+      done = done_more c.args.met.now now (FitsAbout replay own) at c.if-met-ply.met within
+          c.loop-ply.invariant.left c.loop-ply.invariant.done here;
+      left = left_more c.args.met.now now (FitsAbout replay own) at c.if-met-ply.met within
+          c.loop-ply.invariant.left;
+      known = run_known (FitsAt replay own) at c.run_on-run.result c.checked_sub-known.result
+          c.run_on-run.ensures c.checked_sub-known.ensures;
     }

@@ -10,7 +10,9 @@ loop-plies-preserved c =
     let replay = c.args.replayed.now in
     let own = c.args.alternative.now in
     let at = c.loop-plies.plies in
-    let reports = reports_about replay own at c.run_on-run.result c.many_of-many.result c.run_on-run.ensures c.many_of-many.ensures in
+    let reports =
+    reports_about replay own at c.run_on-run.result c.many_of-many.result c.run_on-run.ensures
+    c.many_of-many.ensures in
     record {
       from = omega (arith, c.loop-plies.invariant.from);
       none = λ n low less fits. elim (cases_lt n at) [
@@ -20,7 +22,8 @@ loop-plies-preserved c =
             let t = c.stands_about.ensures.1 (reports.1 (subst (FitsAbout replay own) same fits)) in
             absurd (cc (t, c.if-stands_about.false))
       ];
-      known = run_known (FitsAt replay own) at c.run_on-run.result c.checked_sub-known.result c.run_on-run.ensures c.checked_sub-known.ensures;
+      known = run_known (FitsAt replay own) at c.run_on-run.result c.checked_sub-known.result
+          c.run_on-run.ensures c.checked_sub-known.ensures;
     }
 
 pub returns-then-stands_about : goal.returns-then-stands_about
@@ -28,8 +31,14 @@ returns-then-stands_about c =
     let replay = c.args.replayed.now in
     let own = c.args.alternative.now in
     let at = c.loop-plies.plies in
-    let reports = reports_about replay own at c.run_on-run.result c.many_of-many.result c.run_on-run.ensures c.many_of-many.ensures in
-    (c.loop-plies.invariant.from, c.loop-plies-test.true, reports.0 (c.stands_about.ensures.0 c.if-stands_about.true), c.loop-plies.invariant.none)
+    let reports =
+    reports_about replay own at c.run_on-run.result c.many_of-many.result c.run_on-run.ensures
+    c.many_of-many.ensures in (
+      c.loop-plies.invariant.from,
+      c.loop-plies-test.true,
+      reports.0 (c.stands_about.ensures.0 c.if-stands_about.true),
+      c.loop-plies.invariant.none,
+    )
 
 pub returns-else-plies : goal.returns-else-plies
 returns-else-plies c n low high fits =
@@ -41,4 +50,5 @@ returns-else-plies c n low high fits =
     ]
 
 pub returns-after-loop-plies : goal.returns-after-loop-plies
-returns-after-loop-plies c n low high fits = c.loop-plies.invariant.none n low (omega (arith, high, c.loop-plies-test.false)) fits
+returns-after-loop-plies c n low high fits =
+    c.loop-plies.invariant.none n low (omega (arith, high, c.loop-plies-test.false)) fits

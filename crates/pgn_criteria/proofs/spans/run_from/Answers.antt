@@ -5,7 +5,8 @@ use Rattle.pgn_criteria.specs.Private.Stages.{FitsAt}
 use Rattle.pgn_criteria.proofs.spans.run_from.Goals as goal
 
 -- the plies of a run and the next one
-one_more : (Such : ℕ → Type 0) (ply run at : ℕ) → at ≡ ply + run → ((i : ℕ) → i < run → Such (ply + i)) → Such at → (i : ℕ) → i < run + 1 → Such (ply + i)
+one_more : (Such : ℕ → Type 0) (ply run at : ℕ) → at ≡ ply + run
+    → ((i : ℕ) → i < run → Such (ply + i)) → Such at → (i : ℕ) → i < run + 1 → Such (ply + i)
 one_more Such ply run at reached all such i less = elim (cases_lt i run) [
   | inl before ↦ all i before
   | inr up ↦ let same : at ≡ ply + i = omega (arith, reached, up, less) in subst Such same such
@@ -14,11 +15,20 @@ one_more Such ply run at reached all such i less = elim (cases_lt i run) [
 pub returns-then-at-plies : goal.returns-then-at-plies
 returns-then-at-plies c = record {
   all =
-      one_more (FitsAt c.args.replayed.now c.args.alternative.now) c.args.plies c.loop-run.run c.loop-run.at c.loop-run.invariant.reached c.loop-run.invariant.all
+      one_more (FitsAt c.args.replayed.now c.args.alternative.now) c.args.plies c.loop-run.run
+      c.loop-run.at c.loop-run.invariant.reached c.loop-run.invariant.all
       (c.fits_at.ensures.0 c.loop-run-test.true);
   ended = λ fits.
-      let within = slice_get_within c.args.replayed.now.positions (c.args.plies + (c.loop-run.run + 1)) fits.0 fits.1 in
-      omega (arith, within, c.loop-run.invariant.reached, c.if-at-plies.true, c.plies.ensures.positions);
+      let within =
+      slice_get_within c.args.replayed.now.positions (c.args.plies
+      + (c.loop-run.run + 1)) fits.0 fits.1 in
+      omega (
+        arith,
+        within,
+        c.loop-run.invariant.reached,
+        c.if-at-plies.true,
+        c.plies.ensures.positions,
+      );
 }
 
 pub loop-run-preserved : goal.loop-run-preserved
@@ -26,7 +36,8 @@ loop-run-preserved c = record {
   reached = omega (arith, c.loop-run.invariant.reached);
   within = omega (arith, c.loop-run.invariant.within, c.if-at-plies.false, c.plies.ensures.count);
   all =
-      one_more (FitsAt c.args.replayed.now c.args.alternative.now) c.args.plies c.loop-run.run c.loop-run.at c.loop-run.invariant.reached c.loop-run.invariant.all
+      one_more (FitsAt c.args.replayed.now c.args.alternative.now) c.args.plies c.loop-run.run
+      c.loop-run.at c.loop-run.invariant.reached c.loop-run.invariant.all
       (c.fits_at.ensures.0 c.loop-run-test.true);
 }
 
@@ -34,6 +45,8 @@ pub returns : goal.returns
 returns c = record {
   all = c.loop-run.invariant.all;
   ended = λ fits.
-      let t = c.fits_at.ensures.1 (subst (FitsAt c.args.replayed.now c.args.alternative.now) (omega (arith, c.loop-run.invariant.reached)) fits) in
+      let t = c.fits_at.ensures.1
+      (subst (FitsAt c.args.replayed.now c.args.alternative.now)
+      (omega (arith, c.loop-run.invariant.reached)) fits) in
       absurd (cc (t, c.loop-run-test.false));
 }

@@ -8,8 +8,11 @@ use Rattle.pgn_extract.specs.Public.GivenMarks.{game_id}
 
 abbrev pub invariant-loop-block : goal.invariant-loop-block
 invariant-loop-block g l =
-    Progress (aim_of l.settings) block_limit depth_limit (game_id l.settings.number l.settings.offset) l.blocks (g.R.Read.remaining l.fn.input.inner) (g.R.Read.remaining l.input.inner) l.fn.input.moved l.input.moved
-    (g.O.Write.contents l.fn.out.inner) (g.O.Write.contents l.out.inner) (g.E.Write.contents l.fn.err.inner) (g.E.Write.contents l.err.inner) l.games l.faulty
+    Progress (aim_of l.settings) block_limit depth_limit
+    (game_id l.settings.number l.settings.offset) l.blocks (g.R.Read.remaining l.fn.input.inner)
+    (g.R.Read.remaining l.input.inner) l.fn.input.moved l.input.moved
+    (g.O.Write.contents l.fn.out.inner) (g.O.Write.contents l.out.inner)
+    (g.E.Write.contents l.fn.err.inner) (g.E.Write.contents l.err.inner) l.games l.faulty
     × (l.input.faulted ≡ false) × (l.out.faulted ≡ false) × (l.err.faulted ≡ false)
 
 abbrev pub decreases-loop-block : goal.decreases-loop-block

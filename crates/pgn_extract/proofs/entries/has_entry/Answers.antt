@@ -8,14 +8,16 @@ use Rattle.pgn_extract.proofs.entries.has_entry.Goals as goal
 
 pub find_played-requires-clause-asks : goal.find_played-requires-clause-asks
 find_played-requires-clause-asks c =
-    asks_given (aim_of c.args.settings.now) c.args.game.now c.in-Some.criteria c.in_ok-question.field-0 c.in-Some-2.question
+    asks_given (aim_of c.args.settings.now) c.args.game.now c.in-Some.criteria
+    c.in_ok-question.field-0 c.in-Some-2.question
     c.in-Some.is c.in-Some-2.is c.in_ok-question.ensures
 
 pub returns-in_default : goal.returns-in_default
 returns-in_default c =
     let plies = c.in_ok-count_plies.ensures in (
       (plies.0, plies.1),
-      λ replay own. within_entry (aim_of c.args.settings.now) c.args.game.now plies.0 replay _ c.is_within.result c.in_default.is plies.1 plies.2 own c.is_within.ensures,
+      λ replay own. within_entry (aim_of c.args.settings.now) c.args.game.now plies.0 replay _
+          c.is_within.result c.in_default.is plies.1 plies.2 own c.is_within.ensures,
     )
 
 any_id : GameId
@@ -23,5 +25,6 @@ any_id = record { number = 0; offset = 0 }
 
 pub returns : goal.returns
 returns c =
-    tells_some (aim_with c.args.settings.now (record { fen = false; next = false }) None) any_id c.args.game.now c.find_played.new.sink
+    tells_some (aim_with c.args.settings.now (record { fen = false; next = false }) None) any_id
+    c.args.game.now c.find_played.new.sink
     (c.in_ok-find_played.ensures.found None any_id)

@@ -9,15 +9,23 @@ use Rattle.pgn_extract.proofs.packed.begin_at.Goals as goal
 
 pub returns-then-not-is_contents-clause-err : goal.returns-then-not-is_contents-clause-err
 returns-then-not-is_contents-clause-err c is game replay packed own =
-    let yes = c.is_contents.ensures.1 (own.text.strings fen_tag c.args.contents.now (c.requires game replay packed own)) in
+    let yes =
+    c.is_contents.ensures.1
+    (own.text.strings fen_tag c.args.contents.now (c.requires game replay packed own)) in
     absurd (cc (yes, c.if-not-is_contents.true))
 
 pub returns-in-Ok-clause-ok : goal.returns-in-Ok-clause-ok
 returns-in-Ok-clause-ok c game replay packed own =
     let P : State = c.in-Ok.position in
-    let start : IsStart (tag_in fen_tag game.tags) P = subst (λ fen. IsStart fen P) (sym (c.requires game replay packed own)) c.in-Ok.ensures in
-    sight_at_start own P start c.new.result (ap (λ (s : Sight). s.men) c.new.ensures ∙ c.board-board.ensures) (ap (λ (s : Sight). s.turn) c.new.ensures ∙ c.side.ensures)
-    (record { check = ap (λ (s : Sight). s.check) c.new.ensures ∙ c.in_check.ensures; stuck = ap (λ (s : Sight). s.stuck) c.new.ensures ∙ c.is_stuck.ensures })
+    let start : IsStart (tag_in fen_tag game.tags) P =
+    subst (λ fen. IsStart fen P) (sym (c.requires game replay packed own)) c.in-Ok.ensures in
+    sight_at_start own P start c.new.result (ap (λ (s : Sight). s.men) c.new.ensures
+    ∙ c.board-board.ensures) (ap (λ (s : Sight). s.turn) c.new.ensures ∙ c.side.ensures)
+    (record {
+      check = ap (λ (s : Sight). s.check) c.new.ensures ∙ c.in_check.ensures;
+      stuck =
+          ap (λ (s : Sight). s.stuck) c.new.ensures ∙ c.is_stuck.ensures;
+    })
 
 pub returns-in-Err : goal.returns-in-Err
 returns-in-Err c = record {
@@ -25,5 +33,6 @@ returns-in-Err c = record {
   err = λ is game replay packed own.
       let reported = c.start_fault.ensures is in
       let bad : IsBadStart (Some c.args.contents.now) = (rw reported.1 at c.in-Err.ensures).0 in
-      start_or_bad (tag_in fen_tag game.tags) own.is_replay.start own.is_replay.is_start (subst IsBadStart (sym (c.requires game replay packed own)) bad);
+      start_or_bad (tag_in fen_tag game.tags) own.is_replay.start own.is_replay.is_start
+      (subst IsBadStart (sym (c.requires game replay packed own)) bad);
 }

@@ -14,10 +14,12 @@ pub returns-clause-ok : goal.returns-clause-ok
 returns-clause-ok c =
     let raw = c.args.record.now in
     let marked : c.deref.result.now ≡ named_mark raw.name (raw_id raw) =
-    c.deref.ensures.value ∙ c.in_ok-push_record_mark.ensures ∙ ap (λ t. t ++ named_mark raw.name (raw_id raw)) c.in_ok-mark.ensures.items in
+    c.deref.ensures.value ∙ c.in_ok-push_record_mark.ensures
+    ∙ ap (λ t. t ++ named_mark raw.name (raw_id raw)) c.in_ok-mark.ensures.items in
     let adds = c.in_ok-push_lines.ensures raw.name (raw_id raw) marked in
     let count = length c.plies.result.now / 3 in
-    let any : Replay = record { positions = replicate (count + 1) initial; played = []; turns = [] } in
+    let any : Replay = record { positions = replicate (count + 1) initial; played = []; turns = [] }
+    in
     let tags : Heading = record { named = λ name. None; result = [] } in
     let some = adds tags any (length-replicate (count + 1) initial) in (
       (listing raw.name some.0, some.2),

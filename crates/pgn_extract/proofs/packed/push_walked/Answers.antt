@@ -3,7 +3,7 @@ use Rattle.std.specs.Prelude.{IsTrue}
 use Rattle.pgn_criteria.specs.Public.Sieves.{MeetsSeen, NowhereSeen, codes_in}
 use Rattle.pgn_criteria.specs.Public.ByMarks.{has_marks}
 use Rattle.pgn_criteria.specs.Public.Meeting.{heading_of}
-use Rattle.pgn_criteria.specs.declared.condition.Condition.{Condition}
+use Rattle.pgn_criteria.specs.Public.Conditions.{Conditions}
 use Rattle.pgn_criteria.proofs.MeetFacts.{meets_at}
 use Rattle.pgn_extract.specs.Public.Aims.{aim_of, IsMet}
 use Rattle.pgn_extract.proofs.Picks.{same_met}
@@ -14,23 +14,33 @@ pub push_marked-requires-clause-met : goal.push_marked-requires-clause-met
 push_marked-requires-clause-met c game replay packed own P check stuck marks other ply here =
     let found = rw c.in-Some.is at c.marks_packed.ensures in
     let r = has_marks c.in-Some.marks.bits P.turn check stuck in
-    let met = meets_at (heading_of game) other ply c.args.criteria.now P r here (found game replay packed own.kept own.fits own.shows P check stuck marks other ply) in
-    subst (λ (o : Option (List (List (Condition (List ℕ))))). IsTrue r ↔ IsMet o (heading_of game) other ply) (sym c.requires.criteria) met
+    let met =
+    meets_at (heading_of game) other ply c.args.criteria.now P r here
+    (found game replay packed own.kept own.fits own.shows P check stuck marks other ply) in
+    subst (λ (o : Option (List Conditions)). IsTrue r
+    ↔ IsMet o (heading_of game) other ply) (sym c.requires.criteria) met
 
 pub returns-then-not-may_be_met-clause-ok : goal.returns-then-not-may_be_met-clause-ok
 returns-then-not-may_be_met-clause-ok c =
-    lists_nothing (aim_of c.args.settings.now) c.args.record.now c.in-Some-2.search c.begin.new.walk c.args.text.now.items
+    lists_nothing (aim_of c.args.settings.now) c.args.record.now c.in-Some-2.search c.begin.new.walk
+    c.args.text.now.items
     (λ game replay packed own any of_game ply within.
     let found = rw c.in-Some-2.is at c.in_ok-search.ensures in
-    same_met (heading_of game) any c.args.settings.now.criteria c.args.criteria.now c.in-Some-2.search ply c.requires.criteria (found game replay packed own.kept own.fits own.shows any ply))
+    same_met (heading_of game) any c.args.settings.now.criteria c.args.criteria.now
+    c.in-Some-2.search ply c.requires.criteria
+    (found game replay packed own.kept own.fits own.shows any ply))
     c.in_default-begin.ensures.ok
-    (subst (λ plies. NowhereSeen (MeetsSeen c.in-Some-2.search) c.begin.new.walk.men c.begin.new.walk.turn (IsTrue c.begin.new.walk.check) (IsTrue c.begin.new.walk.stuck) (codes_in plies))
+    (subst (λ plies.
+    NowhereSeen (MeetsSeen c.in-Some-2.search) c.begin.new.walk.men c.begin.new.walk.turn
+    (IsTrue c.begin.new.walk.check) (IsTrue c.begin.new.walk.stuck) (codes_in plies))
     c.plies.ensures (c.may_be_met.ensures c.if-not-may_be_met.true))
 
 pub walk-requires-clause-asks : goal.walk-requires-clause-asks
 walk-requires-clause-asks c game replay packed own any of_game ply within =
     let found = rw c.in-Some-2.is at c.in_ok-search.ensures in
-    same_met (heading_of game) any c.args.settings.now.criteria c.args.criteria.now c.in-Some-2.search ply c.requires.criteria (found game replay packed own.kept own.fits own.shows any ply)
+    same_met (heading_of game) any c.args.settings.now.criteria c.args.criteria.now
+    c.in-Some-2.search ply c.requires.criteria
+    (found game replay packed own.kept own.fits own.shows any ply)
 
 pub returns-in-Err-clause-err : goal.returns-in-Err-clause-err
 returns-in-Err-clause-err c is = (refl, c.in-Err.ensures.err is)

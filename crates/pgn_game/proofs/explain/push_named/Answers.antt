@@ -6,4 +6,5 @@ returns-in_default c = inl (refl, c.in_default.ensures)
 
 pub returns : goal.returns
 returns c =
-    let found = c.in-Some.ensures in inr (c.in-Some.m, c.in_ok-push.ensures.items, found.0, found.1, found.2)
+    let found = c.in-Some.ensures in
+    inr (c.in-Some.m, c.in_ok-push.ensures.items, found.0, found.1, found.2)

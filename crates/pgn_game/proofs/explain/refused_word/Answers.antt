@@ -10,4 +10,5 @@ returns c =
     let fen = tag_in fen_tag c.args.raw.now.tags in
     found_at c.args.lines fen c.args.raw.now.elements start c.in_ok-first_refused.field-0
     (subst (λ tags. IsStart (tag_in fen_tag tags) start) c.tags.ensures.tags c.in_ok-start.ensures)
-    (subst (λ items. IsFoundFrom c.args.lines start items c.in_ok-first_refused.field-0) c.elements.ensures.elements c.in_ok-first_refused.ensures)
+    (subst (λ items. IsFoundFrom c.args.lines start items c.in_ok-first_refused.field-0)
+    c.elements.ensures.elements c.in_ok-first_refused.ensures)

@@ -23,5 +23,9 @@ returns-clause-one_list c = λ max_depth file_start block.
 
 pub returns-clause-one_marked_list : goal.returns-clause-one_marked_list
 returns-clause-one_marked_list c = λ limit max_depth offset text.
-    let found = marked_pieces_exist limit max_depth offset text in
-    (found.0, found.1, λ others h. one_marked_pieces limit max_depth offset text others found.0 h found.1)
+    let found = marked_pieces_exist limit max_depth offset text in (
+      found.0,
+      found.1,
+      λ others h.
+          one_marked_pieces limit max_depth offset text others found.0 h found.1,
+    )

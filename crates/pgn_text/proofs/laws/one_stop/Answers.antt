@@ -15,11 +15,14 @@ returns-clause-once c = λ max_depth file_start before text.
     (found.0, found.1, λ other h. one_stop max_depth file_start before text other found.0 h found.1)
 
 pub returns-clause-fronts : goal.returns-clause-fronts
-returns-clause-fronts c = λ max_depth file_start before front more g. front_of_front max_depth file_start before front more g
+returns-clause-fronts c =
+    λ max_depth file_start before front more g. front_of_front max_depth file_start before front
+    more g
 
 pub returns-clause-game : goal.returns-clause-game
 returns-clause-game c = λ max_depth file_start before text parts after e g.
-    stops_at_game max_depth file_start before text parts after (game_reads max_depth file_start before text parts after e g)
+    stops_at_game max_depth file_start before text parts after
+    (game_reads max_depth file_start before text parts after e g)
 
 pub returns-clause-change : goal.returns-clause-change
 returns-clause-change c = λ max_depth file_start before game text change place g same within stops.

@@ -12,7 +12,8 @@ pub loop-block-preserved : goal.loop-block-preserved
 loop-block-preserved c =
     let gives = rw (c.in-Ok-Some.is, c.in-Ok-Some.field-0-is) at c.next.follows.holds-at-none in
     rw c.in-Ok.ensures.items
-    (one_sized c.args.text.now _ _ _ _ gives.0 gives.2.0 _ _ c.loop-block.invariant gives.2.1 gives.1.bytes
+    (one_sized c.args.text.now _ _ _ _ gives.0 gives.2.0 _ _ c.loop-block.invariant gives.2.1
+    gives.1.bytes
     (c.size_of-size.ensures block_limit gives.2.0 gives.2.2.0))
 
 pub returns-in-Ok-None : goal.returns-in-Ok-None

@@ -5,5 +5,6 @@ use Rattle.pgn_text.proofs.memory.first_piece.Goals as goal
 
 pub returns-in-Some-Ok : goal.returns-in-Some-Ok
 returns-in-Some-Ok c =
-    first_piece_of depth_limit c.args.block.now c.args.file_start _ _ c.in-Some-Ok.piece c.games-pieces.ensures
+    first_piece_of depth_limit c.args.block.now c.args.file_start _ _ c.in-Some-Ok.piece
+    c.games-pieces.ensures
     (rw c.in-Some-Ok.field-0-is at c.in-Some-Ok.ensures.steps)

@@ -12,9 +12,14 @@ pub returns : goal.returns
 returns c s on_board =
     let man = c.args.man in
     let row = pseudo_attacks_row_of man.side man.kind in
-    let bit : has_bit (get_or (get_or PSEUDO_ATTACKS c.pseudo_attacks_row.result []) c.index.result 0) (index_of s) ≡ sees man.side man.kind s c.args.target =
-    ap (λ n. has_bit (get_or (get_or PSEUDO_ATTACKS n []) c.index.result 0) (index_of s)) c.pseudo_attacks_row.ensures.row
-    ∙ ap (λ n. has_bit (get_or (get_or PSEUDO_ATTACKS row []) n 0) (index_of s)) c.index.ensures.place
-    ∙ table_bit (get_or PSEUDO_ATTACKS row []) (sees man.side man.kind) (hits_fit man.side man.kind) s c.args.target on_board c.index.ensures.on_board in
+    let bit : has_bit
+    (get_or (get_or PSEUDO_ATTACKS c.pseudo_attacks_row.result []) c.index.result 0)
+    (index_of s) ≡ sees man.side man.kind s c.args.target =
+    ap (λ n. has_bit (get_or (get_or PSEUDO_ATTACKS n []) c.index.result 0) (index_of s))
+    c.pseudo_attacks_row.ensures.row
+    ∙ ap (λ n. has_bit (get_or (get_or PSEUDO_ATTACKS row []) n 0) (index_of s))
+    c.index.ensures.place
+    ∙ table_bit (get_or PSEUDO_ATTACKS row []) (sees man.side man.kind) (hits_fit man.side man.kind)
+    s c.args.target on_board c.index.ensures.on_board in
     let test = sees_is man.side man.kind s c.args.target in
     ((λ e. test.0 (sym bit ∙ e)), (λ f. bit ∙ test.1 f))

@@ -23,11 +23,16 @@ returns c p h men = (
     | inr diagonal ↦ attacked_diagonal p c.args.side c.args.square diagonal
   ]),
   (λ hit. elim (hit_at_all p c.args.side c.args.square h.on_board hit) [
-    | inl knight ↦ absurd (true_not_false _ ((c.is_hit_nearby.ensures p h).1 (inl knight)) c.if-is_hit_nearby.false)
+    | inl knight ↦ absurd
+        (true_not_false _ ((c.is_hit_nearby.ensures p h).1 (inl knight)) c.if-is_hit_nearby.false)
     | inr other ↦ elim other [
-      | inl king ↦ absurd (true_not_false _ ((c.is_hit_nearby.ensures p h).1 (inr (inl king))) c.if-is_hit_nearby.false)
+      | inl king ↦ absurd
+          (true_not_false _ ((c.is_hit_nearby.ensures p h).1 (inr (inl king)))
+          c.if-is_hit_nearby.false)
       | inr other ↦ elim other [
-        | inl pawn ↦ absurd (true_not_false _ ((c.is_hit_nearby.ensures p h).1 (inr (inr pawn))) c.if-is_hit_nearby.false)
+        | inl pawn ↦ absurd
+            (true_not_false _ ((c.is_hit_nearby.ensures p h).1 (inr (inr pawn)))
+            c.if-is_hit_nearby.false)
         | inr line ↦ (c.is_hit_along_line.ensures p h men).1 line
       ]
     ]

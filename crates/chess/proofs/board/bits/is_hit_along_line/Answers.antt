@@ -9,7 +9,8 @@ returns-then-seen-eq0 c p h men =
     let rook = IsSeeingRunner p c.args.side Rook c.args.square in
     let bishop = IsSeeingRunner p c.args.side Bishop c.args.square in
     hit_along_line p c.args.side c.args.square _ false
-    (either_word rook bishop c.sliders_in_line.result c.sliders_in_line-2.result (c.sliders_in_line.ensures p h) (c.sliders_in_line-2.ensures p h))
+    (either_word rook bishop c.sliders_in_line.result c.sliders_in_line-2.result
+    (c.sliders_in_line.ensures p h) (c.sliders_in_line-2.ensures p h))
     (none_seen p c.args.square _ c.if-seen-eq0.true)
 
 pub returns : goal.returns
@@ -17,5 +18,6 @@ returns c p h men =
     let rook = IsSeeingRunner p c.args.side Rook c.args.square in
     let bishop = IsSeeingRunner p c.args.side Bishop c.args.square in
     hit_along_line p c.args.side c.args.square _ c.has_unblocked.result
-    (either_word rook bishop c.sliders_in_line.result c.sliders_in_line-2.result (c.sliders_in_line.ensures p h) (c.sliders_in_line-2.ensures p h))
+    (either_word rook bishop c.sliders_in_line.result c.sliders_in_line-2.result
+    (c.sliders_in_line.ensures p h) (c.sliders_in_line-2.ensures p h))
     (c.has_unblocked.ensures p men)

@@ -11,5 +11,6 @@ returns c p h =
     let near = bit_or c.seers-knights.result c.seers-kings.result in
     hit_nearby p side t (bit_or near c.seers-pawns.result) c.of_word.result c.has_some.result
     (either_word _ (IsSeer p side Pawn t) near c.seers-pawns.result
-    (either_word (IsSeer p side Knight t) (IsSeer p side King t) c.seers-knights.result c.seers-kings.result (c.seers-knights.ensures p h) (c.seers-kings.ensures p h))
+    (either_word (IsSeer p side Knight t) (IsSeer p side King t) c.seers-knights.result
+    c.seers-kings.result (c.seers-knights.ensures p h) (c.seers-kings.ensures p h))
     (c.seers-pawns.ensures p h)) c.of_word.ensures c.has_some.ensures

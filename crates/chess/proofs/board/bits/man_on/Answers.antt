@@ -15,8 +15,12 @@ returns-then-words-row-ne0 c =
     let near = c.loop-row-test.true in
     ap Some c.man_of.ensures
     ∙ sym (man_at-words words s on
-    ∙ has_man words 12 c.loop-row.row (index_of s) c.requires (omega arith) near (index_of-below s on)
-    (true_from_ne_false _ (λ e. c.if-words-row-ne0.true (common_none (word_at words c.loop-row.row) c.word_of-bit.result s c.word_of-bit.ensures.word e))))
+    ∙ has_man words 12 c.loop-row.row (index_of s) c.requires (omega arith) near
+    (index_of-below s on)
+    (true_from_ne_false _ (λ e.
+    c.if-words-row-ne0.true
+    (common_none (word_at words c.loop-row.row) c.word_of-bit.result s
+    c.word_of-bit.ensures.word e))))
 
 pub returns : goal.returns
 returns c =
@@ -25,4 +29,5 @@ returns c =
     let all = c.loop-row-test.false in
     sym (man_at-words words s c.word_of-bit.ensures.on_board
     ∙ no_man words 12 (index_of s) (λ k less. false_of _ (λ e.
-    common_some (word_at words k) c.word_of-bit.result s c.word_of-bit.ensures.word e (c.loop-row.invariant k (omega arith)))))
+    common_some (word_at words k) c.word_of-bit.result s c.word_of-bit.ensures.word e
+    (c.loop-row.invariant k (omega arith)))))

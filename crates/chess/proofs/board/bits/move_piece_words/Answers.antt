@@ -15,12 +15,17 @@ returns-clause-apart c =
     let on_taken = c.word_of.ensures.on_board in
     let on_to = c.word_of-2.ensures.on_board in
     let none = c.if-occupied-word_of-eq0.true in
-    moved_apart old c.slide.new.words c.args.taken c.args.from c.args.to (Some man) c.told-words on_taken on_from c.requires
-    (slid_put old c.slide.new.words man c.args.from c.args.taken c.args.to c.told-words on_from on_taken on_to c.requires
-    ((has_square (IsMan men man.side man.kind) c.squares_with.result c.word_of-3.result c.args.from on_from c.word_of-3.ensures.word c.squares_with.ensures).0
+    moved_apart old c.slide.new.words c.args.taken c.args.from c.args.to (Some man) c.told-words
+    on_taken on_from c.requires
+    (slid_put old c.slide.new.words man c.args.from c.args.taken c.args.to c.told-words on_from
+    on_taken on_to c.requires
+    ((has_square (IsMan men man.side man.kind) c.squares_with.result c.word_of-3.result c.args.from
+    on_from c.word_of-3.ensures.word c.squares_with.ensures).0
     c.if-squares_with-word_of-ne0.true)
-    (first_empty men c.occupied.result c.word_of.result c.word_of-2.result c.args.taken on_taken c.occupied.ensures none c.word_of.ensures.word)
-    (second_empty men c.occupied.result c.word_of.result c.word_of-2.result c.args.to on_to c.occupied.ensures none c.word_of-2.ensures.word)
+    (first_empty men c.occupied.result c.word_of.result c.word_of-2.result c.args.taken on_taken
+    c.occupied.ensures none c.word_of.ensures.word)
+    (second_empty men c.occupied.result c.word_of.result c.word_of-2.result c.args.to on_to
+    c.occupied.ensures none c.word_of-2.ensures.word)
     c.slide.ensures)
 
 pub returns-clause-men : goal.returns-clause-men
@@ -32,11 +37,17 @@ returns-clause-men c =
     let on_taken = c.word_of.ensures.on_board in
     let on_to = c.word_of-2.ensures.on_board in
     let none = c.if-occupied-word_of-eq0.true in
-    moved_men old c.slide.new.words c.args.taken c.args.from c.args.to (Some man) c.told-words on_taken on_from on_to c.requires
-    (slid_put old c.slide.new.words man c.args.from c.args.taken c.args.to c.told-words on_from on_taken on_to c.requires
-    ((has_square (IsMan men man.side man.kind) c.squares_with.result c.word_of-3.result c.args.from on_from c.word_of-3.ensures.word c.squares_with.ensures).0
+    moved_men old c.slide.new.words c.args.taken c.args.from c.args.to (Some man) c.told-words
+    on_taken on_from on_to c.requires
+    (slid_put old c.slide.new.words man c.args.from c.args.taken c.args.to c.told-words on_from
+    on_taken on_to c.requires
+    ((has_square (IsMan men man.side man.kind) c.squares_with.result c.word_of-3.result c.args.from
+    on_from c.word_of-3.ensures.word c.squares_with.ensures).0
     c.if-squares_with-word_of-ne0.true)
-    (first_empty men c.occupied.result c.word_of.result c.word_of-2.result c.args.taken on_taken c.occupied.ensures none c.word_of.ensures.word)
-    (second_empty men c.occupied.result c.word_of.result c.word_of-2.result c.args.to on_to c.occupied.ensures none c.word_of-2.ensures.word)
+    (first_empty men c.occupied.result c.word_of.result c.word_of-2.result c.args.taken on_taken
+    c.occupied.ensures none c.word_of.ensures.word)
+    (second_empty men c.occupied.result c.word_of.result c.word_of-2.result c.args.to on_to
+    c.occupied.ensures none c.word_of-2.ensures.word)
     c.slide.ensures)
-    ∙ ap (with_man (with_man (with_man men c.args.taken None) c.args.from None) c.args.to) (sym c.in-Some.is)
+    ∙ ap (with_man (with_man (with_man men c.args.taken None) c.args.from None) c.args.to)
+    (sym c.in-Some.is)

@@ -9,24 +9,33 @@ pub returns-in_default-clause-apart : goal.returns-in_default-clause-apart
 returns-in_default-clause-apart c =
     put_apart c.args.words.now c.clear.new.words (index_of c.args.square) None c.requires
     (put_none c.args.words.now c.clear.new.words (index_of c.args.square)
-    (subst (λ (w : ℕ). IsCleared c.args.words.now c.clear.new.words w) c.word_of.ensures.word c.clear.ensures))
+    (subst (λ (w : ℕ). IsCleared c.args.words.now c.clear.new.words w) c.word_of.ensures.word
+    c.clear.ensures))
 
 pub returns-in_default-clause-men : goal.returns-in_default-clause-men
 returns-in_default-clause-men c =
-    put_men c.args.words.now c.clear.new.words c.args.square None c.word_of.ensures.on_board c.requires
+    put_men c.args.words.now c.clear.new.words c.args.square None c.word_of.ensures.on_board
+    c.requires
     (put_none c.args.words.now c.clear.new.words (index_of c.args.square)
-    (subst (λ (w : ℕ). IsCleared c.args.words.now c.clear.new.words w) c.word_of.ensures.word c.clear.ensures))
+    (subst (λ (w : ℕ). IsCleared c.args.words.now c.clear.new.words w) c.word_of.ensures.word
+    c.clear.ensures))
     ∙ ap (with_man (words_men c.args.words.now) c.args.square) (sym c.in_default.is)
 
 pub returns-clause-apart : goal.returns-clause-apart
 returns-clause-apart c =
-    put_apart c.args.words.now c.set.new.words (index_of c.args.square) (Some c.in-Some.man) c.requires
-    (put_some c.args.words.now c.clear.new.words c.set.new.words (index_of c.args.square) c.in-Some.man
-    (subst (λ (w : ℕ). IsCleared c.args.words.now c.clear.new.words w) c.word_of.ensures.word c.clear.ensures) c.set.ensures)
+    put_apart c.args.words.now c.set.new.words (index_of c.args.square) (Some c.in-Some.man)
+    c.requires
+    (put_some c.args.words.now c.clear.new.words c.set.new.words (index_of c.args.square)
+    c.in-Some.man
+    (subst (λ (w : ℕ). IsCleared c.args.words.now c.clear.new.words w) c.word_of.ensures.word
+    c.clear.ensures) c.set.ensures)
 
 pub returns-clause-men : goal.returns-clause-men
 returns-clause-men c =
-    put_men c.args.words.now c.set.new.words c.args.square (Some c.in-Some.man) c.word_of.ensures.on_board c.requires
-    (put_some c.args.words.now c.clear.new.words c.set.new.words (index_of c.args.square) c.in-Some.man
-    (subst (λ (w : ℕ). IsCleared c.args.words.now c.clear.new.words w) c.word_of.ensures.word c.clear.ensures) c.set.ensures)
+    put_men c.args.words.now c.set.new.words c.args.square (Some c.in-Some.man)
+    c.word_of.ensures.on_board c.requires
+    (put_some c.args.words.now c.clear.new.words c.set.new.words (index_of c.args.square)
+    c.in-Some.man
+    (subst (λ (w : ℕ). IsCleared c.args.words.now c.clear.new.words w) c.word_of.ensures.word
+    c.clear.ensures) c.set.ensures)
     ∙ ap (with_man (words_men c.args.words.now) c.args.square) (sym c.in-Some.is)

@@ -10,33 +10,47 @@ pub returns-in_default-clause-men : goal.returns-in_default-clause-men
 returns-in_default-clause-men c =
     let old = c.args.words.now in
     let cleared =
-    cleared_last old c.clear.new.words c.args.taken c.args.from c.args.to c.told-words c.word_of.ensures.on_board c.word_of-2.ensures.on_board
+    cleared_last old c.clear.new.words c.args.taken c.args.from c.args.to c.told-words
+    c.word_of.ensures.on_board c.word_of-2.ensures.on_board
     (subst (IsCleared old c.clear.new.words)
-    (λ i. bit_or (bit_or (c.word_of.ensures.word i) (c.word_of-2.ensures.word i)) (c.word_of-3.ensures.word i)) c.clear.ensures) in
-    moved_men old c.clear.new.words c.args.taken c.args.from c.args.to None c.told-words c.word_of.ensures.on_board c.word_of-2.ensures.on_board
+    (λ i. bit_or (bit_or (c.word_of.ensures.word i) (c.word_of-2.ensures.word i))
+    (c.word_of-3.ensures.word i)) c.clear.ensures) in
+    moved_men old c.clear.new.words c.args.taken c.args.from c.args.to None c.told-words
+    c.word_of.ensures.on_board c.word_of-2.ensures.on_board
     c.word_of-3.ensures.on_board c.requires
-    (put_none (without (without old c.args.taken) c.args.from) c.clear.new.words (index_of c.args.to) cleared)
-    ∙ ap (with_man (with_man (with_man (words_men old) c.args.taken None) c.args.from None) c.args.to) (sym c.in_default.is)
+    (put_none (without (without old c.args.taken) c.args.from) c.clear.new.words
+    (index_of c.args.to) cleared)
+    ∙ ap (with_man (with_man (with_man (words_men old) c.args.taken None) c.args.from None)
+    c.args.to) (sym c.in_default.is)
 
 pub returns-clause-apart : goal.returns-clause-apart
 returns-clause-apart c =
     let old = c.args.words.now in
     let cleared =
-    cleared_last old c.clear.new.words c.args.taken c.args.from c.args.to c.told-words c.word_of.ensures.on_board c.word_of-2.ensures.on_board
+    cleared_last old c.clear.new.words c.args.taken c.args.from c.args.to c.told-words
+    c.word_of.ensures.on_board c.word_of-2.ensures.on_board
     (subst (IsCleared old c.clear.new.words)
-    (λ i. bit_or (bit_or (c.word_of.ensures.word i) (c.word_of-2.ensures.word i)) (c.word_of-3.ensures.word i)) c.clear.ensures) in
-    moved_apart old c.set.new.words c.args.taken c.args.from c.args.to (Some c.in-Some.man) c.told-words c.word_of.ensures.on_board
+    (λ i. bit_or (bit_or (c.word_of.ensures.word i) (c.word_of-2.ensures.word i))
+    (c.word_of-3.ensures.word i)) c.clear.ensures) in
+    moved_apart old c.set.new.words c.args.taken c.args.from c.args.to (Some c.in-Some.man)
+    c.told-words c.word_of.ensures.on_board
     c.word_of-2.ensures.on_board c.requires
-    (put_some (without (without old c.args.taken) c.args.from) c.clear.new.words c.set.new.words (index_of c.args.to) c.in-Some.man cleared c.set.ensures)
+    (put_some (without (without old c.args.taken) c.args.from) c.clear.new.words c.set.new.words
+    (index_of c.args.to) c.in-Some.man cleared c.set.ensures)
 
 pub returns-clause-men : goal.returns-clause-men
 returns-clause-men c =
     let old = c.args.words.now in
     let cleared =
-    cleared_last old c.clear.new.words c.args.taken c.args.from c.args.to c.told-words c.word_of.ensures.on_board c.word_of-2.ensures.on_board
+    cleared_last old c.clear.new.words c.args.taken c.args.from c.args.to c.told-words
+    c.word_of.ensures.on_board c.word_of-2.ensures.on_board
     (subst (IsCleared old c.clear.new.words)
-    (λ i. bit_or (bit_or (c.word_of.ensures.word i) (c.word_of-2.ensures.word i)) (c.word_of-3.ensures.word i)) c.clear.ensures) in
-    moved_men old c.set.new.words c.args.taken c.args.from c.args.to (Some c.in-Some.man) c.told-words c.word_of.ensures.on_board
+    (λ i. bit_or (bit_or (c.word_of.ensures.word i) (c.word_of-2.ensures.word i))
+    (c.word_of-3.ensures.word i)) c.clear.ensures) in
+    moved_men old c.set.new.words c.args.taken c.args.from c.args.to (Some c.in-Some.man)
+    c.told-words c.word_of.ensures.on_board
     c.word_of-2.ensures.on_board c.word_of-3.ensures.on_board c.requires
-    (put_some (without (without old c.args.taken) c.args.from) c.clear.new.words c.set.new.words (index_of c.args.to) c.in-Some.man cleared c.set.ensures)
-    ∙ ap (with_man (with_man (with_man (words_men old) c.args.taken None) c.args.from None) c.args.to) (sym c.in-Some.is)
+    (put_some (without (without old c.args.taken) c.args.from) c.clear.new.words c.set.new.words
+    (index_of c.args.to) c.in-Some.man cleared c.set.ensures)
+    ∙ ap (with_man (with_man (with_man (words_men old) c.args.taken None) c.args.from None)
+    c.args.to) (sym c.in-Some.is)

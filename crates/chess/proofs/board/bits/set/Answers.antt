@@ -8,6 +8,10 @@ pub returns : goal.returns
 returns c =
     let words = c.args.words.now in
     let at = index_of c.args.square in
-    subst (λ (word : ℕ). IsBitSet words (slice_set words c.row.result (bit_or (word_at words c.row.result) word)) (row_of c.args.man) at) (sym c.word_of.ensures.word)
-    (subst (λ (r : ℕ). IsBitSet words (slice_set words c.row.result (bit_or (word_at words c.row.result) (2 ^ at))) r at)
+    subst (λ (word : ℕ).
+    IsBitSet words (slice_set words c.row.result (bit_or (word_at words c.row.result) word))
+    (row_of c.args.man) at) (sym c.word_of.ensures.word)
+    (subst (λ (r : ℕ).
+    IsBitSet words (slice_set words c.row.result (bit_or (word_at words c.row.result) (2 ^ at)))
+    r at)
     c.row.ensures.row (set_one words c.row.result at c.told-words c.row.ensures.below))

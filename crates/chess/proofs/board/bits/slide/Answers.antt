@@ -10,9 +10,14 @@ returns c =
     let a = index_of c.args.from in
     let b = index_of c.args.to in
     let r = c.row.result in
-    subst (λ (w : ℕ). IsSlid words (slice_set words r (bit_xor (word_at words r) (bit_or w c.word_of-2.result))) (row_of c.args.man) a b)
+    subst (λ (w : ℕ).
+    IsSlid words (slice_set words r (bit_xor (word_at words r) (bit_or w c.word_of-2.result)))
+    (row_of c.args.man) a b)
     (sym c.word_of.ensures.word)
-    (subst (λ (w : ℕ). IsSlid words (slice_set words r (bit_xor (word_at words r) (bit_or (2 ^ a) w))) (row_of c.args.man) a b)
+    (subst (λ (w : ℕ).
+    IsSlid words (slice_set words r (bit_xor (word_at words r) (bit_or (2 ^ a) w)))
+    (row_of c.args.man) a b)
     (sym c.word_of-2.ensures.word)
-    (subst (λ (n : ℕ). IsSlid words (slice_set words r (bit_xor (word_at words r) (bit_or (2 ^ a) (2 ^ b)))) n a b)
+    (subst (λ (n : ℕ).
+    IsSlid words (slice_set words r (bit_xor (word_at words r) (bit_or (2 ^ a) (2 ^ b)))) n a b)
     c.row.ensures.row (slide_one words r a b c.told-words c.row.ensures.below)))

@@ -6,5 +6,6 @@ use Rattle.chess.proofs.board.bits.squares_of_runners.Goals as goal
 pub returns : goal.returns
 returns c =
     let men = words_men c.args.words.now in
-    either_word (IsMan men c.args.side Queen) (IsMan men c.args.side c.args.kind) c.squares_with.result c.squares_with-2.result c.squares_with.ensures
+    either_word (IsMan men c.args.side Queen) (IsMan men c.args.side c.args.kind)
+    c.squares_with.result c.squares_with-2.result c.squares_with.ensures
     c.squares_with-2.ensures

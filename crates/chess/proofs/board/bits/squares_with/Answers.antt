@@ -6,5 +6,6 @@ use Rattle.chess.proofs.board.bits.squares_with.Goals as goal
 pub returns : goal.returns
 returns c =
     let words = c.args.words.now in
-    subst (λ (r : ℕ). IsWordOf (IsMan (words_men words) c.args.side c.args.kind) (word_at words r)) (sym c.row.ensures.row)
+    subst (λ (r : ℕ). IsWordOf (IsMan (words_men words) c.args.side c.args.kind) (word_at words r))
+    (sym c.row.ensures.row)
     (word_of_man words (record { side = c.args.side; kind = c.args.kind }) c.requires)

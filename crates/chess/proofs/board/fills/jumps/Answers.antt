@@ -7,9 +7,12 @@ use Rattle.chess.proofs.board.fills.jumps.Goals as goal
 pub returns : goal.returns
 returns c =
     let here = c.word_of-here.result in
-    let far : bit_or c.two_steps.result c.two_steps-2.result ≡ bit_or (two_steps_word North here) (two_steps_word South here) =
+    let far : bit_or c.two_steps.result c.two_steps-2.result
+    ≡ bit_or (two_steps_word North here) (two_steps_word South here) =
     λ i. bit_or (c.two_steps.ensures i) (c.two_steps-2.ensures i) in
-    let wide : bit_or c.two_steps-3.result c.two_steps-4.result ≡ bit_or (two_steps_word East here) (two_steps_word West here) =
+    let wide : bit_or c.two_steps-3.result c.two_steps-4.result
+    ≡ bit_or (two_steps_word East here) (two_steps_word West here) =
     λ i. bit_or (c.two_steps-3.ensures i) (c.two_steps-4.ensures i) in
     jumps_of c.args.square here _ c.word_of-here.ensures.on_board c.word_of-here.ensures.word
-    (λ i. bit_or ((c.beside.ensures ∙ (λ j. beside_word (far j))) i) ((c.upright.ensures ∙ (λ j. upright_word (wide j))) i))
+    (λ i. bit_or ((c.beside.ensures ∙ (λ j. beside_word (far j))) i)
+    ((c.upright.ensures ∙ (λ j. upright_word (wide j))) i))

@@ -20,17 +20,27 @@ returns-in_default-clause-answer g c =
     named_said P c.args.text.now None (Some said) said (Err NoMove)
     (read_no_castling c.args.text.now c.args.said.now c.requires.read) refl c.requires.read refl
     (none_said P said c.args.candidates c.requires.candidates
-    (taken_none c.args.candidates c.take_first.new.self c.take_first.result c.take_first.ensures c.in_default.is))
+    (taken_none c.args.candidates c.take_first.new.self c.take_first.result c.take_first.ensures
+    c.in_default.is))
 
 pub try_move-requires-clause-pseudo_legal : goal.try_move-requires-clause-pseudo_legal
 try_move-requires-clause-pseudo_legal g c =
-    let taken = subst (λ (o : Option Place). IsTakenFirst c.args.candidates c.take_first.new.self o) c.in-Some.is c.take_first.ensures in
-    subst (IsPseudoLegal c.args.position.now) (sym c.from-m.ensures) ((c.requires.candidates c.in-Some.from).0 taken.1).1.rules
+    let taken =
+    subst (λ (o : Option Place). IsTakenFirst c.args.candidates c.take_first.new.self o)
+    c.in-Some.is c.take_first.ensures in
+    subst (IsPseudoLegal c.args.position.now) (sym c.from-m.ensures)
+    ((c.requires.candidates c.in-Some.from).0 taken.1).1.rules
 
 pub try_move-requires-clause-man : goal.try_move-requires-clause-man
 try_move-requires-clause-man g c =
-    let taken = subst (λ (o : Option Place). IsTakenFirst c.args.candidates c.take_first.new.self o) c.in-Some.is c.take_first.ensures in
-    rw (c.from-m.ensures, c.side.ensures, c.kind.ensures) ((c.requires.candidates c.in-Some.from).0 taken.1).1.here
+    let taken =
+    subst (λ (o : Option Place). IsTakenFirst c.args.candidates c.take_first.new.self o)
+    c.in-Some.is c.take_first.ensures in
+    rw (
+      c.from-m.ensures,
+      c.side.ensures,
+      c.kind.ensures,
+    ) ((c.requires.candidates c.in-Some.from).0 taken.1).1.here
 
 pub returns-then-not-try_move-clause-answer : goal.returns-then-not-try_move-clause-answer
 returns-then-not-try_move-clause-answer g c =
@@ -39,9 +49,13 @@ returns-then-not-try_move-clause-answer g c =
     named_said P c.args.text.now None (Some said) said (Err NoMove)
     (read_no_castling c.args.text.now c.args.said.now c.requires.read) refl c.requires.read refl
     (not_said P said c.args.candidates c.take_first.new.self c.in-Some.from c.requires.candidates
-    (subst (λ (o : Option Place). IsTakenFirst c.args.candidates c.take_first.new.self o) c.in-Some.is c.take_first.ensures)
+    (subst (λ (o : Option Place).
+    IsTakenFirst c.args.candidates c.take_first.new.self o) c.in-Some.is c.take_first.ensures)
     (λ some. true_not_false c.has_some.result (c.has_some.ensures.1 some) c.if-has_some.false)
-    (λ legal. true_not_false c.try_move.result (c.try_move.ensures.legal.1 (subst (IsLegal P) (sym c.from-m.ensures) legal)) c.if-not-try_move.true))
+    (λ legal.
+    true_not_false c.try_move.result
+    (c.try_move.ensures.legal.1 (subst (IsLegal P) (sym c.from-m.ensures) legal))
+    c.if-not-try_move.true))
 
 pub returns-clause-answer : goal.returns-clause-answer
 returns-clause-answer g c =
@@ -49,9 +63,11 @@ returns-clause-answer g c =
     let said = said_by c.args.said.now in
     named_said P c.args.text.now None (Some said) said (Ok c.from-m.result)
     (read_no_castling c.args.text.now c.args.said.now c.requires.read) refl c.requires.read refl
-    (subst (λ (m : Move). IsMoveSaid P said m × ((n : Move) → IsMoveSaid P said n → n ≡ m)) (sym c.from-m.ensures)
+    (subst (λ (m : Move). IsMoveSaid P said m
+    × ((n : Move) → IsMoveSaid P said n → n ≡ m)) (sym c.from-m.ensures)
     (the_said P said c.args.candidates c.take_first.new.self c.in-Some.from c.requires.candidates
-    (subst (λ (o : Option Place). IsTakenFirst c.args.candidates c.take_first.new.self o) c.in-Some.is c.take_first.ensures)
+    (subst (λ (o : Option Place).
+    IsTakenFirst c.args.candidates c.take_first.new.self o) c.in-Some.is c.take_first.ensures)
     (λ some. true_not_false c.has_some.result (c.has_some.ensures.1 some) c.if-has_some.false)
     (subst (IsLegal P) c.from-m.ensures (c.try_move.ensures.legal.0 c.if-not-try_move.false))))
 
@@ -59,10 +75,14 @@ pub returns-clause-written : goal.returns-clause-written
 returns-clause-written g c =
     let P = c.args.position.now in
     let said = said_by c.args.said.now in
-    let taken = subst (λ (o : Option Place). IsTakenFirst c.args.candidates c.take_first.new.self o) c.in-Some.is c.take_first.ensures in
+    let taken =
+    subst (λ (o : Option Place). IsTakenFirst c.args.candidates c.take_first.new.self o)
+    c.in-Some.is c.take_first.ensures in
     let candidate = ((c.requires.candidates c.in-Some.from).0 taken.1).1 in
-    let lone : (kind_said said.letter ≡ Pawn → ⊥) → ¬ HasRival P (move_from said c.in-Some.from) (λ s. Unit {0}) = λ piece.
-    no_rival P said c.args.candidates c.take_first.new.self c.in-Some.from c.invariant.ensures piece (c.requires.asked piece) c.requires.candidates taken
+    let lone : (kind_said said.letter ≡ Pawn → ⊥)
+    → ¬ HasRival P (move_from said c.in-Some.from) (λ s. Unit {0}) = λ piece.
+    no_rival P said c.args.candidates c.take_first.new.self c.in-Some.from c.invariant.ensures piece
+    (c.requires.asked piece) c.requires.candidates taken
     (λ some. true_not_false c.has_some.result (c.has_some.ensures.1 some) c.if-has_some.false) in
     c.write.ensures P (ap (λ (m : Move). m.castle) c.from-m.ensures)
     (rw (c.from-m.ensures, c.side.ensures, c.kind.ensures) candidate.here) c.takes-takes.ensures

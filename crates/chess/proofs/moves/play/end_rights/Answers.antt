@@ -6,4 +6,5 @@ pub returns-else-is_home-2 : goal.returns-else-is_home-2
 returns-else-is_home-2 c =
     rights_stay c.args.rights.now c.args.m.now
     (λ side wing at. true_not_false _ (c.is_home.ensures side wing at) c.if-is_home.false)
-    (λ side wing at. true_not_false _ (c.is_home-else-is_home.ensures side wing at) c.if-is_home-2.false)
+    (λ side wing at.
+    true_not_false _ (c.is_home-else-is_home.ensures side wing at) c.if-is_home-2.false)

@@ -6,19 +6,27 @@ use Rattle.chess.specs.declared.board.man.Side.TheVariants.{White, Black}
 use Rattle.chess.proofs.moves.pseudo_legal.square_ahead.Goals as goal
 
 up : (s : Place) (next : Option Place)
-    → MatchOption next ((t : Place) → IsOnBoard t → IsAhead North 1 s t → ⊥) (λ t. IsOnBoard t × IsAhead North 1 s t) → IsSquareAhead White s next
+    → MatchOption next ((t : Place) → IsOnBoard t → IsAhead North 1 s t
+    → ⊥) (λ t. IsOnBoard t × IsAhead North 1 s t) → IsSquareAhead White s next
 up s None none = λ t on_board file forward. none t on_board (file, forward)
 up s (Some t) some = (some.0, some.1.0, some.1.1)
 
 down : (s : Place) (next : Option Place)
-    → MatchOption next ((t : Place) → IsOnBoard t → IsAhead South 1 s t → ⊥) (λ t. IsOnBoard t × IsAhead South 1 s t) → IsSquareAhead Black s next
-down s None none = λ t on_board file forward. none t on_board (file, (let back : t.rank + 1 ≡ s.rank = omega arith in back))
+    → MatchOption next ((t : Place) → IsOnBoard t → IsAhead South 1 s t
+    → ⊥) (λ t. IsOnBoard t × IsAhead South 1 s t) → IsSquareAhead Black s next
+down s None none =
+    λ t on_board file forward. none t on_board (
+      file,
+      (let back : t.rank + 1 ≡ s.rank = omega arith in back),
+    )
 down s (Some t) some = let back = some.1.1 in (some.0, some.1.0, omega arith)
 
 pub returns-in-White : goal.returns-in-White
 returns-in-White c =
-    subst (λ side. IsSquareAhead side c.args.from c.ahead.result) (sym c.in-White.is) (up c.args.from _ c.ahead.ensures)
+    subst (λ side. IsSquareAhead side c.args.from c.ahead.result) (sym c.in-White.is)
+    (up c.args.from _ c.ahead.ensures)
 
 pub returns-in-Black : goal.returns-in-Black
 returns-in-Black c =
-    subst (λ side. IsSquareAhead side c.args.from c.ahead-in-Black.result) (sym c.in-Black.is) (down c.args.from _ c.ahead-in-Black.ensures)
+    subst (λ side. IsSquareAhead side c.args.from c.ahead-in-Black.result) (sym c.in-Black.is)
+    (down c.args.from _ c.ahead-in-Black.ensures)

@@ -14,13 +14,22 @@ pub invariant_of-self : goal.invariant_of-self
 invariant_of-self g c =
     let P = c.args.self.now in
     let m = c.args.m.now in
-    let old : g.B.Board.men c.self.inside.board ≡ P.men = ap (λ (Q : State). Q.men) c.self.view_is in
+    let old : g.B.Board.men c.self.inside.board ≡ P.men =
+    ap (λ (Q : State). Q.men) c.self.view_is in
     let men : g.B.Board.men c.move_piece.new.self ≡ men_after P m =
-    c.move_piece.ensures ∙ men_plainly P m c.becoming-arriving.result c.taken_by-taken.result (g.B.Board.men c.self.inside.board) c.requires.plain old c.becoming-arriving.ensures c.taken_by-taken.ensures in
+    c.move_piece.ensures
+    ∙ men_plainly P m c.becoming-arriving.result c.taken_by-taken.result
+    (g.B.Board.men c.self.inside.board) c.requires.plain old c.becoming-arriving.ensures
+    c.taken_by-taken.ensures in
     let rights : c.end_rights.new.rights ≡ rights_after P.rights m =
-    c.end_rights.ensures ∙ ap (λ (r : CastlingRights). rights_after r m) (ap (λ (Q : State). Q.rights) c.self.view_is) in
-    let kept = subst (λ (Q : State). IsKept Q c.self.inside.white_king c.self.inside.black_king) c.self.view_is c.self.invariant in
-    let tried : IsTried P m = record { sound = c.invariant.ensures; rules = c.requires.legal.pseudo_legal } in
+    c.end_rights.ensures
+    ∙ ap (λ (r : CastlingRights).
+    rights_after r m) (ap (λ (Q : State). Q.rights) c.self.view_is) in
+    let kept =
+    subst (λ (Q : State). IsKept Q c.self.inside.white_king c.self.inside.black_king)
+    c.self.view_is c.self.invariant in
+    let tried : IsTried P m =
+    record { sound = c.invariant.ensures; rules = c.requires.legal.pseudo_legal } in
     let shown : record {
       men = g.B.Board.men c.move_piece.new.self;
       turn = c.turn_after-turn.result;
@@ -38,9 +47,12 @@ invariant_of-self g c =
       halfmove_clock = c.clock_after-halfmove_clock.ensures i;
       fullmove_number = c.fullmove_number_after-fullmove_number.ensures i;
     } in
-    subst (λ (Q : State). IsKept Q c.follow_kings.new.white_king c.follow_kings.new.black_king) (sym shown)
+    subst (λ (Q : State). IsKept Q c.follow_kings.new.white_king c.follow_kings.new.black_king)
+    (sym shown)
     (record {
       sound = after_sound P m tried c.requires.legal.safe;
-      white = king_follows P m tried c.args.man c.requires.man White c.self.inside.white_king c.follow_kings.new.white_king kept.white c.follow_kings.ensures.white;
-      black = king_follows P m tried c.args.man c.requires.man Black c.self.inside.black_king c.follow_kings.new.black_king kept.black c.follow_kings.ensures.black;
+      white = king_follows P m tried c.args.man c.requires.man White c.self.inside.white_king
+          c.follow_kings.new.white_king kept.white c.follow_kings.ensures.white;
+      black = king_follows P m tried c.args.man c.requires.man Black c.self.inside.black_king
+          c.follow_kings.new.black_king kept.black c.follow_kings.ensures.black;
     })

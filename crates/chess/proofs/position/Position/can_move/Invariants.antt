@@ -3,7 +3,9 @@ use Rattle.chess.specs.Private.MoveWords.{IsLeft, IsMover, CanLeave}
 use Rattle.chess.proofs.position.Position.can_move.Given as goal
 
 abbrev pub invariant-loop-from : goal.invariant-loop-from
-invariant-loop-from g l = IsLeft (λ s. IsMover l.self l.fn.kind s) (λ s. IsMover l.self l.fn.kind s × CanLeave l.self s) l.left
+invariant-loop-from g l =
+    IsLeft (λ s. IsMover l.self l.fn.kind s) (λ s. IsMover l.self l.fn.kind s
+    × CanLeave l.self s) l.left
 
 abbrev pub decreases-loop-from : goal.decreases-loop-from
 decreases-loop-from g l = size_of l.left

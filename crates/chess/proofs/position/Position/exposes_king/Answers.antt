@@ -8,7 +8,11 @@ pub returns : goal.returns
 returns g c =
     let P = c.args.self.now in
     let m = c.args.m.now in
-    let old : g.B.Board.men c.self.inside.board ≡ P.men = ap (λ (Q : State). Q.men) c.self.view_is in
-    check_after P m (record { sound = c.invariant.ensures; rules = c.requires.pseudo_legal }) c.becoming-arriving.result c.taken_by-taken.result
-    c.king_after-king.result (g.B.Board.men c.self.inside.board) c.attacked_after.result c.requires.plain old c.becoming-arriving.ensures c.taken_by-taken.ensures
-    (subst (λ side. IsOnlyKing (men_after P m) side c.king_after-king.result) c.side.ensures c.king_after-king.ensures) c.attacked_after.ensures
+    let old : g.B.Board.men c.self.inside.board ≡ P.men =
+    ap (λ (Q : State). Q.men) c.self.view_is in
+    check_after P m (record { sound = c.invariant.ensures; rules = c.requires.pseudo_legal })
+    c.becoming-arriving.result c.taken_by-taken.result
+    c.king_after-king.result (g.B.Board.men c.self.inside.board) c.attacked_after.result
+    c.requires.plain old c.becoming-arriving.ensures c.taken_by-taken.ensures
+    (subst (λ side. IsOnlyKing (men_after P m) side c.king_after-king.result) c.side.ensures
+    c.king_after-king.ensures) c.attacked_after.ensures

@@ -1,15 +1,22 @@
 use Rattle.chess.specs.Public.Placements.{opposite}
 use Rattle.chess.specs.Public.Positions.{State, IsOnlyKing}
 use Rattle.chess.specs.declared.board.man.Side.TheVariants.{White, Black}
-use Rattle.chess.proofs.FenFacts.{HasKings, right_kings, wrong_pawns, right_pawns, enemy_white, enemy_black, wrong_check, right_check, spelled_kept}
+use Rattle.chess.proofs.FenFacts.{HasKings, right_kings, wrong_pawns, right_pawns, enemy_white}
+use Rattle.chess.proofs.FenFacts.{enemy_black, wrong_check, right_check, spelled_kept}
 use Rattle.chess.proofs.position.Position.from_fen.Goals as goal
 use Rattle.chess.proofs.position.Position.from_fen.Goals.{in-White, in-Black}
 
 pub returns-in_default-only_king : goal.returns-in_default-only_king
-returns-in_default-only_king g c = record { answer = (_, c.in-Some.ensures, (White, c.in_default-only_king.ensures)); sound = tt }
+returns-in_default-only_king g c =
+    record { answer = (_, c.in-Some.ensures, (White, c.in_default-only_king.ensures)); sound = tt }
 
 pub returns-in_default-only_king-2 : goal.returns-in_default-only_king-2
-returns-in_default-only_king-2 g c = record { answer = (_, c.in-Some.ensures, (Black, c.in_default-only_king-2.ensures)); sound = tt }
+returns-in_default-only_king-2 g c =
+    record {
+      answer = (_, c.in-Some.ensures, (Black, c.in_default-only_king-2.ensures));
+      sound =
+          tt;
+    }
 
 pub returns-then-has_edge_pawn : goal.returns-then-has_edge_pawn
 returns-then-has_edge_pawn g c =
@@ -52,8 +59,10 @@ returns-then-attacked g c =
     let kings : HasKings P white.white_king black.black_king =
     record { white_only = white.ensures; black_only = black.ensures } in
     let enemy : IsOnlyKing P.men (opposite P.turn) king = elim c.match-spelled.branch [
-      | in-White w ↦ enemy_white P white.white_king black.black_king king kings w.in-White.is w.king-is
-      | in-Black w ↦ enemy_black P white.white_king black.black_king king kings w.in-Black.is w.king-is
+      | in-White w ↦ enemy_white P white.white_king black.black_king king kings w.in-White.is
+          w.king-is
+      | in-Black w ↦ enemy_black P white.white_king black.black_king king kings w.in-Black.is
+          w.king-is
     ] in record {
       answer = (
         P,
@@ -82,8 +91,10 @@ invariant_of-result g c =
     let kings : HasKings P white.white_king black.black_king =
     record { white_only = white.ensures; black_only = black.ensures } in
     let enemy : IsOnlyKing P.men (opposite P.turn) king = elim c.match-spelled.branch [
-      | in-White w ↦ enemy_white P white.white_king black.black_king king kings w.in-White.is w.king-is
-      | in-Black w ↦ enemy_black P white.white_king black.black_king king kings w.in-Black.is w.king-is
+      | in-White w ↦ enemy_white P white.white_king black.black_king king kings w.in-White.is
+          w.king-is
+      | in-Black w ↦ enemy_black P white.white_king black.black_king king kings w.in-Black.is
+          w.king-is
     ] in
     spelled_kept c.args.text.now P white.white_king black.black_king c.in-Some.ensures kings
     (right_pawns P c.has_edge_pawn.result c.has_edge_pawn.ensures c.if-has_edge_pawn.false)

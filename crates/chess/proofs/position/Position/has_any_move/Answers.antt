@@ -18,19 +18,35 @@ returns g c = (
 )
 
 pub returns-then-can_move : goal.returns-then-can_move
-returns-then-can_move g c = ((λ e. found_move c.args.self.now Pawn (c.can_move.ensures.0 c.if-can_move.true)), (λ h. refl))
+returns-then-can_move g c =
+    ((λ e. found_move c.args.self.now Pawn (c.can_move.ensures.0 c.if-can_move.true)), (λ h. refl))
 
 pub returns-then-can_move-2 : goal.returns-then-can_move-2
-returns-then-can_move-2 g c = ((λ e. found_move c.args.self.now Knight (c.can_move-2.ensures.0 c.if-can_move-2.true)), (λ h. refl))
+returns-then-can_move-2 g c = (
+  (λ e. found_move c.args.self.now Knight (c.can_move-2.ensures.0 c.if-can_move-2.true)),
+  (λ h. refl),
+)
 
 pub returns-then-can_move-3 : goal.returns-then-can_move-3
-returns-then-can_move-3 g c = ((λ e. found_move c.args.self.now Bishop (c.can_move-3.ensures.0 c.if-can_move-3.true)), (λ h. refl))
+returns-then-can_move-3 g c = (
+  (λ e. found_move c.args.self.now Bishop (c.can_move-3.ensures.0 c.if-can_move-3.true)),
+  (λ h. refl),
+)
 
 pub returns-then-can_move-4 : goal.returns-then-can_move-4
-returns-then-can_move-4 g c = ((λ e. found_move c.args.self.now Rook (c.can_move-4.ensures.0 c.if-can_move-4.true)), (λ h. refl))
+returns-then-can_move-4 g c = (
+  (λ e. found_move c.args.self.now Rook (c.can_move-4.ensures.0 c.if-can_move-4.true)),
+  (λ h. refl),
+)
 
 pub returns-then-can_move-5 : goal.returns-then-can_move-5
-returns-then-can_move-5 g c = ((λ e. found_move c.args.self.now Queen (c.can_move-5.ensures.0 c.if-can_move-5.true)), (λ h. refl))
+returns-then-can_move-5 g c = (
+  (λ e. found_move c.args.self.now Queen (c.can_move-5.ensures.0 c.if-can_move-5.true)),
+  (λ h. refl),
+)
 
 pub returns-then-can_move-6 : goal.returns-then-can_move-6
-returns-then-can_move-6 g c = ((λ e. found_move c.args.self.now King (c.can_move-6.ensures.0 c.if-can_move-6.true)), (λ h. refl))
+returns-then-can_move-6 g c = (
+  (λ e. found_move c.args.self.now King (c.can_move-6.ensures.0 c.if-can_move-6.true)),
+  (λ h. refl),
+)

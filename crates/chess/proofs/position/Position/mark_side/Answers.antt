@@ -11,6 +11,7 @@ returns g c before =
     let queens = c.mark_kind-2.ensures (below_same p _ (n + 0 + 1) (n + 1) (omega arith) kings) in
     let rooks = c.mark_kind-3.ensures (below_same p _ (n + 1 + 1) (n + 2) (omega arith) queens) in
     let bishops = c.mark_kind-4.ensures (below_same p _ (n + 2 + 1) (n + 3) (omega arith) rooks) in
-    let knights = c.mark_kind-5.ensures (below_same p _ (n + 3 + 1) (n + 4) (omega arith) bishops) in
+    let knights = c.mark_kind-5.ensures (below_same p _ (n + 3 + 1) (n + 4) (omega arith) bishops)
+    in
     let pawns = c.mark_kind-6.ensures (below_same p _ (n + 4 + 1) (n + 5) (omega arith) knights) in
     below_same p _ (n + 5 + 1) (n + 6) (omega arith) pawns

@@ -13,30 +13,44 @@ pub loop-from-init : goal.loop-from-init
 loop-from-init g c =
     let P = c.args.self.now in
     left_start (IsMover P Pawn) (λ s. ⊥) c.squares_of-left.result (λ s on clash. absurd clash)
-    (λ s on in_set. subst (λ (side : Side). man_at P.men s ≡ Some (record { side = side; kind = Pawn })) c.side.ensures ((c.squares_of-left.ensures s).0 in_set).1)
+    (λ s on in_set.
+    subst (λ (side : Side). man_at P.men s
+    ≡ Some (record { side = side; kind = Pawn })) c.side.ensures
+    ((c.squares_of-left.ensures s).0 in_set).1)
 
 pub loop-from-preserved : goal.loop-from-preserved
 loop-from-preserved g c =
-    left_more (IsMover c.args.self.now Pawn) (λ s. ⊥) c.loop-from.left c.take_first.new.self c.in-Some.from c.loop-from.invariant
-    (subst (λ (o : Option Place). IsTakenFirst c.loop-from.left c.take_first.new.self o) c.in-Some.is c.take_first.ensures)
+    left_more (IsMover c.args.self.now Pawn) (λ s.
+    ⊥) c.loop-from.left c.take_first.new.self c.in-Some.from c.loop-from.invariant
+    (subst (λ (o : Option Place).
+    IsTakenFirst c.loop-from.left c.take_first.new.self o) c.in-Some.is c.take_first.ensures)
     (λ clash. clash)
 
 pub ahead_of_pawn-to-requires : goal.ahead_of_pawn-to-requires
-ahead_of_pawn-to-requires g c = let taken = c.in-Some.ensures in c.loop-from.invariant.within c.in-Some.from taken.0 taken.1
+ahead_of_pawn-to-requires g c = let taken = c.in-Some.ensures in
+    c.loop-from.invariant.within c.in-Some.from taken.0 taken.1
 
 pub can_step-requires : goal.can_step-requires
 can_step-requires g c =
     let taken = c.in-Some.ensures in
     record {
       pawn = c.loop-from.invariant.within c.in-Some.from taken.0 taken.1;
-      step = (c.ahead_of_pawn-to.ensures.file, c.ahead_of_pawn-to.ensures.rank, c.is_empty.ensures.0 c.if-is_empty.true);
-      stays = subst (λ (side : Side). Promotes side c.ahead_of_pawn-to.result None) c.side-then-is_empty.ensures (c.promotes.ensures.0 c.if-promotes.true);
+      step = (
+        c.ahead_of_pawn-to.ensures.file,
+        c.ahead_of_pawn-to.ensures.rank,
+        c.is_empty.ensures.0 c.if-is_empty.true,
+      );
+      stays = subst (λ (side : Side).
+          Promotes side c.ahead_of_pawn-to.result None) c.side-then-is_empty.ensures
+          (c.promotes.ensures.0 c.if-promotes.true);
     }
 
 pub returns-then-promotes : goal.returns-then-promotes
-returns-then-promotes g c = λ e. (c.in-Some.from, c.ahead_of_pawn-to.result, (None, None, c.can_step.ensures e))
+returns-then-promotes g c =
+    λ e. (c.in-Some.from, c.ahead_of_pawn-to.result, (None, None, c.can_step.ensures e))
 
 pub loop-from-smaller : goal.loop-from-smaller
 loop-from-smaller g c =
     fewer c.loop-from.left c.take_first.new.self c.in-Some.from
-    (subst (λ (o : Option Place). IsTakenFirst c.loop-from.left c.take_first.new.self o) c.in-Some.is c.take_first.ensures)
+    (subst (λ (o : Option Place).
+    IsTakenFirst c.loop-from.left c.take_first.new.self o) c.in-Some.is c.take_first.ensures)

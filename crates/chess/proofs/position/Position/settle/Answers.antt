@@ -11,7 +11,9 @@ invariant_of-self g c =
     let P = c.args.self.now in
     let m = c.args.m.now in
     let rights : c.end_rights.new.rights ≡ rights_after P.rights m =
-    c.end_rights.ensures ∙ ap (λ (r : CastlingRights). rights_after r m) (ap (λ (Q : State). Q.rights) c.self.view_is) in
+    c.end_rights.ensures
+    ∙ ap (λ (r : CastlingRights).
+    rights_after r m) (ap (λ (Q : State). Q.rights) c.self.view_is) in
     let shown : record {
       men = g.B.Board.men c.args.board;
       turn = c.turn_after-turn.result;
@@ -29,9 +31,12 @@ invariant_of-self g c =
       halfmove_clock = c.halfmove_clock_after-halfmove_clock.ensures i;
       fullmove_number = c.fullmove_number_after-fullmove_number.ensures i;
     } in
-    subst (λ (Q : State). IsKept Q c.king_after-white_king.result c.king_after-black_king.result) (sym shown)
+    subst (λ (Q : State). IsKept Q c.king_after-white_king.result c.king_after-black_king.result)
+    (sym shown)
     (record {
-      sound = after_sound P m (record { sound = c.invariant.ensures; rules = c.requires.legal.pseudo_legal }) c.requires.legal.safe;
+      sound = after_sound P m
+          (record { sound = c.invariant.ensures; rules = c.requires.legal.pseudo_legal })
+          c.requires.legal.safe;
       white = c.king_after-white_king.ensures;
       black = c.king_after-black_king.ensures;
     })

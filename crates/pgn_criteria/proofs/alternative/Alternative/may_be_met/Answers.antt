@@ -1,5 +1,6 @@
-use Rattle.std.proofs.Common.{MatchOption, subst}
+use Rattle.std.proofs.Common.{MatchOption, ap, subst}
 use Rattle.pgn_criteria.specs.Public.Sieves.{NowhereSeen, codes_in}
+use Rattle.pgn_criteria.specs.Public.Conditions.{Conditions}
 use Rattle.pgn_criteria.specs.Private.Marks.{FitsSeen}
 use Rattle.pgn_criteria.specs.Private.Stages.{AllOfPatterns, AreFixed, AreMirrored}
 use Rattle.pgn_criteria.specs.Private.Tracks.{FitsPlaced, Nowhere}
@@ -11,26 +12,45 @@ use Rattle.pgn_criteria.proofs.alternative.Alternative.may_be_met.Goals as goal
 pub returns-then-not-needs_are_shown : goal.returns-then-not-needs_are_shown
 returns-then-not-needs_are_shown g c = λ none.
     let S = c.args.start.now in
-    subst (λ conditions. NowhereSeen (FitsSeen conditions) (g.S.Seen.men S) (g.S.Seen.turn S) (g.S.Seen.checked S) (g.S.Seen.stuck S) (codes_in c.args.plies.now)) c.self.view_is
+    subst (λ conditions.
+    NowhereSeen (FitsSeen conditions) (g.S.Seen.men S) (g.S.Seen.turn S) (g.S.Seen.checked S)
+    (g.S.Seen.stuck S) (codes_in c.args.plies.now))
+    (ap (λ (a : Conditions). a.positions) c.self.view_is)
     (c.needs_are_shown.ensures c.if-not-needs_are_shown.true)
 
 pub returns-in-Some : goal.returns-in-Some
 returns-in-Some g c = λ none.
-    placed_seen c.args.self.now (g.S.Seen.men c.args.start.now) (g.S.Seen.turn c.args.start.now) (g.S.Seen.checked c.args.start.now) (g.S.Seen.stuck c.args.start.now)
+    placed_seen c.args.self.now.positions (g.S.Seen.men c.args.start.now)
+    (g.S.Seen.turn c.args.start.now) (g.S.Seen.checked c.args.start.now)
+    (g.S.Seen.stuck c.args.start.now)
     (codes_in c.args.plies.now)
-    (nowhere_mirrored c.in-Some.form c.args.self.now
-    (subst (AreMirrored c.in-Some.form) c.self.view_is
-    (subst (λ o. MatchOption o (AreFixed c.self.inside.plain) (λ form. AreMirrored form c.self.inside.plain)) c.in-Some.is c.self.invariant))
+    (nowhere_mirrored c.in-Some.form c.args.self.now.positions
+    (subst (AreMirrored c.in-Some.form) (ap (λ (a : Conditions). a.positions) c.self.view_is)
+    (subst (λ o.
+    MatchOption o (AreFixed c.self.inside.plain) (λ form. AreMirrored form c.self.inside.plain))
+    c.in-Some.is c.self.invariant))
     (g.S.Seen.men c.args.start.now) (codes_in c.args.plies.now)
-    (subst (λ conditions. Nowhere (λ p. AllOfPatterns p conditions) (g.S.Seen.men c.args.start.now) (codes_in c.args.plies.now)) c.self.view_is (c.may_be_met.ensures c.if-may_be_met.false))
+    (subst (λ conditions.
+    Nowhere (λ p. AllOfPatterns p conditions) (g.S.Seen.men c.args.start.now)
+    (codes_in c.args.plies.now)) (ap (λ (a : Conditions). a.positions) c.self.view_is)
+    (c.may_be_met.ensures c.if-may_be_met.false))
     (c.may_be_met-in-Some.ensures none))
 
 pub returns-in-None : goal.returns-in-None
 returns-in-None g c = λ none.
-    placed_seen c.args.self.now (g.S.Seen.men c.args.start.now) (g.S.Seen.turn c.args.start.now) (g.S.Seen.checked c.args.start.now) (g.S.Seen.stuck c.args.start.now)
+    placed_seen c.args.self.now.positions (g.S.Seen.men c.args.start.now)
+    (g.S.Seen.turn c.args.start.now) (g.S.Seen.checked c.args.start.now)
+    (g.S.Seen.stuck c.args.start.now)
     (codes_in c.args.plies.now)
-    (nowhere_of (λ p. AllOfPatterns p c.args.self.now) (FitsPlaced c.args.self.now) (g.S.Seen.men c.args.start.now) (codes_in c.args.plies.now)
-    (fixed_patterns c.args.self.now
-    (subst AreFixed c.self.view_is
-    (subst (λ o. MatchOption o (AreFixed c.self.inside.plain) (λ form. AreMirrored form c.self.inside.plain)) c.in-None.is c.self.invariant)))
-    (subst (λ conditions. Nowhere (λ p. AllOfPatterns p conditions) (g.S.Seen.men c.args.start.now) (codes_in c.args.plies.now)) c.self.view_is (c.may_be_met.ensures c.if-may_be_met.false)))
+    (nowhere_of (λ p. AllOfPatterns p c.args.self.now.positions)
+    (FitsPlaced c.args.self.now.positions) (g.S.Seen.men c.args.start.now)
+    (codes_in c.args.plies.now)
+    (fixed_patterns c.args.self.now.positions
+    (subst AreFixed (ap (λ (a : Conditions). a.positions) c.self.view_is)
+    (subst (λ o.
+    MatchOption o (AreFixed c.self.inside.plain) (λ form. AreMirrored form c.self.inside.plain))
+    c.in-None.is c.self.invariant)))
+    (subst (λ conditions.
+    Nowhere (λ p. AllOfPatterns p conditions) (g.S.Seen.men c.args.start.now)
+    (codes_in c.args.plies.now)) (ap (λ (a : Conditions). a.positions) c.self.view_is)
+    (c.may_be_met.ensures c.if-may_be_met.false)))

@@ -8,5 +8,8 @@ pub returns-in-Some : goal.returns-in-Some
 returns-in-Some g c = λ none all.
     let own = c.in-Some.sieve in
     let men = g.S.Seen.men c.args.position.now in
-    let sifts : Sifts c.self.inside.plan own = subst (λ o. IfSome o (Sifts c.self.inside.plan)) c.in-Some.is c.self.invariant.sieved in
-    c.may_be_met.ensures none (sifts men (c.self.invariant.planned.0 men (subst (AllOfPatterns men) (sym c.self.view_is) all)))
+    let sifts : Sifts c.self.inside.plan own =
+    subst (λ o. IfSome o (Sifts c.self.inside.plan)) c.in-Some.is c.self.invariant.sieved in
+    c.may_be_met.ensures none
+    (sifts men
+    (c.self.invariant.planned.0 men (subst (AllOfPatterns men) (sym c.self.view_is) all)))

@@ -1,16 +1,17 @@
 use Rattle.std.proofs.Common.{List, ℕ, Vec, Global, map}
 use Rattle.pgn_criteria.specs.Private.Planning.{Plans}
 use Rattle.pgn_criteria.specs.Private.Stages.{AllOfPatterns, seen}
-use Rattle.pgn_criteria.specs.declared.condition.Condition.{Condition}
+use Rattle.pgn_criteria.specs.declared.condition.PositionCondition.{PositionCondition}
 use Rattle.pgn_criteria.proofs.alternative.Form.new.Goals as goal
 
-view : List (Condition (Vec ℕ Global)) → List (Condition (List ℕ))
+view : List (PositionCondition (Vec ℕ Global)) → List (PositionCondition (List ℕ))
 view conditions = map (seen (λ text. text.items)) conditions
 
 pub invariant_of-result : goal.invariant_of-result
 unfolding view
 invariant_of-result c =
-    let plans : Plans (λ p. AllOfPatterns p (view c.args.conditions.items)) (λ p. Unit {0}) c.new-plan.result c.plan_all.new.plan c.in_ok-is_planned.is_planned =
+    let plans : Plans (λ p. AllOfPatterns p (view c.args.conditions.items)) (λ p.
+    Unit {0}) c.new-plan.result c.plan_all.new.plan c.in_ok-is_planned.is_planned =
     rw c.deref.ensures.value at c.in_ok-is_planned.ensures in
     record {
       sound = plans.sound c.new-plan.ensures.sound;

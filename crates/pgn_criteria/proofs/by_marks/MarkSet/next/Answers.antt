@@ -9,7 +9,8 @@ use Rattle.pgn_criteria.proofs.by_marks.MarkSet.next.Goals as goal
 pub returns-then-self-eq0 : goal.returns-then-self-eq0
 returns-then-self-eq0 c =
     let zero : c.args.self.bits ≡ 0 = let is = c.if-self-eq0.true in grind (arith, nat_tests) in
-    subst (λ n. NoneMeets n c.args.turn (codes_in c.args.plies.now)) (sym zero) (none_of_none c.args.turn (codes_in c.args.plies.now))
+    subst (λ n. NoneMeets n c.args.turn (codes_in c.args.plies.now)) (sym zero)
+    (none_of_none c.args.turn (codes_in c.args.plies.now))
 
 pub loop-rest-init : goal.loop-rest-init
 loop-rest-init c =
@@ -27,10 +28,14 @@ loop-rest-preserved c =
     record {
       none = λ none.
           c.loop-rest.invariant.none
-          (none_on set side rest _ c.in-len3-up.len_at_least (rest_is rest _ refl) c.opposite-side.result c.opposite-side.ensures (sym c.has_told.ensures ∙ c.if-has_told.false) none);
+          (none_on set side rest _ c.in-len3-up.len_at_least (rest_is rest _ refl)
+          c.opposite-side.result c.opposite-side.ensures (sym c.has_told.ensures
+          ∙ c.if-has_told.false) none);
       found = λ next left later.
           c.loop-rest.invariant.found next left
-          (next_on set side rest _ c.in-len3-up.len_at_least (rest_is rest _ refl) c.opposite-side.result c.opposite-side.ensures (sym c.has_told.ensures ∙ c.if-has_told.false) next left
+          (next_on set side rest _ c.in-len3-up.len_at_least (rest_is rest _ refl)
+          c.opposite-side.result c.opposite-side.ensures (sym c.has_told.ensures
+          ∙ c.if-has_told.false) next left
           later);
     }
 
@@ -38,8 +43,12 @@ pub returns-then-has_told : goal.returns-then-has_told
 returns-then-has_told c =
     let rest = c.loop-rest.rest.now in
     c.loop-rest.invariant.found _ _
-    (next_here c.args.self.bits c.loop-rest.side rest _ c.in-len3-up.len_at_least (rest_is rest _ refl) c.opposite-side.result c.opposite-side.ensures
+    (next_here c.args.self.bits c.loop-rest.side rest _ c.in-len3-up.len_at_least
+    (rest_is rest _ refl) c.opposite-side.result c.opposite-side.ensures
     (sym c.has_told.ensures ∙ c.if-has_told.true))
 
 pub returns : goal.returns
-returns c = c.loop-rest.invariant.none (none_end c.args.self.bits c.loop-rest.side c.loop-rest.rest.now (omega (arith, c.in_default.len_below)))
+returns c =
+    c.loop-rest.invariant.none
+    (none_end c.args.self.bits c.loop-rest.side c.loop-rest.rest.now
+    (omega (arith, c.in_default.len_below)))

@@ -18,16 +18,32 @@ loop-step-preserved c =
     let here : Place = record { file = before + step + 1; rank = rank } in
     elim c.match-new.branch [
       | in-Some+in_ok-add w ↦
-          subst (λ (x : Layout). Lays (λ p. EachFrom p class rank before 0 count) (λ p. EachFrom p class rank before (step + 1) count) c.args.self.now x true) (sym w.self-is)
-          (lays_step (λ p. EachFrom p class rank before 0 count) (λ p. EachFrom p class rank before step count) (λ p. IsOf class (man_at p w.in-Some.square))
-          (λ p. EachFrom p class rank before (step + 1) count) c.args.self.now c.loop-step.self w.add.new.self true true true c.loop-step.invariant w.in_ok-add.ensures
-          (λ p. subst (λ (s : Place). EachFrom p class rank before step count ↔ (IsOf class (man_at p s) × EachFrom p class rank before (step + 1) count)) (sym w.in-Some.ensures.0)
+          subst (λ (x : Layout).
+          Lays (λ p. EachFrom p class rank before 0 count) (λ p.
+          EachFrom p class rank before (step + 1) count) c.args.self.now x true) (sym w.self-is)
+          (lays_step (λ p. EachFrom p class rank before 0 count) (λ p.
+          EachFrom p class rank before step count) (λ p. IsOf class (man_at p w.in-Some.square))
+          (λ p. EachFrom p class rank before (step + 1) count) c.args.self.now c.loop-step.self
+          w.add.new.self true true true c.loop-step.invariant w.in_ok-add.ensures
+          (λ p. subst (λ (s : Place). EachFrom p class rank before step count
+          ↔ (IsOf class (man_at p s) × EachFrom p class rank before (step + 1) count))
+          (sym w.in-Some.ensures.0)
           (each_step p class rank before step count c.loop-step-test.true))
           (λ t. (refl, refl)))
-      | in_default w ↦ absurd ((rw w.in_default.is at c.new.ensures) (record { file_low = omega arith; file_high = omega arith; rank_low = omega arith; rank_high = omega arith }))
+      | in_default w ↦ absurd
+          ((rw w.in_default.is at c.new.ensures)
+          (record {
+            file_low = omega arith;
+            file_high = omega arith;
+            rank_low =
+                omega arith;
+            rank_high = omega arith;
+          }))
     ]
 
 pub returns : goal.returns
 returns c =
-    lays_end (λ p. EachFrom p c.args.class c.args.rank c.args.before 0 c.args.count) (λ p. EachFrom p c.args.class c.args.rank c.args.before c.loop-step.step c.args.count)
-    c.args.self.now c.loop-step.self true true c.loop-step.invariant (λ t. (refl, λ p k low high. absurd (omega arith)))
+    lays_end (λ p. EachFrom p c.args.class c.args.rank c.args.before 0 c.args.count) (λ p.
+    EachFrom p c.args.class c.args.rank c.args.before c.loop-step.step c.args.count)
+    c.args.self.now c.loop-step.self true true c.loop-step.invariant (λ t.
+    (refl, λ p k low high. absurd (omega arith)))

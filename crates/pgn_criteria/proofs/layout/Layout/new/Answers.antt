@@ -8,5 +8,6 @@ pub returns : goal.returns
 returns c men = (
   subst (AllStand men) (sym c.new.ensures.items) tt,
   subst (AllStand men) (sym c.new-2.ensures.items) tt,
-  λ s here. let clash : true ≡ false = sym here ∙ ap (λ set. is_in set s) c.new-3.ensures ∙ is_in-empty s in cc,
+  λ s here. let clash : true ≡ false = sym here ∙ ap (λ set. is_in set s) c.new-3.ensures
+      ∙ is_in-empty s in cc,
 )

@@ -8,12 +8,16 @@ loop-rest-init c = count_start 9 c.args.text.now (omega arith)
 
 pub overflow_mul-count : goal.overflow_mul-count
 overflow_mul-count c =
-    let small = count_small 9 c.loop-rest.count c.loop-rest.rest.now c.args.text.now c.loop-rest.invariant c.in-len1-up.len_at_least in
+    let small =
+    count_small 9 c.loop-rest.count c.loop-rest.rest.now c.args.text.now c.loop-rest.invariant
+    c.in-len1-up.len_at_least in
     omega arith
 
 pub overflow_add-count : goal.overflow_add-count
 overflow_add-count c =
-    let small = count_small 9 c.loop-rest.count c.loop-rest.rest.now c.args.text.now c.loop-rest.invariant c.in-len1-up.len_at_least in
+    let small =
+    count_small 9 c.loop-rest.count c.loop-rest.rest.now c.args.text.now c.loop-rest.invariant
+    c.in-len1-up.len_at_least in
     omega arith
 
 pub loop-rest-preserved : goal.loop-rest-preserved

@@ -1,4 +1,4 @@
-use Rattle.std.proofs.Common.{◌≡◌, ◌∙◌, ℕ, List, Some, Result, Ok, Err, refl, sym, ap, subst}
+use Rattle.std.proofs.Common.{◌≡◌, ◌∙◌, List, Some, Result, Ok, Err, refl, sym, ap, subst}
 use Rattle.std.specs.List.{slice_get}
 use Rattle.std.specs.Prelude.{IfOk}
 use Rattle.chess.specs.Public.Positions.{State}
@@ -6,7 +6,7 @@ use Rattle.pgn_game.proofs.CodeLineFacts.{legal_along}
 use Rattle.pgn_criteria.specs.Public.Meeting.{Heading, heading_of, AreMet}
 use Rattle.pgn_criteria.specs.Private.Records.{heading_of_raw}
 use Rattle.pgn_criteria.specs.Private.Stages.{AllGood}
-use Rattle.pgn_criteria.specs.declared.condition.Condition.{Condition}
+use Rattle.pgn_criteria.specs.Public.Conditions.{Conditions}
 use Rattle.pgn_criteria.proofs.RecordHeadings.{raw_heading, text_heading}
 use Rattle.pgn_criteria.proofs.meets.Criteria.met_packed.Goals as goal
 
@@ -19,13 +19,16 @@ met_by-requires c k =
         (
           subst AllGood (sym c.deref.ensures.value) c.self.invariant.good,
           λ i P m at is.
-              legal_along line.0 c.args.replayed.now.played line.1.legal i P m (subst (λ (positions : List State). slice_get positions i ≡ Some P) line.1.positions at) is,
+              legal_along line.0 c.args.replayed.now.played line.1.legal i P m
+              (subst (λ (positions : List State). slice_get positions i
+              ≡ Some P) line.1.positions at) is,
         ),
       ),
     )
 
 -- what is found is so in other words
-said_so : {X E : Type 0} {P Q : X → Type 0} (r : Result X E) → ((x : X) → P x → Q x) → IfOk r P → IfOk r Q
+said_so : {X E : Type 0} {P Q : X → Type 0} (r : Result X E) → ((x : X) → P x → Q x) → IfOk r P
+    → IfOk r Q
 said_so (Ok x) so all = so x all
 said_so (Err e) so all = tt
 
@@ -34,8 +37,10 @@ returns c =
     said_so c.met_by.result
     (λ met are game replay packed is fits shows.
     let heading : heading_of_raw c.args.raw.now ≡ heading_of game =
-    ap heading_of_raw (sym shows) ∙ raw_heading packed fits ∙ text_heading packed.name packed.number packed.offset game replay packed is in
+    ap heading_of_raw (sym shows) ∙ raw_heading packed fits
+    ∙ text_heading packed.name packed.number packed.offset game replay packed is in
     let all = c.deref.ensures.value ∙ c.self.view_is in
     subst (λ (h : Heading). AreMet h c.args.replayed.now c.args.self.now met.items) heading
-    (subst (λ (x : List (List (Condition (List ℕ)))). AreMet (heading_of_raw c.args.raw.now) c.args.replayed.now x met.items) all are))
+    (subst (λ (x : List Conditions).
+    AreMet (heading_of_raw c.args.raw.now) c.args.replayed.now x met.items) all are))
     c.met_by.ensures

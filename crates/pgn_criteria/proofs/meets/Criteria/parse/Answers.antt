@@ -7,8 +7,10 @@ use Rattle.pgn_criteria.proofs.meets.Criteria.parse.Goals as goal
 
 pub invariant_of-result : goal.invariant_of-result
 invariant_of-result c = record {
-  good = spelled_good c.args.text.now c.in_ok-alternatives.alternatives.items c.in_ok-alternatives.ensures;
-  within = subst (AllWithin c.longest-opening.result) c.deref.ensures.value c.longest-opening.ensures;
+  good = spelled_good c.args.text.now c.in_ok-alternatives.alternatives.items
+      c.in_ok-alternatives.ensures;
+  within =
+      subst (AllWithin c.longest-opening.result) c.deref.ensures.value c.longest-opening.ensures;
 }
 
 pub returns-in_err-alternatives-clause-refused : goal.returns-in_err-alternatives-clause-refused

@@ -13,17 +13,24 @@ use Rattle.pgn_criteria.proofs.meets.Criteria.watch.Goals as goal
 pub returns-in-Some : goal.returns-in-Some
 returns-in-Some c replay own ply =
     let heading = heading_of c.args.game.now in
-    let watched = subst (λ o. IfSome o (λ search. (replay : Replay) (ply : ℕ) → Meets heading replay ply search ↔ Meets heading replay ply c.args.self.now)) c.in-Some.is c.in_ok-search.ensures in
+    let watched =
+    subst (λ o.
+    IfSome o (λ search. (replay : Replay) (ply : ℕ)
+    → Meets heading replay ply search ↔ Meets heading replay ply c.args.self.now)) c.in-Some.is
+    c.in_ok-search.ensures in
     watched replay ply
 
 pub left_after-requires-clause-legal : goal.left_after-requires-clause-legal
 left_after-requires-clause-legal c =
-    opening_legal (tag_in fen_tag c.args.game.now.tags) c.args.game.now.elements _ c.in_ok-opening.opening c.in_ok-opening.ensures
+    opening_legal (tag_in fen_tag c.args.game.now.tags) c.args.game.now.elements _
+    c.in_ok-opening.opening c.in_ok-opening.ensures
 
 pub left_after-requires-clause-still : goal.left_after-requires-clause-still
 left_after-requires-clause-still c =
     let most = c.in-Some-opening.most in
-    let within : EachAsksWithin most c.self.inside.alternatives.items = subst (λ o. AllWithin o c.self.inside.alternatives.items) c.in-Some-opening.is c.self.invariant.within in
+    let within : EachAsksWithin most c.self.inside.alternatives.items =
+    subst (λ o. AllWithin o c.self.inside.alternatives.items) c.in-Some-opening.is
+    c.self.invariant.within in
     (most, subst (EachAsksWithin most) (sym c.deref.ensures.value) within)
 
 pub returns : goal.returns
@@ -33,15 +40,25 @@ returns c replay own ply =
     let opening = c.in_ok-opening.opening in
     let search = c.in_ok-left_after.field-0 in
     let all = c.deref.ensures.value ∙ c.self.view_is in
-    let fits = opening_fits (tag_in fen_tag c.args.game.now.tags) c.args.game.now.elements most opening replay c.in_ok-opening.ensures own in
-    let inside : EachAsksWithin most c.self.inside.alternatives.items = subst (λ o. AllWithin o c.self.inside.alternatives.items) c.in-Some-opening.is c.self.invariant.within in
+    let fits =
+    opening_fits (tag_in fen_tag c.args.game.now.tags) c.args.game.now.elements most opening
+    replay c.in_ok-opening.ensures own in
+    let inside : EachAsksWithin most c.self.inside.alternatives.items =
+    subst (λ o. AllWithin o c.self.inside.alternatives.items) c.in-Some-opening.is
+    c.self.invariant.within in
     let within = subst (EachAsksWithin most) c.self.view_is inside in
     same_plies heading replay search c.args.self.now
     (λ at P.
-    let kept = subst (λ x. SomeHold heading opening at P search ↔ SomeHold heading opening at P x) all (c.in_ok-left_after.ensures.kept at P) in
+    let kept =
+    subst (λ x. SomeHold heading opening at P search
+    ↔ SomeHold heading opening at P x) all (c.in_ok-left_after.ensures.kept at P) in
     let there = within_hold_there heading most opening replay fits at P c.args.self.now within in
     let here = within_hold_there heading 0 opening replay
-    (record { words = λ words few. fits.words words (omega (arith, few)); counts = λ comparison count none. absurd (omega (arith, none)) })
+    (record {
+      words = λ words few. fits.words words (omega (arith, few));
+      counts =
+          λ comparison count none. absurd (omega (arith, none));
+    })
     at P search c.in_ok-left_after.ensures.free in (
       λ hold. there.0 (kept.0 (here.1 hold)),
       λ hold. here.0 (kept.1 (there.1 hold)),

@@ -6,7 +6,8 @@ use Rattle.pgn_criteria.proofs.RecordHeadings.{raw_heading, text_heading}
 use Rattle.pgn_criteria.proofs.meets.Criteria.watch_packed.Goals as goal
 
 -- what is watched is so in other words
-said_so : {X E : Type 0} {P Q : X → Type 0} (r : Result (Option X) E) → ((x : X) → P x → Q x) → IfOk r (λ o. IfSome o P) → IfOk r (λ o. IfSome o Q)
+said_so : {X E : Type 0} {P Q : X → Type 0} (r : Result (Option X) E) → ((x : X) → P x → Q x)
+    → IfOk r (λ o. IfSome o P) → IfOk r (λ o. IfSome o Q)
 said_so (Ok (Some x)) so all = so x all
 said_so (Ok None) so all = tt
 said_so (Err e) so all = tt
@@ -16,6 +17,8 @@ returns c =
     said_so c.watch_heading.result
     (λ search met game replay packed is fits shows any ply.
     let heading : heading_of_raw c.args.record.now ≡ heading_of game =
-    ap heading_of_raw (sym shows) ∙ raw_heading packed fits ∙ text_heading packed.name packed.number packed.offset game replay packed is in
-    subst (λ (h : Heading). Meets h any ply search ↔ Meets h any ply c.args.self.now) heading (met any ply))
+    ap heading_of_raw (sym shows) ∙ raw_heading packed fits
+    ∙ text_heading packed.name packed.number packed.offset game replay packed is in
+    subst (λ (h : Heading). Meets h any ply search
+    ↔ Meets h any ply c.args.self.now) heading (met any ply))
     c.watch_heading.ensures

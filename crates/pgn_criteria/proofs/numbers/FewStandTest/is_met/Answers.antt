@@ -10,4 +10,5 @@ by_test n m size most here there few = grind (arith, nat_tests)
 
 pub returns : goal.returns
 returns c = λ man men his known few.
-    by_test c.count.result c.from.result (count_of men man) c.args.self.now.most (c.count.ensures ∙ counted men man c.args.squares.now his) c.from.ensures few
+    by_test c.count.result c.from.result (count_of men man) c.args.self.now.most (c.count.ensures
+    ∙ counted men man c.args.squares.now his) c.from.ensures few

@@ -10,6 +10,11 @@ pub returns : goal.returns
 returns c =
     let old = c.args.self.now in
     let pattern = c.args.pattern.now in
-    let fits = subst (λ o. IfSome o (λ layout. (p : Placement) → Laid p layout ↔ FitsPattern p pattern)) c.in-Some.is c.in_ok-layout.ensures in
-    plans_denied (λ p. FitsPattern p pattern → ⊥) old (record { layout = old.layout; ways = old.ways; denied = c.push.new.self }) c.new.result refl refl c.in_ok-push.ensures.items
-    c.new.ensures.free (λ p. denied (subst (λ l. Laid p l ↔ FitsPattern p pattern) (sym c.new.ensures.layout) (fits p)))
+    let fits =
+    subst (λ o. IfSome o (λ layout. (p : Placement) → Laid p layout ↔ FitsPattern p pattern))
+    c.in-Some.is c.in_ok-layout.ensures in
+    plans_denied (λ p. FitsPattern p pattern
+    → ⊥) old (record { layout = old.layout; ways = old.ways; denied = c.push.new.self })
+    c.new.result refl refl c.in_ok-push.ensures.items
+    c.new.ensures.free (λ p.
+    denied (subst (λ l. Laid p l ↔ FitsPattern p pattern) (sym c.new.ensures.layout) (fits p)))

@@ -13,7 +13,12 @@ returns c =
     let old = c.args.self.now in
     let pattern = c.args.pattern.now in
     let one : Ways = record { straight = c.new.result; turned = c.new-2.result } in
-    let fits = subst (λ o. IfSome o (λ layout. (p : Placement) → Laid p layout ↔ FitsPattern p pattern)) c.in-Some.is c.in_ok-straight.ensures in
-    plans_ways (λ p. FitsEitherWay p pattern) old (record { layout = old.layout; ways = c.push.new.self; denied = old.denied }) one refl refl c.in_ok-push.ensures.items
+    let fits =
+    subst (λ o. IfSome o (λ layout. (p : Placement) → Laid p layout ↔ FitsPattern p pattern))
+    c.in-Some.is c.in_ok-straight.ensures in
+    plans_ways (λ p. FitsEitherWay p pattern) old
+    (record { layout = old.layout; ways = c.push.new.self; denied = old.denied }) one refl refl
+    c.in_ok-push.ensures.items
     (c.new.ensures.free, c.new-2.ensures.free)
-    (either_way c.in-Some.straight c.in_ok-turned.turned c.new.result c.new-2.result pattern fits c.in_ok-turned.ensures c.new.ensures.layout c.new-2.ensures.layout)
+    (either_way c.in-Some.straight c.in_ok-turned.turned c.new.result c.new-2.result pattern fits
+    c.in_ok-turned.ensures c.new.ensures.layout c.new-2.ensures.layout)

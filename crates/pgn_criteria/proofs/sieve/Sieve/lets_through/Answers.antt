@@ -12,6 +12,7 @@ returns-in-None g c = λ none.
     nowhere_of (StaysOn own.straight.stand own.man) (FitsSieve own) men (codes_in c.args.plies.now)
     (λ p fits. elim fits [
       | inl straight ↦ straight.his
-      | inr turned ↦ absurd (subst (λ o. MatchOption o ⊥ (λ turned. StaysAt turned own.man p)) c.in-None.is turned)
+      | inr turned ↦ absurd
+          (subst (λ o. MatchOption o ⊥ (λ turned. StaysAt turned own.man p)) c.in-None.is turned)
     ])
     (c.is_met_somewhere.ensures men c.squares_with-squares.ensures none)

@@ -14,5 +14,6 @@ returns-then-bars c = λ men asked so.
     let less : Stand = record { wanted = own.wanted; free = c.remove.new.self } in
     bars own less man men square c.remove.ensures refl
     (λ stands.
-    let here : man_at men c.args.asked.now.square ≡ Some man = subst (λ (t : Place). man_at men t ≡ Some man) c.place-then-bars.ensures.square stands in
+    let here : man_at men c.args.asked.now.square ≡ Some man =
+    subst (λ (t : Place). man_at men t ≡ Some man) c.place-then-bars.ensures.square stands in
     c.bars.ensures c.if-bars.true (subst (IsOf c.args.asked.now.class) here asked)) so

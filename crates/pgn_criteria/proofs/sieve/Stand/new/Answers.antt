@@ -9,5 +9,8 @@ use Rattle.pgn_criteria.proofs.sieve.Stand.new.Goals as goal
 pub returns : goal.returns
 returns c = λ men laid.
     let first : Stand = record { wanted = c.new.result; free = c.free.result } in
-    let at_first = begins first c.args.man men c.args.layout.now.empty (λ s. ap (λ (set : Places). is_in set s) c.new.ensures ∙ is_in-empty s) c.free.ensures laid.2 in
-    c.add_all-2.ensures men (subst (AllStand men) (sym c.barred.ensures) laid.1) (c.add_all.ensures men (subst (AllStand men) (sym c.asked.ensures) laid.0) at_first)
+    let at_first =
+    begins first c.args.man men c.args.layout.now.empty (λ s.
+    ap (λ (set : Places). is_in set s) c.new.ensures ∙ is_in-empty s) c.free.ensures laid.2 in
+    c.add_all-2.ensures men (subst (AllStand men) (sym c.barred.ensures) laid.1)
+    (c.add_all.ensures men (subst (AllStand men) (sym c.asked.ensures) laid.0) at_first)

@@ -2,7 +2,8 @@ use Rattle.pgn_extract.proofs.StoppedFiles.{none_named, none_named_at}
 use Rattle.pgn_extract.proofs.app.files.put_unopened.Goals as goal
 
 pub returns-then-eq-clause-left : goal.returns-then-eq-clause-left
-returns-then-eq-clause-left g c = none_named (g.E.Write.contents c.args.err.now.inner) c.args.path.now
+returns-then-eq-clause-left g c =
+    none_named (g.E.Write.contents c.args.err.now.inner) c.args.path.now
 
 pub returns-in_err-line-clause-left : goal.returns-in_err-line-clause-left
 returns-in_err-line-clause-left g c =

@@ -20,20 +20,32 @@ loop-path-preserved g c =
       orders = λ path. c.run_path.ensures.orders path ∙ c.loop-path.invariant.orders path;
       known = λ path. c.run_path.ensures.known path ∙ c.loop-path.invariant.known path;
       written = λ known.
-          let there = known_there (λ path. path.now) all i none (files c.args.files.now) (files c.loop-path.files) c.loop-path.invariant.known within known in
+          let there =
+          known_there (λ path. path.now) all i none (files c.args.files.now)
+          (files c.loop-path.files) c.loop-path.invariant.known within known in
           let before = c.loop-path.invariant.written known in
           let own = c.in_ok-run_path.ensures.written there in (
             before.0 ++ own.0,
             before.1 ++ own.1,
-            written_there (λ path. path.now) all i none (order_at c.args.task.now) (order_at c.loop-path.task) (files c.args.files.now) (files c.loop-path.files)
-                c.loop-path.invariant.orders c.loop-path.invariant.known within before.0 before.1 own.0 own.1 before.2 own.2,
-            appends_join (g.O.Write.contents c.args.out.now.inner) (g.O.Write.contents c.loop-path.out.inner) (g.O.Write.contents c.run_path.new.out.inner) before.0 own.0 before.3 own.3,
-            appends_join (g.E.Write.contents c.args.err.now.inner) (g.E.Write.contents c.loop-path.err.inner) (g.E.Write.contents c.run_path.new.err.inner) before.1 own.1 before.4 own.4,
+            written_there (λ path. path.now) all i none (order_at c.args.task.now)
+                (order_at c.loop-path.task) (files c.args.files.now) (files c.loop-path.files)
+                c.loop-path.invariant.orders c.loop-path.invariant.known within before.0 before.1
+                own.0 own.1 before.2 own.2,
+            appends_join (g.O.Write.contents c.args.out.now.inner)
+                (g.O.Write.contents c.loop-path.out.inner)
+                (g.O.Write.contents c.run_path.new.out.inner) before.0 own.0 before.3 own.3,
+            appends_join (g.E.Write.contents c.args.err.now.inner)
+                (g.E.Write.contents c.loop-path.err.inner)
+                (g.E.Write.contents c.run_path.new.err.inner) before.1 own.1 before.4 own.4,
           );
       unopened = λ known.
-          let there = known_there (λ path. path.now) all i none (files c.args.files.now) (files c.loop-path.files) c.loop-path.invariant.known within known in
-          unopened_there (λ path. path.now) all i none (files c.args.files.now) (files c.loop-path.files) c.loop-path.invariant.known within _ _ _
-          c.add.ensures (c.loop-path.invariant.unopened known) (c.in_ok-run_path.ensures.unopened there);
+          let there =
+          known_there (λ path. path.now) all i none (files c.args.files.now)
+          (files c.loop-path.files) c.loop-path.invariant.known within known in
+          unopened_there (λ path. path.now) all i none (files c.args.files.now)
+          (files c.loop-path.files) c.loop-path.invariant.known within _ _ _
+          c.add.ensures (c.loop-path.invariant.unopened known)
+          (c.in_ok-run_path.ensures.unopened there);
     }
 
 pub returns-in_err-run_path-clause-stopped : goal.returns-in_err-run_path-clause-stopped
@@ -47,6 +59,10 @@ returns-in_err-run_path-clause-stopped g c =
     rw p.1
     (rw p.2
     (λ known.
-    let there = known_there (λ path. path.now) all i none (files c.args.files.now) (files c.loop-path.files) c.loop-path.invariant.known within known in
-    stops_there (λ path. path.now) all i none (order_at c.args.task.now) (order_at c.loop-path.task) (files c.args.files.now) (files c.loop-path.files)
-    c.loop-path.invariant.orders c.loop-path.invariant.known within _ _ _ _ _ (c.loop-path.invariant.written known) (c.in_err-run_path.ensures.stopped there)))
+    let there =
+    known_there (λ path. path.now) all i none (files c.args.files.now) (files c.loop-path.files)
+    c.loop-path.invariant.known within known in
+    stops_there (λ path. path.now) all i none (order_at c.args.task.now) (order_at c.loop-path.task)
+    (files c.args.files.now) (files c.loop-path.files)
+    c.loop-path.invariant.orders c.loop-path.invariant.known within _ _ _ _ _
+    (c.loop-path.invariant.written known) (c.in_err-run_path.ensures.stopped there)))

@@ -14,8 +14,12 @@ invariant-loop-path g l =
       orders : (path : List ℕ) → order_at l.task path ≡ order_at l.initial.task path;
       known : (path : List ℕ) → g.F.Files.known l.files path ≡ g.F.Files.known l.initial.files path;
       written : AreKnown (g.F.Files.known l.initial.files) (paths_of l.initial.task)
-          → WritesPaths (order_at l.initial.task) (g.F.Files.known l.initial.files) (take l.path-index (paths_of l.initial.task))
-          (passage g.O.Write.contents l.initial.out l.out) (passage g.E.Write.contents l.initial.err l.err);
+          → WritesPaths (order_at l.initial.task) (g.F.Files.known l.initial.files)
+          (take l.path-index (paths_of l.initial.task))
+          (passage g.O.Write.contents l.initial.out l.out)
+          (passage g.E.Write.contents l.initial.err l.err);
       unopened : AreKnown (g.F.Files.known l.initial.files) (paths_of l.initial.task)
-          → l.total.unopened ≡ list_any (λ path. is_no_file (g.F.Files.known l.initial.files path)) (take l.path-index (paths_of l.initial.task));
+          → l.total.unopened
+          ≡ list_any (λ path. is_no_file (g.F.Files.known l.initial.files path))
+          (take l.path-index (paths_of l.initial.task));
     }

@@ -17,7 +17,8 @@ loop-path-preserved g c =
       searched = λ known.
           let there =
           known_there (λ path. path.now) all i none
-          (files c.args.files.now) (files c.loop-path.files) c.loop-path.invariant.known within known in
+          (files c.args.files.now) (files c.loop-path.files) c.loop-path.invariant.known within
+          known in
           searched_there (λ path. path.now) all i none (aim_of c.args.task.now.settings)
           (files c.args.files.now) (files c.loop-path.files)
           c.loop-path.invariant.known within _ _ _ _ _ _ (c.loop-path.invariant.searched known)

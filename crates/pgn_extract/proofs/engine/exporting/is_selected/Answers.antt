@@ -15,9 +15,13 @@ returns-in-Matching c game replay reports =
 pub returns-in-Others : goal.returns-in-Others
 returns-in-Others c game replay reports =
     let Has = HasEntry (aim_of c.args.settings.now) (heading_of game) replay in
-    subst (λ s. IsTrue (not c.args.has) ↔ IsSelected s Has) (sym c.in-Others.is) (turned c.args.has Has reports)
+    subst (λ s. IsTrue (not c.args.has)
+    ↔ IsSelected s Has) (sym c.in-Others.is) (turned c.args.has Has reports)
 
 pub returns-in-Faulty : goal.returns-in-Faulty
 returns-in-Faulty c game replay reports =
     let Has = HasEntry (aim_of c.args.settings.now) (heading_of game) replay in
-    subst (λ s. IsTrue false ↔ IsSelected s Has) (sym c.in-Faulty.is) ((λ yes. false≢true yes), (λ never. absurd never))
+    subst (λ s. IsTrue false ↔ IsSelected s Has) (sym c.in-Faulty.is) (
+      (λ yes. false≢true yes),
+      (λ never. absurd never),
+    )

@@ -14,6 +14,8 @@ returns-in-Err c =
     let aim = aim_of c.args.settings.now in
     let game = c.args.game.now in
     let old = c.args.text.now.items in
-    let leaves : (own : Fault) → IsFault (written_lines aim) (tag_in fen_tag game.tags) game.elements own → LeavesText aim game old old own = λ own met. (met, refl) in
+    let leaves : (own : Fault)
+    → IsFault (written_lines aim) (tag_in fen_tag game.tags) game.elements own
+    → LeavesText aim game old old own = λ own met. (met, refl) in
     let fault = rw c.written_lines.ensures at c.in-Err.ensures in
     IfSome_then (fault_of c.in-Err.fault) fault leaves

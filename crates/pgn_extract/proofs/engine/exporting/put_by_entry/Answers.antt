@@ -14,5 +14,7 @@ returns-in-Err c =
     let aim = aim_of c.args.context.settings.now in
     let game = c.args.game.now in
     let old = c.args.text.now.items in
-    let leaves : (own : Fault) → IsFault (written_lines aim) (tag_in fen_tag game.tags) game.elements own → LeavesText aim game old old own = λ own met. (met, refl) in
+    let leaves : (own : Fault)
+    → IsFault (written_lines aim) (tag_in fen_tag game.tags) game.elements own
+    → LeavesText aim game old old own = λ own met. (met, refl) in
     IfSome_then (fault_of c.first_fault.result) c.first_fault.ensures leaves

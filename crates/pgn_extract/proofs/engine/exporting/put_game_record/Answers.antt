@@ -14,8 +14,10 @@ returns c =
     let game = c.args.game.now in
     let old = c.args.text.now.items in
     let new = c.push_record.new.out.items in
-    put_or_left c.push_record.result c.push_record.ensures.record c.push_record.ensures.record c.push_record.ensures.fault c.push_record.ensures.left
+    put_or_left c.push_record.result c.push_record.ensures.record c.push_record.ensures.record
+    c.push_record.ensures.fault c.push_record.ensures.left
     (λ own _. record_put aim context.own game old new c.requires own.0
-    (subst (λ name. IsRecordOf name context.own.number context.own.offset game own.0) c.shown_name.ensures own.1) own.3)
+    (subst (λ name. IsRecordOf name context.own.number context.own.offset game own.0)
+    c.shown_name.ensures own.1) own.3)
     (λ fault fails left. IfSome_then (fault_of fault) fails
     (λ own met. (record_lines aim context.own game old new c.requires own met, left)))

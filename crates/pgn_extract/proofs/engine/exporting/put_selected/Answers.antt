@@ -17,7 +17,14 @@ returns-then-takes_all c =
     let aim = aim_of c.args.context.settings.now in
     let game = c.args.game.now in
     MatchResult-weaker c.put_text.result c.put_text.ensures
-    (λ _ put. (put.0, put.1, put.2, all_written aim c.args.context.own game put.0 put.2 (c.takes_all.ensures c.if-takes_all.true) put.1 put.3, put.4))
+    (λ _ put. (
+      put.0,
+      put.1,
+      put.2,
+      all_written aim c.args.context.own game put.0 put.2
+          (c.takes_all.ensures c.if-takes_all.true) put.1 put.3,
+      put.4,
+    ))
     (λ fault reports. reports)
 
 pub returns-in-Faulty : goal.returns-in-Faulty
@@ -25,9 +32,18 @@ returns-in-Faulty c =
     let aim = aim_of c.args.context.settings.now in
     let game = c.args.game.now in
     let old = c.args.text.now.items in
-    let leaves : (own : Fault) → IsFault (written_lines aim) (tag_in fen_tag game.tags) game.elements own → LeavesText aim game old old own = λ own met. (met, refl) in
-    let none : (P : Type 0) → IsSelected c.args.context.settings.now.select P → ⊥ = λ P. subst (λ s. IsSelected s P → ⊥) (sym c.in-Faulty.is) (λ never. never) in
+    let leaves : (own : Fault)
+    → IsFault (written_lines aim) (tag_in fen_tag game.tags) game.elements own
+    → LeavesText aim game old old own = λ own met. (met, refl) in
+    let none : (P : Type 0) → IsSelected c.args.context.settings.now.select P → ⊥ =
+    λ P. subst (λ s. IsSelected s P → ⊥) (sym c.in-Faulty.is) (λ never. never) in
     let checked = rw c.written_lines.ensures at c.check_lines.ensures in
     MatchResult-weaker c.check_lines.result checked
-    (λ _ sound. (sound.0, sound.1, [], inr (none (HasEntry aim (heading_of game) sound.0), refl), sym (append-nil old)))
+    (λ _ sound. (
+      sound.0,
+      sound.1,
+      [],
+      inr (none (HasEntry aim (heading_of game) sound.0), refl),
+      sym (append-nil old),
+    ))
     (λ fault reports. IfSome_then (fault_of fault) reports leaves)

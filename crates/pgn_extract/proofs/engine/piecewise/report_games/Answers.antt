@@ -2,15 +2,18 @@ use Rattle.std.proofs.Common.{◌∙◌, refl}
 use Rattle.std.proofs.lemmas.Result.{err_from_is_err_and}
 use Rattle.pgn_extract.specs.Public.Aims.{aim_of}
 use Rattle.pgn_extract.proofs.BlockWritten.{front_none, written_soundly}
-use Rattle.pgn_extract.proofs.Listed.{listed_none, listed_more, listed_passed, listed_begun, listed_all}
+use Rattle.pgn_extract.proofs.Listed.{listed_none, listed_more, listed_passed, listed_begun}
+use Rattle.pgn_extract.proofs.Listed.{listed_all}
 use Rattle.pgn_extract.proofs.engine.piecewise.report_games.Goals as goal
 use Rattle.pgn_extract.specs.Public.GivenMarks.{game_id}
 
 pub loop-piece-init : goal.loop-piece-init
 loop-piece-init g c = (
-  listed_none (aim_of c.args.work.settings.now) _ c.args.bytes.now _ (game_id c.args.work.number c.args.work.block.offset) _ _
+  listed_none (aim_of c.args.work.settings.now) _ c.args.bytes.now _
+      (game_id c.args.work.number c.args.work.block.offset) _ _
       (c.into_iter-piece-iterator.ensures.into_iter_gives ∙ c.games-piece-items.ensures)
-      c.clear.ensures.output c.clear.ensures.faults c.clear.ensures.counts.0 c.clear.ensures.counts.1,
+      c.clear.ensures.output c.clear.ensures.faults c.clear.ensures.counts.0
+      c.clear.ensures.counts.1,
   c.requires.sound.0,
   c.requires.sound.1,
 )
@@ -19,7 +22,9 @@ pub loop-piece-preserved-in_ok-put_large : goal.loop-piece-preserved-in_ok-put_l
 loop-piece-preserved-in_ok-put_large g c =
     let takes = rw c.in_ok-piece.was at c.in-Some.ensures.steps in
     let begins = c.into_iter-piece-iterator.ensures.into_iter_gives ∙ c.games-piece-items.ensures in
-    let more = listed_more c.loop-piece.invariant.0 c.args.bytes.now _ begins takes refl c.in_ok-add_piece.ensures in
+    let more =
+    listed_more c.loop-piece.invariant.0 c.args.bytes.now _ begins takes refl
+    c.in_ok-add_piece.ensures in
     let sound = written_soundly c.in_ok-put_large.ensures.faults in
     (listed_passed more c.in_ok-put_large.ensures.ok, sound.0, sound.1)
 
@@ -27,7 +32,9 @@ pub loop-piece-preserved : goal.loop-piece-preserved
 loop-piece-preserved g c =
     let takes = rw c.in_ok-piece.was at c.in-Some.ensures.steps in
     let begins = c.into_iter-piece-iterator.ensures.into_iter_gives ∙ c.games-piece-items.ensures in
-    let more = listed_more c.loop-piece.invariant.0 c.args.bytes.now _ begins takes refl c.in_ok-add_piece.ensures in
+    let more =
+    listed_more c.loop-piece.invariant.0 c.args.bytes.now _ begins takes refl
+    c.in_ok-add_piece.ensures in
     let sound = written_soundly c.in_ok-put_large.ensures.faults in
     (listed_passed more c.in_ok-put_large.ensures.ok, sound.0, sound.1)
 
@@ -36,27 +43,34 @@ returns-in_err-piece-clause-stopped g c =
     let p = err_from_is_err_and c.from_residual.result c.from_residual.ensures.1 in
     rw p.1
     (listed_begun c.loop-piece.invariant.0 c.args.bytes.now
-    (c.into_iter-piece-iterator.ensures.into_iter_gives ∙ c.games-piece-items.ensures) c.requires.size (front_none _ _) (front_none _ _))
+    (c.into_iter-piece-iterator.ensures.into_iter_gives
+    ∙ c.games-piece-items.ensures) c.requires.size (front_none _ _) (front_none _ _))
 
 pub returns-in_err-add_piece-clause-stopped : goal.returns-in_err-add_piece-clause-stopped
 returns-in_err-add_piece-clause-stopped g c =
-    let p = err_from_is_err_and c.from_residual-in_err-add_piece.result c.from_residual-in_err-add_piece.ensures.1 in
+    let p = err_from_is_err_and c.from_residual-in_err-add_piece.result
+    c.from_residual-in_err-add_piece.ensures.1 in
     rw p.1
     (listed_begun c.loop-piece.invariant.0 c.args.bytes.now
-    (c.into_iter-piece-iterator.ensures.into_iter_gives ∙ c.games-piece-items.ensures) c.requires.size (front_none _ _) (front_none _ _))
+    (c.into_iter-piece-iterator.ensures.into_iter_gives
+    ∙ c.games-piece-items.ensures) c.requires.size (front_none _ _) (front_none _ _))
 
 pub returns-in_err-put_large-clause-stopped : goal.returns-in_err-put_large-clause-stopped
 returns-in_err-put_large-clause-stopped g c =
-    let p = err_from_is_err_and c.from_residual-in_err-put_large.result c.from_residual-in_err-put_large.ensures.1 in
+    let p = err_from_is_err_and c.from_residual-in_err-put_large.result
+    c.from_residual-in_err-put_large.ensures.1 in
     let takes = rw c.in_ok-piece.was at c.in-Some.ensures.steps in
     rw p.1
     (listed_begun
     (listed_more c.loop-piece.invariant.0 c.args.bytes.now _
-    (c.into_iter-piece-iterator.ensures.into_iter_gives ∙ c.games-piece-items.ensures) takes refl c.in_ok-add_piece.ensures) c.args.bytes.now
-    (c.into_iter-piece-iterator.ensures.into_iter_gives ∙ c.games-piece-items.ensures) c.requires.size
+    (c.into_iter-piece-iterator.ensures.into_iter_gives
+    ∙ c.games-piece-items.ensures) takes refl c.in_ok-add_piece.ensures) c.args.bytes.now
+    (c.into_iter-piece-iterator.ensures.into_iter_gives
+    ∙ c.games-piece-items.ensures) c.requires.size
     c.in_err-put_large.ensures.err.0 c.in_err-put_large.ensures.err.1)
 
 pub returns-clause-done : goal.returns-clause-done
 returns-clause-done g c =
     listed_all c.loop-piece.invariant.0 c.args.bytes.now
-    (c.into_iter-piece-iterator.ensures.into_iter_gives ∙ c.games-piece-items.ensures) c.requires.size c.in-None.ensures.steps.0
+    (c.into_iter-piece-iterator.ensures.into_iter_gives
+    ∙ c.games-piece-items.ensures) c.requires.size c.in-None.ensures.steps.0

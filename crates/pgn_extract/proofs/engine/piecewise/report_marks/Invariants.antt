@@ -6,6 +6,8 @@ use Rattle.pgn_extract.specs.Public.GivenMarks.{game_id}
 
 abbrev pub invariant-loop-mark : goal.invariant-loop-mark
 invariant-loop-mark g l =
-    Indexed (aim_of l.work.settings.now) l.initial.mark-iterator l.mark-iterator l.report (game_id l.work.number l.offset)
-    (g.O.Write.contents l.fn.out.inner) (g.O.Write.contents l.out.inner) (g.E.Write.contents l.fn.err.inner) (g.E.Write.contents l.err.inner)
+    Indexed (aim_of l.work.settings.now) l.initial.mark-iterator l.mark-iterator l.report
+    (game_id l.work.number l.offset)
+    (g.O.Write.contents l.fn.out.inner) (g.O.Write.contents l.out.inner)
+    (g.E.Write.contents l.fn.err.inner) (g.E.Write.contents l.err.inner)
     × (l.out.faulted ≡ false) × (l.err.faulted ≡ false)

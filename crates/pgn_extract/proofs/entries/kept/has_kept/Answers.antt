@@ -13,6 +13,10 @@ returns c =
     let game = c.args.game.now in
     let aim = aim_of c.args.settings.now in (
       (kept, is),
-      λ replay own. subst (λ r. IsTrue r ↔ HasEntry aim (heading_of game) replay) (sym c.is_some.ensures)
-          (first_entry aim game kept replay (Main, is) own c.args.criteria.now c.requires.criteria c.first.result c.first.ensures),
+      λ replay own. subst (λ r. IsTrue r
+          ↔ HasEntry aim (heading_of game) replay) (sym c.is_some.ensures)
+          (first_entry aim game kept replay (
+            Main,
+            is,
+          ) own c.args.criteria.now c.requires.criteria c.first.result c.first.ensures),
     )

@@ -10,6 +10,8 @@ returns c name id is tags replay size =
     let end = c.end_ply.result in
     let text = c.args.text.now.items in (
       plies_from id least (end - least),
-      listed_plies (record (aim_of c.args.settings.now) { name = name }) id c.args.plies end c.requires.criteria c.requires.plain c.end_ply.ensures.exactly tags replay size,
-      c.in_ok-push_range.ensures ∙ ap (λ m. text ++ lines_from m least (end - least)) is ∙ ap (λ t. text ++ t) (lines_listed name id least (end - least)),
+      listed_plies (record (aim_of c.args.settings.now) { name = name }) id c.args.plies end
+          c.requires.criteria c.requires.plain c.end_ply.ensures.exactly tags replay size,
+      c.in_ok-push_range.ensures ∙ ap (λ m. text ++ lines_from m least (end - least)) is
+          ∙ ap (λ t. text ++ t) (lines_listed name id least (end - least)),
     )

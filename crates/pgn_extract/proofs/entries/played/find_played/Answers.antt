@@ -15,8 +15,9 @@ returns-clause-found g c =
     let asked = g.Q.Question.asked c.args.question in
     on_ok_weaker c.find.result
     (λ found name id.
-        let aim = aim_with c.args.finder.now.settings.now c.args.finder.now.fields name in
-        found name id c.args.game.now line.position (begins_with c.args.game.now line asked aim c.in_ok-line.ensures c.requires.asks))
+    let aim = aim_with c.args.finder.now.settings.now c.args.finder.now.fields name in
+    found name id c.args.game.now line.position
+    (begins_with c.args.game.now line asked aim c.in_ok-line.ensures c.requires.asks))
     c.find.ensures.found
 
 pub returns-clause-fault : goal.returns-clause-fault
@@ -25,5 +26,8 @@ returns-clause-fault g c =
     let asked = g.Q.Question.asked c.args.question in
     let aim = aim_with c.args.finder.now.settings.now c.args.finder.now.fields None in
     MatchResult-weaker c.find.result c.find.ensures.fault (λ done none. tt)
-    (λ fault met. IfSome_then _ met (fails_at_start c.args.finder.now.settings.now c.args.finder.now.fields c.args.game.now line asked
+    (λ fault met.
+    IfSome_then _ met
+    (fails_at_start c.args.finder.now.settings.now c.args.finder.now.fields c.args.game.now line
+    asked
     (begins_with c.args.game.now line asked aim c.in_ok-line.ensures c.requires.asks) _))

@@ -8,7 +8,12 @@ returns-clause-shown c =
     on_ok_weaker c.push_next.result
     (λ next. (
       32 ∷ next.0,
-      subst (λ b. ShowsNext b c.args.line.now (32 ∷ next.0)) (sym c.if-not-is_asked.false) (next.0, next.1, refl),
-      next.2 ∙ ap (λ t. t ++ next.0) c.in_ok-extend_from_slice.ensures.items ∙ append_assoc c.args.text.now.items (32 ∷ []) next.0,
+      subst (λ b. ShowsNext b c.args.line.now (32 ∷ next.0)) (sym c.if-not-is_asked.false) (
+        next.0,
+        next.1,
+        refl,
+      ),
+      next.2 ∙ ap (λ t. t ++ next.0) c.in_ok-extend_from_slice.ensures.items
+          ∙ append_assoc c.args.text.now.items (32 ∷ []) next.0,
     ))
     c.push_next.ensures.text

@@ -6,5 +6,7 @@ pub returns-in-TagValue : goal.returns-in-TagValue
 returns-in-TagValue c =
     rw c.in-TagValue.is
     (on_ok_weaker c.push_named.result
-    (λ is. is ∙ ap (λ n. c.args.text.now.items ++ (codes " (in the value of tag " ++ n ++ codes ")")) c.tag_name_at.ensures)
+    (λ is. is
+    ∙ ap (λ n. c.args.text.now.items
+    ++ (codes " (in the value of tag " ++ n ++ codes ")")) c.tag_name_at.ensures)
     c.push_named.ensures)

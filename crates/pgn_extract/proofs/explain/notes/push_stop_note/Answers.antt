@@ -12,6 +12,7 @@ returns c = (
     stands = c.locate_error-stop.ensures.within;
     says = refl;
   },
-  note_joined _ _ _ _ _ _ _ _ _ _ _ c.in_ok-extend_from_slice.ensures.items c.in_ok-push_place.ensures c.in_ok-push_stopper.ensures c.in_ok-push_context.ensures
+  note_joined _ _ _ _ _ _ _ _ _ _ _ c.in_ok-extend_from_slice.ensures.items
+      c.in_ok-push_place.ensures c.in_ok-push_stopper.ensures c.in_ok-push_context.ensures
       c.in_ok-push.ensures.items (sym (append-nil _)),
 )

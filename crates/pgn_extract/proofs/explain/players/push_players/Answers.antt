@@ -8,6 +8,9 @@ pub returns : goal.returns
 returns c =
     let line = c.as_slice.result.now in
     let begun = c.in_ok-push_shown.ensures (subst IsLine (sym c.new-line.ensures.items) refl) in
-    let named = c.in_ok-push_player-2.ensures (c.in_ok-push_shown-2.ensures (c.in_ok-push_player.ensures begun)) in
+    let named =
+    c.in_ok-push_player-2.ensures
+    (c.in_ok-push_shown-2.ensures (c.in_ok-push_player.ensures begun)) in
     let whole = subst IsLine (sym c.as_slice.ensures.value) (c.in_ok-push_year.ensures named) in
-    on_ok_weaker c.push_line.result (λ is. (indented (line ∷ []), line_note line whole, is)) c.push_line.ensures
+    on_ok_weaker c.push_line.result (λ is.
+    (indented (line ∷ []), line_note line whole, is)) c.push_line.ensures

@@ -5,4 +5,5 @@ use Rattle.pgn_extract.proofs.output.file_name.shown_text.Given as goal
 
 abbrev pub invariant-loop-character : goal.invariant-loop-character
 invariant-loop-character l =
-    IsUtf8 (chars_rest l.character-iterator) × (string_bytes l.shown ++ shown_name (chars_rest l.character-iterator) ≡ shown_name l.text)
+    IsUtf8 (chars_rest l.character-iterator)
+    × (string_bytes l.shown ++ shown_name (chars_rest l.character-iterator) ≡ shown_name l.text)

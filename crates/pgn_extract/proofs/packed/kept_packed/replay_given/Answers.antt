@@ -7,7 +7,9 @@ use Rattle.pgn_extract.proofs.packed.kept_packed.replay_given.Goals as goal
 
 pub returns-then-not-is_contents-clause-err : goal.returns-then-not-is_contents-clause-err
 returns-then-not-is_contents-clause-err c is game replay packed own =
-    let yes = c.is_contents.ensures.1 (own.text.strings fen_tag c.args.contents.now (c.requires game replay packed own)) in
+    let yes =
+    c.is_contents.ensures.1
+    (own.text.strings fen_tag c.args.contents.now (c.requires game replay packed own)) in
     absurd (cc (yes, c.if-not-is_contents.true))
 
 pub replay_from-requires : goal.replay_from-requires
@@ -21,5 +23,6 @@ returns-in-Err c = record {
   err = λ is game replay packed own.
       let reported = c.start_fault.ensures is in
       let bad : IsBadStart (Some c.args.contents.now) = (rw reported.1 at c.in-Err.ensures).0 in
-      start_or_bad (tag_in fen_tag game.tags) own.is_replay.start own.is_replay.is_start (subst IsBadStart (sym (c.requires game replay packed own)) bad);
+      start_or_bad (tag_in fen_tag game.tags) own.is_replay.start own.is_replay.is_start
+      (subst IsBadStart (sym (c.requires game replay packed own)) bad);
 }

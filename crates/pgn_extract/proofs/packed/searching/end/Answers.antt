@@ -9,6 +9,7 @@ returns-in-Err-clause-err g c = (
   refl,
   (
     length c.args.text.now,
-    subst (Appends _ _) (sym (take-length c.args.text.now)) (Appends-kept _ _ _ c.args.text.now c.in_ok-put_text.ensures.ok c.finish.ensures.kept),
+    subst (Appends _ _) (sym (take-length c.args.text.now))
+        (Appends-kept _ _ _ c.args.text.now c.in_ok-put_text.ensures.ok c.finish.ensures.kept),
   ),
 )

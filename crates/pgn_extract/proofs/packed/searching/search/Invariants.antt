@@ -6,7 +6,9 @@ use Rattle.pgn_extract.proofs.packed.searching.search.Given as goal
 
 abbrev pub invariant-loop-text : goal.invariant-loop-text
 invariant-loop-text g l =
-    HasSearched (aim_of l.settings) l.records (g.R.Read.remaining l.fn.input.inner) (g.R.Read.remaining l.input.inner) (g.O.Write.contents l.fn.out.inner) (g.O.Write.contents l.out.inner)
+    HasSearched (aim_of l.settings) l.records (g.R.Read.remaining l.fn.input.inner)
+    (g.R.Read.remaining l.input.inner) (g.O.Write.contents l.fn.out.inner)
+    (g.O.Write.contents l.out.inner)
     l.text.items l.count × (l.input.faulted ≡ false) × (l.out.faulted ≡ false)
 
 abbrev pub decreases-loop-text : goal.decreases-loop-text

@@ -6,5 +6,7 @@ pub returns : goal.returns
 returns c =
     let found = c.split_word-found.result in
     let is = c.split_word-found.ensures in
-    kept_word c.args.text.now found.word.now found.rest.now is.word is.rest (full found.word.now (sym c.is_empty.ensures ∙ c.if-is_empty.false)) (is.bare c.if-not-found.false)
+    kept_word c.args.text.now found.word.now found.rest.now is.word is.rest
+    (full found.word.now (sym c.is_empty.ensures ∙ c.if-is_empty.false))
+    (is.bare c.if-not-found.false)
     (c.is_kept.ensures c.if-not-is_kept.false)

@@ -9,4 +9,6 @@ pub returns-then-leaves_open : goal.returns-then-leaves_open
 returns-then-leaves_open c =
     let found = c.args.found.now in
     c.closes.ensures ∙ sym (closes_words found.rest.now)
-    ∙ sym (ap (λ t. if t then closes (joined (words_in found.rest.now)) else c.args.inside && not (has_bracket found.word.now)) (sym c.leaves_open.ensures ∙ c.if-leaves_open.true))
+    ∙ sym (ap (λ t. if t then closes (joined (words_in found.rest.now))
+    else c.args.inside && not (has_bracket found.word.now)) (sym c.leaves_open.ensures
+    ∙ c.if-leaves_open.true))

@@ -4,7 +4,8 @@ use Rattle.pgn_game.specs.Public.Comments.{has_bracket, leaves_open}
 use Rattle.pgn_game.proofs.exports.comment.leaves_open.Given as goal
 
 abbrev pub invariant-loop-rest : goal.invariant-loop-rest
-invariant-loop-rest l = (leaves_open l.rest || (l.is_open && not (has_bracket l.rest))) ≡ leaves_open l.text
+invariant-loop-rest l = (leaves_open l.rest || (l.is_open && not (has_bracket l.rest)))
+    ≡ leaves_open l.text
 
 abbrev pub decreases-loop-rest : goal.decreases-loop-rest
 decreases-loop-rest l = length l.rest

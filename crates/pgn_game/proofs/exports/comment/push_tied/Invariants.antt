@@ -8,7 +8,8 @@ invariant-loop-inside l = record {
   some : List ℕ;
   pushed : l.out.items ≡ l.fn.out.items ++ some;
   tied : (token : List ℕ)
-      → in_front l.fn.first_inside token (tied_words l.fn.first_inside (found_words l.fn.first)) ≡ in_front l.inside (token ++ some) (tied_words l.inside (found_words l.next));
+      → in_front l.fn.first_inside token (tied_words l.fn.first_inside (found_words l.fn.first))
+      ≡ in_front l.inside (token ++ some) (tied_words l.inside (found_words l.next));
   shorter : found_size l.next ≤ found_size l.fn.first;
   bare : IsFoundBare l.next;
 }

@@ -17,11 +17,15 @@ loop-next-preserved c =
     let out = c.loop-next.out.items in
     let words : tied_words false (found_words c.loop-next.next) ≡ puts.0 ∷ left =
     ap (λ next. tied_words false (found_words next)) c.in-Some.is
-    ∙ words_left found.word.now guarded.0.now (unbraced guarded.1.now) (words_in found.rest.now) c.is_in_command-inside.result (puts.0 ∷ left)
+    ∙ words_left found.word.now guarded.0.now (unbraced guarded.1.now) (words_in found.rest.now)
+    c.is_in_command-inside.result (puts.0 ∷ left)
     c.is_in_command-inside.ensures c.guarded.ensures.text puts.2 in
     record {
-      text = λ more. puts.1 (left ++ more) ∙ ap (λ tokens. out ++ after_tokens pen.width pen.begun pen.column (tokens ++ more)) (sym words) ∙ kept.text more;
-      kept = grown_twice c.args.out.now.items out c.put_tied.new.out.items kept.kept c.in_ok-next.ensures.kept;
+      text = λ more. puts.1 (left ++ more)
+          ∙ ap (λ tokens. out ++ after_tokens pen.width pen.begun pen.column (tokens ++ more))
+          (sym words) ∙ kept.text more;
+      kept = grown_twice c.args.out.now.items out c.put_tied.new.out.items kept.kept
+          c.in_ok-next.ensures.kept;
       width = c.in_ok-next.ensures.width ∙ kept.width;
       bare = c.in_ok-next.ensures.bare;
     }

@@ -1,10 +1,12 @@
 use Rattle.std.proofs.Common.{◌≡◌, ◌++◌, ℕ, List, false}
-use Rattle.pgn_game.specs.Private.CommentWords.{found_words, found_size, tied_words, IsFoundBare, HasLeft}
+use Rattle.pgn_game.specs.Private.CommentWords.{found_words, found_size, tied_words, IsFoundBare}
+use Rattle.pgn_game.specs.Private.CommentWords.{HasLeft}
 use Rattle.pgn_game.proofs.exports.comment.put_later_whole.Given as goal
 
 abbrev pub invariant-loop-next : goal.invariant-loop-next
 invariant-loop-next l = record {
-  text : HasLeft l.fn.pen l.pen l.fn.out.items l.out.items (tied_words false (found_words l.fn.first)) (tied_words false (found_words l.next));
+  text : HasLeft l.fn.pen l.pen l.fn.out.items l.out.items
+      (tied_words false (found_words l.fn.first)) (tied_words false (found_words l.next));
   kept : (some : List ℕ) × (l.out.items ≡ l.fn.out.items ++ some);
   width : l.pen.width ≡ l.fn.pen.width;
   bare : IsFoundBare l.next;

@@ -13,12 +13,14 @@ returns-clause-text c =
     let puts = c.in_ok-next.ensures.text in
     let left = tied_words false (found_words c.in_ok-next.next) in
     let all : comment_tokens true c.args.text.now ≡ puts.0 ∷ left =
-    whole_comment c.args.text.now first.word.now (words_in first.rest.now) c.is_in_command-inside.result (puts.0 ∷ left)
+    whole_comment c.args.text.now first.word.now (words_in first.rest.now)
+    c.is_in_command-inside.result (puts.0 ∷ left)
     c.in-Some.ensures.words c.is_in_command-inside.ensures puts.2 in
     let before_it = c.args.out.now.items in
     let between = c.put_tied.new.out.items in
     let after = c.put_later_whole.new.out.items in
     on_ok_weaker c.put_later_whole.result
     (λ laid. subst (HasPut c.args.pen.now c.put_later_whole.new.pen before_it after) (sym all)
-    (put_both c.args.pen.now c.put_tied.new.pen c.put_later_whole.new.pen before_it between after (puts.0 ∷ []) left puts.1 laid))
+    (put_both c.args.pen.now c.put_tied.new.pen c.put_later_whole.new.pen before_it between after
+    (puts.0 ∷ []) left puts.1 laid))
     c.put_later_whole.ensures.text

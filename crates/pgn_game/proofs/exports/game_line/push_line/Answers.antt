@@ -19,13 +19,19 @@ pub returns-clause-text : goal.returns-clause-text
 returns-clause-text c =
     let game = c.args.game.now in
     let start = c.in_ok-start.start in
-    let is_start = subst (λ tags. IsStart (tag_in fen_tag tags) start) c.tags.ensures.tags c.in_ok-start.ensures in
+    let is_start =
+    subst (λ tags. IsStart (tag_in fen_tag tags) start) c.tags.ensures.tags
+    c.in_ok-start.ensures in
     let (head, begins, head_put) = c.in_ok-push_start.ensures.text in
     on_ok_weaker c.push_moves.result
     (λ moves.
-    let written = subst (λ (items : List Item). AreWritten c.args.notation start (main_words items 0) moves.0) c.elements.ensures.elements moves.1 in
+    let written =
+    subst (λ (items : List Item).
+    AreWritten c.args.notation start (main_words items 0) moves.0) c.elements.ensures.elements
+    moves.1 in
     let line = written_line c.args.notation start (main_words game.elements 0) moves.0 written in
-    let is : IsGameLine c.args.notation (tag_in fen_tag game.tags) game.elements (head ++ moves.0) = record {
+    let is : IsGameLine c.args.notation (tag_in fen_tag game.tags) game.elements (head ++ moves.0) =
+    record {
       start = start;
       is_start = is_start;
       positions = line.positions;
@@ -36,17 +42,32 @@ returns-clause-text c =
       moves = moves.0;
       are_moves = line.are_moves;
       spells = refl;
-    } in
-    (head ++ moves.0, is, moves.2 ∙ ap (λ bytes. bytes ++ moves.0) head_put ∙ append_assoc c.args.out.now.items head moves.0))
+    } in (
+      head ++ moves.0,
+      is,
+      moves.2 ∙ ap (λ bytes. bytes ++ moves.0) head_put
+          ∙ append_assoc c.args.out.now.items head moves.0,
+    ))
     c.push_moves.ensures.text
 
 pub returns-clause-fault : goal.returns-clause-fault
 returns-clause-fault c =
     let game = c.args.game.now in
     let start = c.in_ok-start.start in
-    let is_start = subst (λ tags. IsStart (tag_in fen_tag tags) start) c.tags.ensures.tags c.in_ok-start.ensures in
+    let is_start =
+    subst (λ tags. IsStart (tag_in fen_tag tags) start) c.tags.ensures.tags
+    c.in_ok-start.ensures in
     IfErr-weaker c.push_moves.result
-    (λ fault. IfSome (fault_of fault) (IsMoveFault start 0 (main_words (map item_of c.elements.result.now) 0)))
+    (λ fault.
+    IfSome (fault_of fault)
+    (IsMoveFault start 0 (main_words (map item_of c.elements.result.now) 0)))
     (λ fault. IfSome (fault_of fault) (IsFault Main (tag_in fen_tag game.tags) game.elements))
-    (λ fault reports. IfSome_then (fault_of fault) reports (λ f has. inr (start, is_start, subst (λ (items : List Item). IsMoveFault start 0 (main_words items 0) f) c.elements.ensures.elements has)))
+    (λ fault reports.
+    IfSome_then (fault_of fault) reports (λ f has.
+    inr (
+      start,
+      is_start,
+      subst (λ (items : List Item).
+          IsMoveFault start 0 (main_words items 0) f) c.elements.ensures.elements has,
+    )))
     c.push_moves.ensures.fault

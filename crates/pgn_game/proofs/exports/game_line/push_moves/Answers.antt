@@ -12,7 +12,8 @@ pub loop-element-init : goal.loop-element-init
 loop-element-init c = record {
   plies = omega arith;
   depth = omega arith;
-  put = put_begins c.args.notation c.args.start c.new-walk.result c.args.out.now.items (map item_of c.args.elements.now)
+  put = put_begins c.args.notation c.args.start c.new-walk.result c.args.out.now.items
+      (map item_of c.args.elements.now)
       c.new-walk.ensures.0 c.new-walk.ensures.1 c.new-walk.ensures.2;
 }
 
@@ -21,15 +22,24 @@ returns-in_err-push_element-clause-fault c =
     let l = c.loop-element in
     let i = l.element-index in
     let p = err_from_is_err_and c.from_residual.result c.from_residual.ensures.1 in
-    let put = subst (HasPutSome c.args.notation c.args.start (main_words (map item_of c.args.elements.now) 0) l.walk c.args.out.now.items l.out.items)
+    let put =
+    subst (HasPutSome c.args.notation c.args.start
+    (main_words (map item_of c.args.elements.now) 0) l.walk c.args.out.now.items l.out.items)
     (items_step c.args.elements.now i _ (omega arith)) l.invariant.put in
-    rw (p.1, p.2) (IfSome_then _ (c.in_err-push_element.ensures.stuck (map item_of (drop (i + 1) c.args.elements.now))) put.faults)
+    rw (
+      p.1,
+      p.2,
+    ) (IfSome_then _
+    (c.in_err-push_element.ensures.stuck (map item_of (drop (i + 1) c.args.elements.now)))
+    put.faults)
 
 pub loop-element-preserved : goal.loop-element-preserved
 loop-element-preserved c =
     let l = c.loop-element in
     let i = l.element-index in
-    let put = subst (HasPutSome c.args.notation c.args.start (main_words (map item_of c.args.elements.now) 0) l.walk c.args.out.now.items l.out.items)
+    let put =
+    subst (HasPutSome c.args.notation c.args.start
+    (main_words (map item_of c.args.elements.now) 0) l.walk c.args.out.now.items l.out.items)
     (items_step c.args.elements.now i _ (omega arith)) l.invariant.put in
     record {
       plies = omega arith;
@@ -40,6 +50,8 @@ loop-element-preserved c =
 pub returns-clause-text : goal.returns-clause-text
 returns-clause-text c =
     let l = c.loop-element in
-    let put = subst (HasPutSome c.args.notation c.args.start (main_words (map item_of c.args.elements.now) 0) l.walk c.args.out.now.items l.out.items)
+    let put =
+    subst (HasPutSome c.args.notation c.args.start
+    (main_words (map item_of c.args.elements.now) 0) l.walk c.args.out.now.items l.out.items)
     (items_end c.args.elements.now l.element-index (omega arith)) l.invariant.put in
     put_ends put

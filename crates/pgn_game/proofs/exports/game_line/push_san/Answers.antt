@@ -14,7 +14,9 @@ returns-clause-text c =
       m = c.in_ok-play_named_san.field-0;
       own = c.as_bytes.result.now;
       named = named;
-      spells = subst (λ t. IsSan c.args.walk.now.position c.in_ok-play_named_san.field-0 t) (sym (c.as_bytes.ensures.value ∙ c.deref.ensures.0)) spells;
+      spells =
+          subst (λ t. IsSan c.args.walk.now.position c.in_ok-play_named_san.field-0 t)
+          (sym (c.as_bytes.ensures.value ∙ c.deref.ensures.0)) spells;
       position = position;
       plies = refl;
       depth = refl;

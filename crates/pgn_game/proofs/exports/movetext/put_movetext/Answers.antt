@@ -17,10 +17,14 @@ returns-in_err-walked-clause-fault c =
     let stack = c.new-stack.result in
     let p = err_from_is_err_and c.from_residual.result c.from_residual.ensures.1 in
     rw (p.1, p.2) (IfSome_then _ c.in_err-walked.ensures.walked
-    (λ fault stops. written_fault variations c.args.start.now game.elements fault c.elements.ensures.paired
-    (subst (λ level. Stops (shown_items variations 0 game.elements) level [] fault) (c.new-stack.ensures.line ∙ c.first.ensures)
-    (subst (λ outer. Stops (shown_items variations 0 game.elements) stack.line outer fault) c.new-stack.ensures.around
-    (subst (λ items. StopsAt stack (shown_items variations 0 items) fault) c.elements.ensures.elements stops)))))
+    (λ fault stops.
+    written_fault variations c.args.start.now game.elements fault c.elements.ensures.paired
+    (subst (λ level. Stops (shown_items variations 0 game.elements) level [] fault)
+    (c.new-stack.ensures.line ∙ c.first.ensures)
+    (subst (λ outer. Stops (shown_items variations 0 game.elements) stack.line outer fault)
+    c.new-stack.ensures.around
+    (subst (λ items. StopsAt stack (shown_items variations 0 items) fault)
+    c.elements.ensures.elements stops)))))
 
 pub returns-in_err-finish-clause-kept : goal.returns-in_err-finish-clause-kept
 returns-in_err-finish-clause-kept c =
@@ -28,7 +32,8 @@ returns-in_err-finish-clause-kept c =
     let walked = c.walk-walked.ensures.kept in
     grown_twice old c.put.new.out.items c.finish.new.out.items
     (grown_twice old c.walk-walked.new.visitor.out.items c.put.new.out.items
-    (walked.0, walked.1 ∙ ap (λ (v : Vec ℕ Global). v.items ++ walked.0) c.replace.ensures.value) c.in_ok-put.ensures.kept)
+    (walked.0, walked.1 ∙ ap (λ (v : Vec ℕ Global). v.items ++ walked.0) c.replace.ensures.value)
+    c.in_ok-put.ensures.kept)
     c.in_err-finish.ensures.kept
 
 pub returns-clause-kept : goal.returns-clause-kept
@@ -37,7 +42,8 @@ returns-clause-kept c =
     let walked = c.walk-walked.ensures.kept in
     grown_twice old c.put.new.out.items c.finish.new.out.items
     (grown_twice old c.walk-walked.new.visitor.out.items c.put.new.out.items
-    (walked.0, walked.1 ∙ ap (λ (v : Vec ℕ Global). v.items ++ walked.0) c.replace.ensures.value) c.in_ok-put.ensures.kept)
+    (walked.0, walked.1 ∙ ap (λ (v : Vec ℕ Global). v.items ++ walked.0) c.replace.ensures.value)
+    c.in_ok-put.ensures.kept)
     c.in_ok-finish.ensures.kept
 
 pub returns-clause-text : goal.returns-clause-text
@@ -46,21 +52,31 @@ returns-clause-text c =
     let game = c.args.game.now in
     let stack = c.new-stack.result in
     let pen = c.new-2.result in
-    let first : MovetextWriter = record { out = c.replace.result; pen = pen; apart = true; style = style } in
+    let first : MovetextWriter =
+    record { out = c.replace.result; pen = pen; apart = true; style = style } in
     let last = c.walk-walked.new.visitor in
     let walked = c.in_ok-walked.ensures.walked in
-    let written = written_tokens c.args.start.now game.elements stack walked.0 first last c.elements.ensures.paired
+    let written =
+    written_tokens c.args.start.now game.elements stack walked.0 first last
+    c.elements.ensures.paired
     c.new-stack.ensures.around (c.new-stack.ensures.line ∙ c.first.ensures) refl
-    (subst (λ items. WalksOn stack (shown_items style.variations 0 items) walked.0) c.elements.ensures.elements walked.1) walked.2 in
+    (subst (λ items. WalksOn stack (shown_items style.variations 0 items) walked.0)
+    c.elements.ensures.elements walked.1) walked.2 in
     let tokens = written.own ++ game.result ∷ [] in (
       tokens,
       after_tokens style.width false 0 tokens,
       (written.line, written.own, written.spells, written.tokens, refl),
       laid_first style.width tokens,
-      pen_writes pen c.put.new.self style.width c.args.out.now.items c.put.new.out.items c.finish.new.out.items tokens
+      pen_writes pen c.put.new.self style.width c.args.out.now.items c.put.new.out.items
+          c.finish.new.out.items tokens
           c.new-2.ensures.width c.new-2.ensures.begun c.new-2.ensures.column
-          (put_both pen last.pen c.put.new.self c.args.out.now.items last.out.items c.put.new.out.items written.own (game.result ∷ [])
-          (subst (λ (v : Vec ℕ Global). HasPut pen last.pen v.items last.out.items written.own) c.replace.ensures.value written.put)
-          (subst (λ token. HasPut last.pen c.put.new.self last.out.items c.put.new.out.items (token ∷ [])) c.result.ensures c.in_ok-put.ensures.text))
+          (put_both pen last.pen c.put.new.self c.args.out.now.items last.out.items
+          c.put.new.out.items written.own (game.result ∷ [])
+          (subst (λ (v : Vec ℕ Global).
+          HasPut pen last.pen v.items last.out.items written.own) c.replace.ensures.value
+          written.put)
+          (subst (λ token.
+          HasPut last.pen c.put.new.self last.out.items c.put.new.out.items (token ∷ []))
+          c.result.ensures c.in_ok-put.ensures.text))
           c.in_ok-finish.ensures.text,
     )

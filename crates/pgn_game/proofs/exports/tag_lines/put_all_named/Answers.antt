@@ -9,8 +9,10 @@ loop-name-preserved c =
     let so_far = c.loop-name.invariant in
     let put = c.in_ok-put_named.ensures.line in (
       so_far.0 ++ put.0,
-      subst (λ names. AreLinesOf c.args.game.now.tags c.args.game.now.result names (so_far.0 ++ put.0))
+      subst (λ names.
+          AreLinesOf c.args.game.now.tags c.args.game.now.result names (so_far.0 ++ put.0))
           (sym (names_more c.args.names.now c.loop-name.name-index _ (omega arith)))
-          (lines_push c.args.game.now.tags c.args.game.now.result _ so_far.0 _ put.0 so_far.1 put.1),
+          (lines_push c.args.game.now.tags c.args.game.now.result _ so_far.0 _ put.0 so_far.1
+          put.1),
       grind (arith, common_steps),
     )

@@ -8,5 +8,8 @@ use Rattle.pgn_game.proofs.exports.tag_lines.put_others.Given as goal
 
 abbrev pub invariant-loop-name : goal.invariant-loop-name
 invariant-loop-name l =
-    (lines : List ℕ) × AreLinesOf l.game.tags l.game.result (filter (is_beside l.style l.has_fen) (tag_names (map tag_of (map deref_pair l.yielded)))) lines
+    (lines : List ℕ)
+    × AreLinesOf l.game.tags l.game.result
+    (filter (is_beside l.style l.has_fen) (tag_names (map tag_of (map deref_pair l.yielded))))
+    lines
     × (l.out.items ≡ l.initial.out.items ++ lines)

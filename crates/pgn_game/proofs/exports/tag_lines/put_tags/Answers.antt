@@ -13,6 +13,8 @@ returns-clause-lines c =
     let more = c.in_ok-put_others.ensures.lines in
     let tags = c.args.game.now.tags in (
       first.0 ++ more.0,
-      lines_join tags c.args.game.now.result roster (filter (is_beside c.args.style.now (is_some (tag_in fen_tag tags))) (tag_names tags)) first.0 more.0 first.1 more.1,
+      lines_join tags c.args.game.now.result roster
+          (filter (is_beside c.args.style.now (is_some (tag_in fen_tag tags))) (tag_names tags))
+          first.0 more.0 first.1 more.1,
       grind (arith, common_steps),
     )

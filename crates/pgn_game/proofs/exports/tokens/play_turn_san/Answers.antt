@@ -8,5 +8,8 @@ use Rattle.pgn_game.proofs.exports.tokens.play_turn_san.Goals as goal
 pub returns-in_err-m : goal.returns-in_err-m
 returns-in_err-m c =
     let p = err_from_is_err_and c.from_residual.result c.from_residual.ensures.1 in
-    rw (p.1, p.2) (λ plies is. subst (λ b. IfSome (fault_of c.in_err-m.field-0.0) (RefusesTurn b c.args.position.now plies c.args.word.now))
+    rw (p.1, p.2) (λ plies is.
+    subst (λ b.
+    IfSome (fault_of c.in_err-m.field-0.0)
+    (RefusesTurn b c.args.position.now plies c.args.word.now))
     (sym c.if-is_null_move.false ∙ c.is_null_move.ensures) (c.in_err-m.ensures plies is))

@@ -7,7 +7,8 @@ pub returns-clause-record : goal.returns-clause-record
 returns-clause-record c =
     let origin = c.args.origin.now in
     let (packed, is_packed, fits, put) = c.in_ok-put_record.ensures.record in
-    let own : IsRecordOf (name_of origin) origin.number origin.offset c.args.game.now (record_bytes packed) = record {
+    let own : IsRecordOf (name_of origin) origin.number origin.offset c.args.game.now
+    (record_bytes packed) = record {
       replay = c.in_ok-replayed.replayed;
       is_replay = c.in_ok-replayed.ensures;
       packed = packed;

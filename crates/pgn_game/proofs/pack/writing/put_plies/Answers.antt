@@ -7,8 +7,11 @@ loop-plies-init c = put_begins c.args.replayed.now c.args.out.now.items c.requir
 
 pub loop-plies-preserved : goal.loop-plies-preserved
 loop-plies-preserved c =
-    put_more c.args.replayed.now c.loop-plies.plies c.args.out.now.items c.loop-plies.out.items c.put_ply.new.out.items c.requires c.loop-plies.invariant
+    put_more c.args.replayed.now c.loop-plies.plies c.args.out.now.items c.loop-plies.out.items
+    c.put_ply.new.out.items c.requires c.loop-plies.invariant
     c.in_ok-put_ply.ensures.code
 
 pub returns-clause-codes : goal.returns-clause-codes
-returns-clause-codes c = put_ends c.args.replayed.now c.loop-plies.plies c.args.out.now.items c.loop-plies.out.items (omega arith) c.loop-plies.invariant
+returns-clause-codes c =
+    put_ends c.args.replayed.now c.loop-plies.plies c.args.out.now.items c.loop-plies.out.items
+    (omega arith) c.loop-plies.invariant

@@ -16,9 +16,12 @@ returns-in_err-walk c =
     let start = c.args.start.now in
     let stack = c.new-stack.result in
     let line = c.new-stack.ensures.line ∙ c.first.ensures in
-    let p = err_from_is_err_and c.from_residual-in_err-walk.result c.from_residual-in_err-walk.ensures.1 in
-    rw (p.1, p.2) (IfSome_then _ c.in_err-walk.ensures.walked (λ f stops. stops_faulty start items f c.requires
-    (subst (λ l. Stops items l [] f) line (subst (λ outer. Stops items stack.line outer f) c.new-stack.ensures.around stops))))
+    let p = err_from_is_err_and c.from_residual-in_err-walk.result
+    c.from_residual-in_err-walk.ensures.1 in
+    rw (p.1, p.2) (IfSome_then _ c.in_err-walk.ensures.walked (λ f stops.
+    stops_faulty start items f c.requires
+    (subst (λ l. Stops items l [] f) line
+    (subst (λ outer. Stops items stack.line outer f) c.new-stack.ensures.around stops))))
 
 pub replayed-requires : goal.replayed-requires
 replayed-requires c =
@@ -26,9 +29,12 @@ replayed-requires c =
     let start = c.args.start.now in
     let began = c.in_ok-keeper.ensures in
     let walked = c.in_ok-walk.ensures.walked in
-    let all = kept_all start items c.new-stack.result walked.0 c.in_ok-keeper.keeper c.walk.new.visitor c.new-stack.ensures.around (c.new-stack.ensures.line ∙ c.first.ensures)
+    let all =
+    kept_all start items c.new-stack.result walked.0 c.in_ok-keeper.keeper c.walk.new.visitor
+    c.new-stack.ensures.around (c.new-stack.ensures.line ∙ c.first.ensures)
     began.positions began.played began.turns walked.1 walked.2 in
-    line_length start (main_words items 0) c.walk.new.visitor.positions.items c.walk.new.visitor.played.items all.is_line
+    line_length start (main_words items 0) c.walk.new.visitor.positions.items
+    c.walk.new.visitor.played.items all.is_line
 
 pub returns : goal.returns
 returns c =
@@ -37,10 +43,15 @@ returns c =
     let keeper = c.walk.new.visitor in
     let began = c.in_ok-keeper.ensures in
     let walked = c.in_ok-walk.ensures.walked in
-    let all = kept_all start items c.new-stack.result walked.0 c.in_ok-keeper.keeper keeper c.new-stack.ensures.around (c.new-stack.ensures.line ∙ c.first.ensures)
+    let all =
+    kept_all start items c.new-stack.result walked.0 c.in_ok-keeper.keeper keeper
+    c.new-stack.ensures.around (c.new-stack.ensures.line ∙ c.first.ensures)
     began.positions began.played began.turns walked.1 walked.2 in
     let is = c.replayed.ensures in (
-      subst (λ ps. IsMainLine start (main_words items 0) ps c.replayed.result.played) (sym is.positions)
-          (subst (λ ms. IsMainLine start (main_words items 0) keeper.positions.items ms) (sym is.played) all.is_line),
-      subst (λ ts. ArePlayed start items ts) (sym is.turns) (runs_played start items keeper.turns.items c.requires all.runs),
+      subst (λ ps. IsMainLine start (main_words items 0) ps c.replayed.result.played)
+          (sym is.positions)
+          (subst (λ ms. IsMainLine start (main_words items 0) keeper.positions.items ms)
+          (sym is.played) all.is_line),
+      subst (λ ts. ArePlayed start items ts) (sym is.turns)
+          (runs_played start items keeper.turns.items c.requires all.runs),
     )

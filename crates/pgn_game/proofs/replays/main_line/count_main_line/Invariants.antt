@@ -9,5 +9,6 @@ invariant-loop-element l =
     record {
       plies : l.walk.plies ≤ l.element-index;
       depth : l.walk.depth ≤ l.element-index;
-      walked : HasGone l.fn.start (main_words (map item_of l.elements) 0) l.walk (map item_of (drop l.element-index l.elements));
+      walked : HasGone l.fn.start (main_words (map item_of l.elements) 0) l.walk
+          (map item_of (drop l.element-index l.elements));
     }

@@ -7,5 +7,6 @@ abbrev pub invariant-loop-element : goal.invariant-loop-element
 invariant-loop-element l =
     record {
       room : l.depth + (length l.elements - l.element-index) < 2 ^ 64;
-      words : main_words (map item_of (drop l.element-index l.elements)) l.depth ≡ main_words (map item_of l.elements) l.outer;
+      words : main_words (map item_of (drop l.element-index l.elements)) l.depth
+          ≡ main_words (map item_of l.elements) l.outer;
     }

@@ -18,7 +18,9 @@ loop-element-init c =
       keeps = record {
         before = [];
         positions = c.in_ok-line.ensures.positions ∙ ap (λ s. s ∷ []) (sym begun.0);
-        walked = subst (λ ms. HasWalked c.args.start (main_words items 0) line.walk [] ms items) (sym c.in_ok-line.ensures.played)
+        walked =
+            subst (λ ms. HasWalked c.args.start (main_words items 0) line.walk [] ms items)
+            (sym c.in_ok-line.ensures.played)
             (walk_begins c.args.start line.walk items begun.0 begun.1 begun.2);
         first = [];
         parted = ap (main_words items) (sym begun.2);
@@ -30,8 +32,11 @@ pub returns-in_err-step : goal.returns-in_err-step
 returns-in_err-step c =
     let words = main_words (map item_of c.args.elements.now) 0 in
     let i = c.loop-element.element-index in
-    let p = err_from_is_err_and c.from_residual-in_err-step.result c.from_residual-in_err-step.ensures.1 in
-    let keeps = subst (KeepsLine c.args.start words c.loop-element.line) (items_step c.args.elements.now i _ (omega arith)) c.loop-element.invariant.keeps in
+    let p = err_from_is_err_and c.from_residual-in_err-step.result
+    c.from_residual-in_err-step.ensures.1 in
+    let keeps =
+    subst (KeepsLine c.args.start words c.loop-element.line)
+    (items_step c.args.elements.now i _ (omega arith)) c.loop-element.invariant.keeps in
     rw (p.1, p.2) (stuck_at _ keeps.walked c.in_err-step.ensures.stuck)
 
 pub loop-element-preserved : goal.loop-element-preserved
@@ -41,18 +46,28 @@ loop-element-preserved c =
     record {
       plies = omega arith;
       depth = omega arith;
-      keeps = c.in_ok-step.ensures.kept c.args.start words (map item_of (drop (i + 1) c.args.elements.now))
-          (subst (KeepsLine c.args.start words c.loop-element.line) (items_step c.args.elements.now i _ (omega arith)) c.loop-element.invariant.keeps);
+      keeps = c.in_ok-step.ensures.kept c.args.start words
+          (map item_of (drop (i + 1) c.args.elements.now))
+          (subst (KeepsLine c.args.start words c.loop-element.line)
+          (items_step c.args.elements.now i _ (omega arith)) c.loop-element.invariant.keeps);
     }
 
 pub replayed-requires : goal.replayed-requires
 replayed-requires c =
     let keeps = c.loop-element.invariant.keeps in
-    line_length c.args.start keeps.first c.loop-element.line.positions.items c.loop-element.line.played.items keeps.opening
+    line_length c.args.start keeps.first c.loop-element.line.positions.items
+    c.loop-element.line.played.items keeps.opening
 
 pub returns : goal.returns
 returns c =
     let words = main_words (map item_of c.args.elements.now) 0 in
-    let keeps = subst (KeepsLine c.args.start words c.loop-element.line) (items_end c.args.elements.now c.loop-element.element-index (omega arith)) c.loop-element.invariant.keeps in
-    let line = subst (λ ws. IsMainLine c.args.start ws c.loop-element.line.positions.items c.loop-element.line.played.items) (sym (append-nil keeps.first) ∙ sym keeps.parted) keeps.opening in
+    let keeps =
+    subst (KeepsLine c.args.start words c.loop-element.line)
+    (items_end c.args.elements.now c.loop-element.element-index (omega arith))
+    c.loop-element.invariant.keeps in
+    let line =
+    subst (λ ws.
+    IsMainLine c.args.start ws c.loop-element.line.positions.items
+    c.loop-element.line.played.items) (sym (append-nil keeps.first)
+    ∙ sym keeps.parted) keeps.opening in
     (rw (c.replayed.ensures.positions, c.replayed.ensures.played) line, c.replayed.ensures.turns)

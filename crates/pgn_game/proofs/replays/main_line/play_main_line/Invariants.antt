@@ -9,5 +9,6 @@ invariant-loop-element l =
     record {
       plies : l.line.walk.plies ≤ l.element-index;
       depth : l.line.walk.depth ≤ l.element-index;
-      keeps : KeepsLine l.fn.start (main_words (map item_of l.elements) 0) l.line (map item_of (drop l.element-index l.elements));
+      keeps : KeepsLine l.fn.start (main_words (map item_of l.elements) 0) l.line
+          (map item_of (drop l.element-index l.elements));
     }

@@ -19,7 +19,9 @@ loop-element-init c =
       keeps = record {
         before = [];
         positions = c.in_ok-opening.ensures.positions ∙ ap (λ s. s ∷ []) (sym begun.0);
-        walked = subst (λ ms. HasWalked c.args.start (main_words items 0) line.walk [] ms items) (sym c.in_ok-opening.ensures.played)
+        walked =
+            subst (λ ms. HasWalked c.args.start (main_words items 0) line.walk [] ms items)
+            (sym c.in_ok-opening.ensures.played)
             (walk_begins c.args.start line.walk items begun.0 begun.1 begun.2);
         first = [];
         parted = ap (main_words items) (sym begun.2);
@@ -31,8 +33,11 @@ pub returns-in_err-step : goal.returns-in_err-step
 returns-in_err-step c =
     let words = main_words (map item_of c.args.elements.now) 0 in
     let i = c.loop-element.element-index in
-    let p = err_from_is_err_and c.from_residual-in_err-step.result c.from_residual-in_err-step.ensures.1 in
-    let keeps = subst (KeepsLine c.args.start words c.loop-element.opening) (items_step c.args.elements.now i _ (omega arith)) c.loop-element.invariant.keeps in
+    let p = err_from_is_err_and c.from_residual-in_err-step.result
+    c.from_residual-in_err-step.ensures.1 in
+    let keeps =
+    subst (KeepsLine c.args.start words c.loop-element.opening)
+    (items_step c.args.elements.now i _ (omega arith)) c.loop-element.invariant.keeps in
     rw (p.1, p.2) (stuck_at _ keeps.walked c.in_err-step.ensures.stuck)
 
 pub loop-element-preserved : goal.loop-element-preserved
@@ -44,29 +49,35 @@ loop-element-preserved c =
       few = omega (arith, count);
       plies = omega arith;
       depth = omega arith;
-      keeps = c.in_ok-step.ensures.kept c.args.start words (map item_of (drop (i + 1) c.args.elements.now))
-          (subst (KeepsLine c.args.start words c.loop-element.opening) (items_step c.args.elements.now i _ (omega arith)) c.loop-element.invariant.keeps);
+      keeps = c.in_ok-step.ensures.kept c.args.start words
+          (map item_of (drop (i + 1) c.args.elements.now))
+          (subst (KeepsLine c.args.start words c.loop-element.opening)
+          (items_step c.args.elements.now i _ (omega arith)) c.loop-element.invariant.keeps);
     }
 
 pub replayed-requires : goal.replayed-requires
 replayed-requires c =
     let keeps = c.loop-element.invariant.keeps in
-    line_length c.args.start keeps.first c.loop-element.opening.positions.items c.loop-element.opening.played.items keeps.opening
+    line_length c.args.start keeps.first c.loop-element.opening.positions.items
+    c.loop-element.opening.played.items keeps.opening
 
 pub replayed-requires-2 : goal.replayed-requires-2
 replayed-requires-2 c =
     let keeps = c.loop-element.invariant.keeps in
-    line_length c.args.start keeps.first c.loop-element.opening.positions.items c.loop-element.opening.played.items keeps.opening
+    line_length c.args.start keeps.first c.loop-element.opening.positions.items
+    c.loop-element.opening.played.items keeps.opening
 
 pub returns-then-len-most : goal.returns-then-len-most
 returns-then-len-most c =
     let keeps = c.loop-element.invariant.keeps in
     record {
       first = keeps.first;
-      rest = main_words (map item_of (drop c.loop-element.element-index c.args.elements.now)) c.loop-element.opening.walk.depth;
+      rest = main_words (map item_of (drop c.loop-element.element-index c.args.elements.now))
+          c.loop-element.opening.walk.depth;
       parted = keeps.parted;
       line = rw (c.replayed.ensures.positions, c.replayed.ensures.played) keeps.opening;
-      few = rw (c.replayed.ensures.played) (omega (arith, keeps.walked.count, c.loop-element.invariant.few));
+      few = rw (c.replayed.ensures.played)
+          (omega (arith, keeps.walked.count, c.loop-element.invariant.few));
       far = inr (rw (c.replayed.ensures.played) (omega arith));
       turns = c.replayed.ensures.turns;
     }
@@ -74,13 +85,21 @@ returns-then-len-most c =
 pub returns : goal.returns
 returns c =
     let words = main_words (map item_of c.args.elements.now) 0 in
-    let keeps = subst (KeepsLine c.args.start words c.loop-element.opening) (items_end c.args.elements.now c.loop-element.element-index (omega arith)) c.loop-element.invariant.keeps in
+    let keeps =
+    subst (KeepsLine c.args.start words c.loop-element.opening)
+    (items_end c.args.elements.now c.loop-element.element-index (omega arith))
+    c.loop-element.invariant.keeps in
     record {
       first = keeps.first;
       rest = [];
       parted = keeps.parted;
       line = rw (c.replayed-2.ensures.positions, c.replayed-2.ensures.played) keeps.opening;
-      few = rw (c.replayed-2.ensures.played) (omega (arith, c.loop-element.invariant.keeps.walked.count, c.loop-element.invariant.few));
+      few = rw (c.replayed-2.ensures.played)
+          (omega (
+            arith,
+            c.loop-element.invariant.keeps.walked.count,
+            c.loop-element.invariant.few,
+          ));
       far = inl refl;
       turns = c.replayed-2.ensures.turns;
     }

@@ -10,5 +10,6 @@ invariant-loop-element l =
       few : l.opening.walk.plies ≤ l.most;
       plies : l.opening.walk.plies ≤ l.element-index;
       depth : l.opening.walk.depth ≤ l.element-index;
-      keeps : KeepsLine l.fn.start (main_words (map item_of l.elements) 0) l.opening (map item_of (drop l.element-index l.elements));
+      keeps : KeepsLine l.fn.start (main_words (map item_of l.elements) 0) l.opening
+          (map item_of (drop l.element-index l.elements));
     }

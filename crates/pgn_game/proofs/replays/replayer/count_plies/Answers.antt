@@ -11,17 +11,26 @@ use Rattle.pgn_game.proofs.replays.replayer.count_plies.Goals as goal
 pub returns : goal.returns
 returns c =
     let start = c.in_ok-start.start in
-    let is_start = subst (λ tags. IsStart (tag_in fen_tag tags) start) c.tags.ensures.tags c.in_ok-start.ensures in
+    let is_start =
+    subst (λ tags. IsStart (tag_in fen_tag tags) start) c.tags.ensures.tags
+    c.in_ok-start.ensures in
     MatchResult-weaker c.count_main_line.result c.count_main_line.ensures
     (λ plies (positions, played, line, count). (
       record { positions = positions; played = played; turns = [] },
       record {
         start = start;
         is_start = is_start;
-        line = subst (λ items. IsMainLine start (main_words items 0) positions played) c.elements.ensures.elements line;
+        line = subst (λ items. IsMainLine start (main_words items 0) positions played)
+            c.elements.ensures.elements line;
         turns = refl;
       },
       count,
     ))
     (λ fault reports. IfSome_then (fault_of fault) reports
-    (λ f met. inr (start, is_start, subst (λ items. IsMoveFault start 0 (main_words items 0) f) c.elements.ensures.elements met)))
+    (λ f met.
+    inr (
+      start,
+      is_start,
+      subst (λ items. IsMoveFault start 0 (main_words items 0) f) c.elements.ensures.elements
+          met,
+    )))

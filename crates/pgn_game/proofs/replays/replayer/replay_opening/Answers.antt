@@ -12,12 +12,21 @@ use Rattle.pgn_game.proofs.replays.replayer.replay_opening.Goals as goal
 pub returns : goal.returns
 returns c =
     let start = c.in_ok-start.start in
-    let is_start = subst (λ tags. IsStart (tag_in fen_tag tags) start) c.tags.ensures.tags c.in_ok-start.ensures in
+    let is_start =
+    subst (λ tags. IsStart (tag_in fen_tag tags) start) c.tags.ensures.tags
+    c.in_ok-start.ensures in
     MatchResult-weaker c.play_opening.result c.play_opening.ensures
     (λ opening line. record {
       start = start;
       is_start = is_start;
-      line = subst (λ items. IsBeginning start (main_words items 0) c.args.most opening) c.elements.ensures.elements line;
+      line = subst (λ items. IsBeginning start (main_words items 0) c.args.most opening)
+          c.elements.ensures.elements line;
     })
     (λ fault reports. IfSome_then (fault_of fault) reports
-    (λ f met. inr (start, is_start, subst (λ items. IsMoveFault start 0 (main_words items 0) f) c.elements.ensures.elements met)))
+    (λ f met.
+    inr (
+      start,
+      is_start,
+      subst (λ items. IsMoveFault start 0 (main_words items 0) f) c.elements.ensures.elements
+          met,
+    )))

@@ -17,8 +17,15 @@ returns c =
     let line = c.new-stack.ensures.line ∙ c.first.ensures in
     MatchResult-weaker c.walk.result c.walk.ensures.walked
     (λ _ walked.
-    let walks = subst (λ l. Walks items l [] walked.0) line (subst (λ outer. Walks items stack.line outer walked.0) c.new-stack.ensures.around walked.1) in
-    (turns_of walked.0, runs_played start items (turns_of walked.0) c.requires (walks_run items (first_level start) [] walked.0 walks)))
+    let walks =
+    subst (λ l. Walks items l [] walked.0) line
+    (subst (λ outer. Walks items stack.line outer walked.0) c.new-stack.ensures.around walked.1)
+    in (
+      turns_of walked.0,
+      runs_played start items (turns_of walked.0) c.requires
+          (walks_run items (first_level start) [] walked.0 walks),
+    ))
     (λ fault reports. IfSome_then (fault_of fault) reports
     (λ f stops. stops_faulty start items f c.requires
-    (subst (λ l. Stops items l [] f) line (subst (λ outer. Stops items stack.line outer f) c.new-stack.ensures.around stops))))
+    (subst (λ l. Stops items l [] f) line
+    (subst (λ outer. Stops items stack.line outer f) c.new-stack.ensures.around stops))))

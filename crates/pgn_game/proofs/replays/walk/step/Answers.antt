@@ -20,4 +20,6 @@ returns-in_ok-beside-in_default g c =
 
 pub returns-in-Move-clause-within : goal.returns-in-Move-clause-within
 returns-in-Move-clause-within g c =
-    on_ok_weaker c.turn.result (λ turned n all. within_turned n c.args.stack.now c.turn.new.stack turned.0 turned.2 turned.3 all) c.turn.ensures.turned
+    on_ok_weaker c.turn.result (λ turned n all.
+    within_turned n c.args.stack.now c.turn.new.stack turned.0 turned.2 turned.3 all)
+    c.turn.ensures.turned

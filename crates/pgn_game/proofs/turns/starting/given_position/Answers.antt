@@ -8,7 +8,8 @@ returns c = (
     c.in_ok-text.text.items,
     c.in-Err.field-0,
     c.in_ok-text.ensures,
-    subst (λ text. IsRefused text c.in-Err.field-0) c.as_slice.ensures.value c.in-Err.ensures.answer,
+    subst (λ text. IsRefused text c.in-Err.field-0) c.as_slice.ensures.value
+        c.in-Err.ensures.answer,
   ),
   refl,
 )

@@ -7,13 +7,20 @@ use Rattle.pgn_game.proofs.Tags.{tag_found}
 use Rattle.pgn_game.proofs.turns.starting.starting_position.Goals as goal
 
 pub given_position-requires : goal.given_position-requires
-given_position-requires c = c.requires fen_tag c.in-Some.contents.now.now (tag_found c.args.tags.now fen_tag (Some c.in-Some.contents.now) c.in-Some.ensures.value)
+given_position-requires c =
+    c.requires fen_tag c.in-Some.contents.now.now
+    (tag_found c.args.tags.now fen_tag (Some c.in-Some.contents.now) c.in-Some.ensures.value)
 
 pub returns-in-Some : goal.returns-in-Some
 returns-in-Some c =
-    subst (λ fen. MatchResult c.given_position.result (IsStart fen) (λ fault. IfSome (fault_of fault) (λ reports. IsBadStart fen × (reports ≡ BadStart))))
-    (sym (tag_found c.args.tags.now fen_tag (Some c.in-Some.contents.now) c.in-Some.ensures.value)) c.given_position.ensures
+    subst (λ fen.
+    MatchResult c.given_position.result (IsStart fen) (λ fault.
+    IfSome (fault_of fault) (λ reports. IsBadStart fen × (reports ≡ BadStart))))
+    (sym (tag_found c.args.tags.now fen_tag (Some c.in-Some.contents.now) c.in-Some.ensures.value))
+    c.given_position.ensures
 
 pub returns-in-None : goal.returns-in-None
 returns-in-None c =
-    subst (λ fen. IsStart fen c.start.result) (sym (tag_found c.args.tags.now fen_tag None c.in-None.ensures.value)) c.start.ensures.position
+    subst (λ fen. IsStart fen c.start.result)
+    (sym (tag_found c.args.tags.now fen_tag None c.in-None.ensures.value))
+    c.start.ensures.position

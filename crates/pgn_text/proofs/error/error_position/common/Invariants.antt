@@ -6,7 +6,8 @@ abbrev pub invariant-loop-count : goal.invariant-loop-count
 invariant-loop-count l = record {
   within : l.count ≤ length l.text;
   in_word : l.count ≤ length l.word;
-  so_far : front_length no_byte l.word l.text ≡ l.count + front_length no_byte (drop l.count l.word) (drop l.count l.text);
+  so_far : front_length no_byte l.word l.text
+      ≡ l.count + front_length no_byte (drop l.count l.word) (drop l.count l.text);
 }
 
 abbrev pub decreases-loop-count : goal.decreases-loop-count

@@ -9,16 +9,28 @@ use Rattle.pgn_text.proofs.error.error_position.locate_error.Goals as goal
 
 pub returns-in-Stuck-clause-place : goal.returns-in-Stuck-clause-place
 returns-in-Stuck-clause-place c =
-    walk_stops depth_limit c.args.file_start c.args.block.now c.args.begin c.in-Stuck.at c.part_stop.result (state_of c.in-Stuck.progress)
+    walk_stops depth_limit c.args.file_start c.args.block.now c.args.begin c.in-Stuck.at
+    c.part_stop.result (state_of c.in-Stuck.progress)
     c.in-Stuck.ensures.0 c.in-Stuck.ensures.1 c.part_stop.ensures
 
 pub returns-in-Stuck-clause-within : goal.returns-in-Stuck-clause-within
 returns-in-Stuck-clause-within c =
     let low : c.in-Stuck.at + c.part_stop.result ≤ length c.args.block.now =
-    omega (arith, c.part_stop.ensures.within, c.in-Stuck.ensures.0.within, length-drop c.in-Stuck.at c.args.block.now) in
-    let same : c.part_stop.result ≡ c.in-Stuck.at + c.part_stop.result - c.in-Stuck.at = omega arith in
+    omega (
+      arith,
+      c.part_stop.ensures.within,
+      c.in-Stuck.ensures.0.within,
+      length-drop c.in-Stuck.at c.args.block.now,
+    ) in
+    let same : c.part_stop.result ≡ c.in-Stuck.at + c.part_stop.result - c.in-Stuck.at =
+    omega arith in
     let here =
-    subst (λ k. IsPartFront depth_limit (standing_of c.args.file_start (take c.in-Stuck.at c.args.block.now)) (state_of c.in-Stuck.progress)
+    subst (λ k.
+    IsPartFront depth_limit
+    (standing_of c.args.file_start (take c.in-Stuck.at c.args.block.now))
+    (state_of c.in-Stuck.progress)
     (take k (drop c.in-Stuck.at c.args.block.now))) same c.part_stop.ensures.here in
-    stands_within depth_limit c.args.file_start c.args.block.now c.args.begin c.in-Stuck.at (c.in-Stuck.at + c.part_stop.result)
-    (state_of c.in-Stuck.progress) c.front_within.result c.in-Stuck.ensures.0 c.in-Stuck.ensures.1 here (omega arith) low c.front_within.ensures
+    stands_within depth_limit c.args.file_start c.args.block.now c.args.begin c.in-Stuck.at
+    (c.in-Stuck.at + c.part_stop.result)
+    (state_of c.in-Stuck.progress) c.front_within.result c.in-Stuck.ensures.0 c.in-Stuck.ensures.1
+    here (omega arith) low c.front_within.ensures

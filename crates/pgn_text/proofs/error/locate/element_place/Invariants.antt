@@ -5,7 +5,8 @@ use Rattle.pgn_text.proofs.Located.{PassedTo}
 use Rattle.pgn_text.proofs.error.locate.element_place.Given as goal
 
 abbrev pub invariant-loop-token : goal.invariant-loop-token
-invariant-loop-token l = (done : List Part) × PassedTo l.file_start l.block l.begin l.at done × (l.index ≡ length (items_of done) + l.left)
+invariant-loop-token l = (done : List Part) × PassedTo l.file_start l.block l.begin l.at done
+    × (l.index ≡ length (items_of done) + l.left)
 
 abbrev pub decreases-loop-token : goal.decreases-loop-token
 decreases-loop-token l = length l.block - l.at

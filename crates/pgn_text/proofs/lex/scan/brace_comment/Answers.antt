@@ -10,4 +10,5 @@ returns-in_default c = rw (brace_none c.args.text.now c.in_default.ensures) refl
 pub returns : goal.returns
 returns c =
     rw (brace_found c.args.text.now c.in-Some.end c.in-Some.ensures)
-    (ap (λ rest. Some (KeptComment (take c.in-Some.end c.args.text.now), rest)) (take_rest c.args.text.now (c.in-Some.end + 1)))
+    (ap (λ rest. Some (KeptComment (take c.in-Some.end c.args.text.now), rest))
+    (take_rest c.args.text.now (c.in-Some.end + 1)))

@@ -7,4 +7,6 @@ use Rattle.chess.proofs.board.bits.BitsBoard.attacked.Goals as goal
 pub returns : goal.returns
 returns c =
     let men = words_men c.args.self.now.words in
-    c.is_hit.ensures men (all_left men c.args.side _ (on_board-men_of (man_in c.args.self.now.words)) all_bits) c.occupied.ensures
+    c.is_hit.ensures men
+    (all_left men c.args.side _ (on_board-men_of (man_in c.args.self.now.words)) all_bits)
+    c.occupied.ensures

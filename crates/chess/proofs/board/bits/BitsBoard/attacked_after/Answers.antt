@@ -18,16 +18,23 @@ returns c =
     let gone = bit_or (bit_or c.word_of.result c.word_of-2.result) c.word_of-3.result in
     let fits : gone < 2 ^ 64 =
     or_lt 64 (bit_or c.word_of.result c.word_of-2.result) c.word_of-3.result
-    (or_lt 64 c.word_of.result c.word_of-2.result c.word_of.type_inv c.word_of-2.type_inv) c.word_of-3.type_inv in
+    (or_lt 64 c.word_of.result c.word_of-2.result c.word_of.type_inv c.word_of-2.type_inv)
+    c.word_of-3.type_inv in
     let left =
     rest_word (IsGone from taken to) gone fits
-    (gone_word from taken to c.word_of.result c.word_of-2.result c.word_of-3.result c.word_of-2.ensures.on_board c.word_of.ensures.on_board
-    c.word_of-3.ensures.on_board c.word_of.ensures.word c.word_of-2.ensures.word c.word_of-3.ensures.word) in
+    (gone_word from taken to c.word_of.result c.word_of-2.result c.word_of-3.result
+    c.word_of-2.ensures.on_board c.word_of.ensures.on_board
+    c.word_of-3.ensures.on_board c.word_of.ensures.word c.word_of-2.ensures.word
+    c.word_of-3.ensures.word) in
     let rest = bit_not w64 gone in
     let p = moved_so men c.args.man from taken to in
-    subst (λ (side : Side). IsTrue c.is_hit.result ↔ IsAttacked p side c.args.square) c.opposite.ensures
+    subst (λ (side : Side). IsTrue c.is_hit.result
+    ↔ IsAttacked p side c.args.square) c.opposite.ensures
     (c.is_hit.ensures p
     (subst (λ (side : Side). AreLeft men p side rest) (sym c.opposite.ensures)
-    (left_then men c.args.man from taken to rest (on_board-men_of (man_in c.args.self.now.words)) c.word_of-3.ensures.on_board left))
-    (subst (λ (w : ℕ). IsWordOf (λ s. ¬ IsEmpty p s) (bit_or (bit_and c.occupied.result rest) w)) (sym c.word_of-4.ensures.word)
-    (men_then men c.args.man from taken to rest c.occupied.result c.word_of-3.ensures.on_board left c.occupied.ensures)))
+    (left_then men c.args.man from taken to rest (on_board-men_of (man_in c.args.self.now.words))
+    c.word_of-3.ensures.on_board left))
+    (subst (λ (w : ℕ). IsWordOf (λ s. ¬ IsEmpty p s) (bit_or (bit_and c.occupied.result rest) w))
+    (sym c.word_of-4.ensures.word)
+    (men_then men c.args.man from taken to rest c.occupied.result c.word_of-3.ensures.on_board left
+    c.occupied.ensures)))

@@ -4,5 +4,6 @@ use Rattle.chess.proofs.board.bits.BitsBoard.is_empty.Goals as goal
 
 pub returns : goal.returns
 returns c =
-    empty_by_word (words_men c.args.self.now.words) c.occupied.result c.word_of.result c.args.square c.word_of.ensures.on_board c.word_of.ensures.word
+    empty_by_word (words_men c.args.self.now.words) c.occupied.result c.word_of.result c.args.square
+    c.word_of.ensures.on_board c.word_of.ensures.word
     c.occupied.ensures

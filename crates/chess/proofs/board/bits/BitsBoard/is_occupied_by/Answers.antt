@@ -9,13 +9,22 @@ use Rattle.chess.proofs.board.bits.BitsBoard.is_occupied_by.Goals as goal
 pub returns-then-occupied-bit-eq0 : goal.returns-then-occupied-bit-eq0
 returns-then-occupied-bit-eq0 c =
     let empty =
-    empty_by_word (words_men c.args.self.now.words) c.occupied.result c.word_of-bit.result c.args.square c.word_of-bit.ensures.on_board c.word_of-bit.ensures.word
-    c.occupied.ensures in
-    ((λ e. absurd (let f : false ≡ true = e in cc)), (λ held. absurd (occupied_not_empty (words_men c.args.self.now.words) c.args.side c.args.square held (empty.0 (eq-eqb _ 0 c.if-occupied-bit-eq0.true)))))
+    empty_by_word (words_men c.args.self.now.words) c.occupied.result c.word_of-bit.result
+    c.args.square c.word_of-bit.ensures.on_board c.word_of-bit.ensures.word
+    c.occupied.ensures in (
+      (λ e. absurd (let f : false ≡ true = e in cc)),
+      (λ held.
+          absurd (occupied_not_empty (words_men c.args.self.now.words) c.args.side c.args.square
+          held
+          (empty.0 (eq-eqb _ 0 c.if-occupied-bit-eq0.true)))),
+    )
 
 pub returns : goal.returns
 returns c =
     let asked =
-    has_square (IsOccupiedBy (words_men c.args.self.now.words) c.args.side) c.occupied_by.result c.word_of-bit.result c.args.square c.word_of-bit.ensures.on_board
-    c.word_of-bit.ensures.word c.occupied_by.ensures in
-    ((λ e. asked.0 (λ zero. grind (arith, nat_tests, e, zero))), (λ held. grind (arith, nat_tests, asked.1 held)))
+    has_square (IsOccupiedBy (words_men c.args.self.now.words) c.args.side) c.occupied_by.result
+    c.word_of-bit.result c.args.square c.word_of-bit.ensures.on_board
+    c.word_of-bit.ensures.word c.occupied_by.ensures in (
+      (λ e. asked.0 (λ zero. grind (arith, nat_tests, e, zero))),
+      (λ held. grind (arith, nat_tests, asked.1 held)),
+    )

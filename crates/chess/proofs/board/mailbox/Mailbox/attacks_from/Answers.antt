@@ -8,6 +8,8 @@ loop-index-init c = gathered_none _ c.new-set.result c.new-set.ensures
 
 pub loop-index-preserved : goal.loop-index-preserved
 loop-index-preserved c =
-    gathered_step (λ s. Reaches (cells_men c.args.self.now.cells) c.args.man.side c.args.man.kind c.args.from s)
-    c.loop-index.index c.loop-index.set _ c.of_index-target.result c.does_attack.result c.loop-index-test.true c.loop-index.invariant
+    gathered_step (λ s.
+    Reaches (cells_men c.args.self.now.cells) c.args.man.side c.args.man.kind c.args.from s)
+    c.loop-index.index c.loop-index.set _ c.of_index-target.result c.does_attack.result
+    c.loop-index-test.true c.loop-index.invariant
     c.of_index-target.ensures.square c.does_attack.ensures c.insert_if.ensures

@@ -7,4 +7,5 @@ use Rattle.chess.proofs.board.mailbox.Mailbox.man.Goals as goal
 pub returns : goal.returns
 returns c =
     ap (λ n. get_or c.args.self.now.cells n None) c.index-place.ensures.place
-    ∙ sym (man_at-men_of (cell_of c.args.self.now.cells) c.args.square c.index-place.ensures.on_board)
+    ∙ sym (man_at-men_of (cell_of c.args.self.now.cells) c.args.square
+    c.index-place.ensures.on_board)

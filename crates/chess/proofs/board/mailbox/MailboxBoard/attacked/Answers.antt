@@ -11,5 +11,6 @@ returns c = (
       let on = on_board-men_of (cell_of c.args.self.now.cells) h.from h.man h.here in
       let below = index_of-below h.from on in
       let past = c.loop-index-test.false in
-      absurd (c.loop-index.invariant h.from on (omega arith) (record { man = h.man; here = h.here; own = h.own; reaches = h.reaches }))),
+      absurd (c.loop-index.invariant h.from on (omega arith)
+      (record { man = h.man; here = h.here; own = h.own; reaches = h.reaches }))),
 )

@@ -4,4 +4,5 @@ use Rattle.chess.proofs.BoardFacts.{IsNoneYet}
 use Rattle.chess.proofs.board.mailbox.MailboxBoard.attacked.Given as goal
 
 abbrev pub invariant-loop-index : goal.invariant-loop-index
-invariant-loop-index l = IsNoneYet (λ s. IsHitFrom (cells_men l.self.cells) l.side s l.square) l.index
+invariant-loop-index l =
+    IsNoneYet (λ s. IsHitFrom (cells_men l.self.cells) l.side s l.square) l.index

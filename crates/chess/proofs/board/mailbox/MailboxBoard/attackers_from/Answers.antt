@@ -8,6 +8,8 @@ loop-index-init c = gathered_none _ c.new-set.result c.new-set.ensures
 
 pub loop-index-preserved : goal.loop-index-preserved
 loop-index-preserved c =
-    gathered_step (IsAttacker (cells_men c.args.self.now.cells) c.args.man c.args.target c.args.among)
-    c.loop-index.index c.loop-index.set _ c.of_index-square.result c.is_attacker.result c.loop-index-test.true c.loop-index.invariant
+    gathered_step
+    (IsAttacker (cells_men c.args.self.now.cells) c.args.man c.args.target c.args.among)
+    c.loop-index.index c.loop-index.set _ c.of_index-square.result c.is_attacker.result
+    c.loop-index-test.true c.loop-index.invariant
     c.of_index-square.ensures.square c.is_attacker.ensures c.insert_if.ensures

@@ -4,4 +4,5 @@ use Rattle.chess.proofs.BoardFacts.{IsGathered}
 use Rattle.chess.proofs.board.mailbox.MailboxBoard.attackers_from.Given as goal
 
 abbrev pub invariant-loop-index : goal.invariant-loop-index
-invariant-loop-index l = IsGathered (IsAttacker (cells_men l.self.cells) l.man l.target l.among) l.index l.set
+invariant-loop-index l =
+    IsGathered (IsAttacker (cells_men l.self.cells) l.man l.target l.among) l.index l.set

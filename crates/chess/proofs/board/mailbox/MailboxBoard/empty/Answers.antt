@@ -6,4 +6,5 @@ use Rattle.std.specs.Prelude.{replicate}
 use Rattle.chess.specs.Shared.CellFacts.{no_cell}
 
 pub returns : goal.returns
-returns c = ap cells_men c.no_cells.ensures.cells ∙ men_of-none (cell_of (replicate 64 None)) (no_cell 64) 64
+returns c = ap cells_men c.no_cells.ensures.cells
+    ∙ men_of-none (cell_of (replicate 64 None)) (no_cell 64) 64

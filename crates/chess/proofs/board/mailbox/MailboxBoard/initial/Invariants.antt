@@ -6,4 +6,5 @@ use Rattle.chess.specs.Public.Start.{initial_man}
 use Rattle.chess.proofs.board.mailbox.MailboxBoard.initial.Given as goal
 
 abbrev pub invariant-loop-index : goal.invariant-loop-index
-invariant-loop-index l = cells_men l.board.cells ≡ first_men (λ n. initial_man (square_at n)) l.index
+invariant-loop-index l = cells_men l.board.cells
+    ≡ first_men (λ n. initial_man (square_at n)) l.index

@@ -14,7 +14,8 @@ returns c =
     let at = c.index.ensures.place in
     let full : length cells ≡ 64 = search rules in
     let below = index_of-below c.args.square c.index.ensures.on_board in
-    men_of-put (cell_of cells) (cell_of (slice_set cells c.index.result c.args.man)) c.args.square c.args.man
+    men_of-put (cell_of cells) (cell_of (slice_set cells c.index.result c.args.man)) c.args.square
+    c.args.man
     c.index.ensures.on_board
     (ap (λ n. get_or (slice_set cells n c.args.man) (index_of c.args.square) None) at
     ∙ get_or-set_same cells (index_of c.args.square) c.args.man None (omega arith))

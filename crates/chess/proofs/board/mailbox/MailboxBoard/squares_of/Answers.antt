@@ -10,5 +10,6 @@ loop-index-init c = gathered_none _ c.new-set.result c.new-set.ensures
 pub loop-index-preserved : goal.loop-index-preserved
 loop-index-preserved c =
     gathered_step (λ s. man_at (cells_men c.args.self.now.cells) s ≡ Some c.args.man)
-    c.loop-index.index c.loop-index.set _ c.of_index-square.result c.holds.result c.loop-index-test.true c.loop-index.invariant
+    c.loop-index.index c.loop-index.set _ c.of_index-square.result c.holds.result
+    c.loop-index-test.true c.loop-index.invariant
     c.of_index-square.ensures.square c.holds.ensures c.insert_if.ensures

@@ -14,6 +14,7 @@ invariant_of-self c =
 
 pub returns : goal.returns
 returns c s =
-    ap (λ n. is_in (places_of (has_bit (bit_or c.self.inside.word (1 * 2 ^ n % 2 ^ 64)))) s) c.index.ensures.place
+    ap (λ n. is_in (places_of (has_bit (bit_or c.self.inside.word (1 * 2 ^ n % 2 ^ 64)))) s)
+    c.index.ensures.place
     ∙ set_bit c.self.inside.word c.args.square s c.index.ensures.on_board
     ∙ ap (λ set. same_square c.args.square s || is_in set s) c.self.view_is

@@ -14,6 +14,7 @@ returns c =
           sym c.self.view_is ∙ ap (λ n. places_of (has_bit n)) zero ∙ empty_word),
       (λ e. elim (cases_eq word 0) [
         | inl zero ↦ grind (arith, nat_tests)
-        | inr some ↦ absurd (not_empty_word word (omega arith) c.self.invariant (c.self.view_is ∙ e))
+        | inr some ↦ absurd (not_empty_word word (omega arith) c.self.invariant (c.self.view_is
+            ∙ e))
       ]),
     )

@@ -3,7 +3,9 @@ use Rattle.chess.proofs.FileFacts.{file_squares, no_file}
 use Rattle.chess.proofs.board.set.SquareSet.of_file.Goals as goal
 
 pub returns-then-file-lt1 : goal.returns-then-file-lt1
-returns-then-file-lt1 c = no_file c.args.file c.of_word.result c.then-file-lt1.either c.of_word.ensures
+returns-then-file-lt1 c =
+    no_file c.args.file c.of_word.result c.then-file-lt1.either c.of_word.ensures
 
 pub returns : goal.returns
-returns c = file_squares c.args.file c.of_word-2.result (omega arith) (omega arith) c.of_word-2.ensures
+returns c =
+    file_squares c.args.file c.of_word-2.result (omega arith) (omega arith) c.of_word-2.ensures

@@ -10,4 +10,5 @@ returns c s =
     clear_bit c.self.inside.word c.index.result s (omega (arith, c.index.ensures.below))
     ∙ ap (λ set. is_in set s && not (same_square s (square_at c.index.result))) c.self.view_is
     ∙ ap (λ n. is_in c.args.self.now s && not (same_square s (square_at n))) c.index.ensures.place
-    ∙ ap (λ (t : Place). is_in c.args.self.now s && not (same_square s t)) (square_at-index_of c.args.square c.index.ensures.on_board)
+    ∙ ap (λ (t : Place). is_in c.args.self.now s
+    && not (same_square s t)) (square_at-index_of c.args.square c.index.ensures.on_board)

@@ -21,21 +21,29 @@ pub returns : goal.returns
 returns c =
     let word = c.self.inside.word in
     let at = trailing_zeros w64 word in
-    let found = bit_at-trailing_zeros w64 word (omega (arith, c.if-word-eq0.false)) c.self.invariant in
+    let found = bit_at-trailing_zeros w64 word (omega (arith, c.if-word-eq0.false)) c.self.invariant
+    in
     let square : c.of_index.result ≡ square_at at = c.of_index.ensures.square in
-    let place : index_of c.of_index.result ≡ at = ap index_of square ∙ index_of-square_at at found.0 in
-    let shown : (s : Place) → IsOnBoard s → is_in c.args.self.now s ≡ has_bit word (index_of s) = λ s on_board.
+    let place : index_of c.of_index.result ≡ at =
+    ap index_of square ∙ index_of-square_at at found.0 in
+    let shown : (s : Place) → IsOnBoard s → is_in c.args.self.now s ≡ has_bit word (index_of s) =
+    λ s on_board.
     ap (λ set. is_in set s) (sym c.self.view_is) ∙ is_in-places_of (has_bit word) s on_board in (
       c.of_index.ensures.on_board,
-      shown c.of_index.result c.of_index.ensures.on_board ∙ ap (has_bit word) place ∙ ap (λ n. nat_eq n 1) found.1,
+      shown c.of_index.result c.of_index.ensures.on_board ∙ ap (has_bit word) place
+          ∙ ap (λ n. nat_eq n 1) found.1,
       (λ s here. elim (cases_lt (index_of s) at) [
         | inl less ↦
-            let on_board = on_board-places_of (has_bit word) s (ap (λ set. is_in set s) c.self.view_is ∙ here) in
-            let none : true ≡ false = sym here ∙ shown s on_board ∙ ap (λ n. nat_eq n 1) (found.2 (index_of s) less) in cc
+            let on_board =
+            on_board-places_of (has_bit word) s (ap (λ set. is_in set s) c.self.view_is ∙ here)
+            in
+            let none : true ≡ false = sym here ∙ shown s on_board
+            ∙ ap (λ n. nat_eq n 1) (found.2 (index_of s) less) in cc
         | inr more ↦ omega arith
       ]),
       (λ s.
-          ap (λ n. is_in (places_of (has_bit n)) s) (without_lowest word at found.0 c.self.invariant found.1 found.2)
+          ap (λ n. is_in (places_of (has_bit n)) s)
+          (without_lowest word at found.0 c.self.invariant found.1 found.2)
           ∙ clear_bit word at s found.0
           ∙ ap (λ set. is_in set s && not (same_square s (square_at at))) c.self.view_is
           ∙ ap (λ (t : Place). is_in c.args.self.now s && not (same_square s t)) (sym square)),

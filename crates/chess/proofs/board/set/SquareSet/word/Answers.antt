@@ -5,4 +5,5 @@ use Rattle.chess.specs.Shared.SetFacts.{is_in-places_of}
 use Rattle.chess.proofs.board.set.SquareSet.word.Goals as goal
 
 pub returns : goal.returns
-returns c s on = sym (is_in-places_of (has_bit c.self.inside.word) s on) ∙ ap (λ set. is_in set s) c.self.view_is
+returns c s on = sym (is_in-places_of (has_bit c.self.inside.word) s on)
+    ∙ ap (λ set. is_in set s) c.self.view_is

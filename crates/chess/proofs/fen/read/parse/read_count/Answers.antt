@@ -8,12 +8,16 @@ loop-rest-init c = count_start 7 c.args.text.now (omega arith)
 
 pub overflow_mul-number : goal.overflow_mul-number
 overflow_mul-number c =
-    let small = count_small 7 c.loop-rest.number c.loop-rest.rest.now c.args.text.now c.loop-rest.invariant c.in-len1-up.len_at_least in
+    let small =
+    count_small 7 c.loop-rest.number c.loop-rest.rest.now c.args.text.now c.loop-rest.invariant
+    c.in-len1-up.len_at_least in
     omega arith
 
 pub overflow_add-number : goal.overflow_add-number
 overflow_add-number c =
-    let small = count_small 7 c.loop-rest.number c.loop-rest.rest.now c.args.text.now c.loop-rest.invariant c.in-len1-up.len_at_least in
+    let small =
+    count_small 7 c.loop-rest.number c.loop-rest.rest.now c.args.text.now c.loop-rest.invariant
+    c.in-len1-up.len_at_least in
     omega arith
 
 pub loop-rest-preserved : goal.loop-rest-preserved

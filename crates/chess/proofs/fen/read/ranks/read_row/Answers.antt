@@ -9,13 +9,16 @@ loop-rest-init c = row_start c.args.text.now
 
 pub loop-rest-preserved : goal.loop-rest-preserved
 loop-rest-preserved c =
-    row_more c.loop-rest.squares c.loop-rest.file c.loop-rest.rest.now c.args.text.now c.in_ok-man.man c.in_ok-man.count _ _ c.loop-rest.invariant
-    (first_and_rest c.loop-rest.rest.now c.in-len1-up.len_at_least) c.in_ok-man.ensures (omega arith)
+    row_more c.loop-rest.squares c.loop-rest.file c.loop-rest.rest.now c.args.text.now
+    c.in_ok-man.man c.in_ok-man.count _ _ c.loop-rest.invariant
+    (first_and_rest c.loop-rest.rest.now c.in-len1-up.len_at_least) c.in_ok-man.ensures
+    (omega arith)
     (length-set c.loop-rest.squares c.loop-rest.file c.in_ok-man.man ∙ c.loop-rest.invariant.full)
 
 pub returns-else-file-lt8 : goal.returns-else-file-lt8
 returns-else-file-lt8 c = (
-  row_end c.loop-rest.squares c.loop-rest.file c.loop-rest.rest.now c.args.text.now c.loop-rest.invariant
+  row_end c.loop-rest.squares c.loop-rest.file c.loop-rest.rest.now c.args.text.now
+      c.loop-rest.invariant
       (no_bytes c.loop-rest.rest.now c.in_default.len_below) (omega arith),
   c.loop-rest.invariant.full,
 )

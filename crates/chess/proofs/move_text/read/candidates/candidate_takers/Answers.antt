@@ -12,13 +12,17 @@ returns-then-not-promotes g c =
     none_hold (IsCandidate P said) c.new.result c.new.ensures
     (λ s on candidates.
     true_not_false c.promotes.result
-    (c.promotes.ensures.1 (subst (λ a. Promotes a said.target said.promote) (sym c.side.ensures) (pawn_goes P said s c.requires.pawn candidates).1))
+    (c.promotes.ensures.1
+    (subst (λ a. Promotes a said.target said.promote) (sym c.side.ensures)
+    (pawn_goes P said s c.requires.pawn candidates).1))
     c.if-not-promotes.true)
 
 pub returns : goal.returns
 returns g c =
     let P = c.args.position.now in
     let said = said_by c.args.said.now in
-    candidate_takers P said c.origins.result c.takers.result c.invariant.ensures c.requires.pawn c.invariant-2.ensures
-    (subst (λ a. Promotes a said.target said.promote) c.side.ensures (c.promotes.ensures.0 c.if-not-promotes.false))
+    candidate_takers P said c.origins.result c.takers.result c.invariant.ensures c.requires.pawn
+    c.invariant-2.ensures
+    (subst (λ a. Promotes a said.target said.promote) c.side.ensures
+    (c.promotes.ensures.0 c.if-not-promotes.false))
     c.requires.takes c.origins.ensures c.takers.ensures

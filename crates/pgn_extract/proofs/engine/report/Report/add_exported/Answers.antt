@@ -11,7 +11,8 @@ use Rattle.pgn_extract.proofs.engine.report.Report.add_exported.Goals as goal
 pub returns-in-Ok : goal.returns-in-Ok
 returns-in-Ok c =
     let put = c.in-Ok.ensures in
-    exported_replay (aim_of c.args.context.settings.now) c.invariant.ensures put.0 put.2 put.1 put.3 (record { output = put.4; faults = refl; games = refl; faulty = refl })
+    exported_replay (aim_of c.args.context.settings.now) c.invariant.ensures put.0 put.2 put.1 put.3
+    (record { output = put.4; faults = refl; games = refl; faulty = refl })
 
 pub returns-in_ok-push_faulty-in-Err : goal.returns-in_ok-push_faulty-in-Err
 returns-in_ok-push_faulty-in-Err c =
@@ -21,8 +22,13 @@ returns-in_ok-push_faulty-in-Err c =
     let new = c.put_selected.new.text.items in
     on_ok_weaker c.add_fault.result
     (λ of.
-    let left : LeavesText aim game old new of.0 = subst (λ o. IfSome o (LeavesText aim game old new)) of.2 c.in-Err.ensures in
-    let text = c.in_ok-push_faulty-in-Err.ensures ∙ ap (λ bytes. new ++ faulty_text Export c.args.context.settings.now.select bytes) c.text-text.ensures
-    ∙ ap (λ bytes. bytes ++ faulty_text Export c.args.context.settings.now.select game.text) left.1 in
-    exported_fault aim of.0 of.1 left.0 of.3 (record { output = text; faults = refl; games = refl; faulty = refl }) of.4)
+    let left : LeavesText aim game old new of.0 =
+    subst (λ o. IfSome o (LeavesText aim game old new)) of.2 c.in-Err.ensures in
+    let text = c.in_ok-push_faulty-in-Err.ensures
+    ∙ ap (λ bytes. new ++ faulty_text Export c.args.context.settings.now.select bytes)
+    c.text-text.ensures
+    ∙ ap (λ bytes. bytes ++ faulty_text Export c.args.context.settings.now.select game.text) left.1
+    in
+    exported_fault aim of.0 of.1 left.0 of.3
+    (record { output = text; faults = refl; games = refl; faulty = refl }) of.4)
     c.add_fault.ensures

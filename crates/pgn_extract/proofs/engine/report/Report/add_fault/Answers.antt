@@ -33,12 +33,14 @@ returns c =
       of.0,
       note.0 ++ more.0,
       of.1,
-      subst (λ b. IsNote b (note.0 ++ more.0)) (sym c.if-not-settings.false) (notes_join note.0 more.0 note.1 more.1),
+      subst (λ b. IsNote b (note.0 ++ more.0)) (sym c.if-not-settings.false)
+          (notes_join note.0 more.0 note.1 more.1),
       record {
         output = sym (append-nil c.args.self.now.output.items);
         faults =
             more.2 ∙ ap (λ t. t ++ more.0) (note.2 ∙ ap (λ t. t ++ note.0) of.2)
-            ∙ append_assoc (c.args.self.now.faults.items ++ line) note.0 more.0 ∙ append_assoc c.args.self.now.faults.items line (note.0 ++ more.0);
+            ∙ append_assoc (c.args.self.now.faults.items ++ line) note.0 more.0
+            ∙ append_assoc c.args.self.now.faults.items line (note.0 ++ more.0);
         games = omega arith;
         faulty = refl;
       },

@@ -1,10 +1,13 @@
 use Rattle.std.proofs.Common.{◌∷◌, ◌++◌, [], length, refl, sym, subst, arith}
 use Rattle.pgn_extract.specs.Private.Lines.{aim_with}
 use Rattle.pgn_extract.proofs.Chosen.{entry_at}
-use Rattle.pgn_extract.proofs.Finds.{leaves_shut, leaves_past, leaves_unwanted, keeps_one, is_wanted, not_wanted}
+use Rattle.pgn_extract.proofs.Finds.{leaves_shut, leaves_past, leaves_unwanted, keeps_one}
+use Rattle.pgn_extract.proofs.Finds.{is_wanted, not_wanted}
 use Rattle.pgn_extract.proofs.entries.finding.Finder.ask.Goals as goal
-use Rattle.pgn_extract.proofs.entries.finding.Finder.ask.Goals.{then-not-is_open-via-then-not-is_open, then-not-is_open-via-else-not-is_open+then-ply-self}
-use Rattle.pgn_extract.proofs.entries.finding.Finder.ask.Goals.{then-ply-self-2-via-then-ply-self-2, then-ply-self-2-via-else-ply-self-2+then-not-is_met}
+use Rattle.pgn_extract.proofs.entries.finding.Finder.ask.Goals.{then-not-is_open-via-then-not-is_open}
+use Rattle.pgn_extract.proofs.entries.finding.Finder.ask.Goals.{then-not-is_open-via-else-not-is_open+then-ply-self}
+use Rattle.pgn_extract.proofs.entries.finding.Finder.ask.Goals.{then-ply-self-2-via-then-ply-self-2}
+use Rattle.pgn_extract.proofs.entries.finding.Finder.ask.Goals.{then-ply-self-2-via-else-ply-self-2+then-not-is_met}
 
 pub returns-then-not-is_open-clause-asked : goal.returns-then-not-is_open-clause-asked
 returns-then-not-is_open-clause-asked g c name id game before P at start so_far =
@@ -25,7 +28,8 @@ returns-then-ply-self-2-clause-asked g c name id game before P at start so_far =
       | then-ply-self-2-via-then-ply-self-2 w ↦ λ replay own rest is wanted.
           let low = wanted.0 in omega (arith, count, w.if-ply-self-2.true, low)
       | then-ply-self-2-via-else-ply-self-2+then-not-is_met w ↦
-          not_wanted (aim_with c.args.self.now.settings.now c.args.self.now.fields name) game before P w.is_met.result (w.is_met.ensures _ game before P at) w.if-not-is_met.true
+          not_wanted (aim_with c.args.self.now.settings.now c.args.self.now.fields name) game before
+          P w.is_met.result (w.is_met.ensures _ game before P at) w.if-not-is_met.true
     ])
 
 pub returns-then-ply-self-2-clause-kept : goal.returns-then-ply-self-2-clause-kept
@@ -40,8 +44,13 @@ returns-clause-asked g c name id game before P at start so_far =
     let put = c.in_ok-put.ensures.put in
     let handed = put.2 aim game before P at id in
     keeps_one P so_far put.0 c.if-not-is_open.false
-    (is_wanted aim game before P c.is_met.result (c.is_met.ensures aim game before P at) c.if-not-is_met.false
+    (is_wanted aim game before P c.is_met.result (c.is_met.ensures aim game before P at)
+    c.if-not-is_met.false
     (omega (arith, count, c.if-ply-self-2.false)) (omega (arith, count, c.if-ply-self.false)))
     (put.1 aim game before P at refl)
-    (g.met.S.Sink.more mark start c.args.sink.now c.put.new.self so_far.found (entry_at id (length before) put.0 ∷ [])
-    so_far.got (subst (λ m. g.S.Sink.Gets m c.args.sink.now (entry_at id (length before) put.0 ∷ []) c.put.new.self) c.deref.ensures.value handed))
+    (g.met.S.Sink.more mark start c.args.sink.now c.put.new.self so_far.found
+    (entry_at id (length before) put.0 ∷ [])
+    so_far.got
+    (subst (λ m.
+    g.S.Sink.Gets m c.args.sink.now (entry_at id (length before) put.0 ∷ []) c.put.new.self)
+    c.deref.ensures.value handed))

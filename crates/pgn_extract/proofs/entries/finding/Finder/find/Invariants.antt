@@ -11,7 +11,7 @@ invariant-loop-line g l = record {
   found : (name : Option (List ℕ)) (id : GameId) (game : GameText) (P : State)
       → g.L.Line.At l.fn.line (aim_with l.self.settings.now l.self.fields name) game [] P
       → StandsFound (g.L.Line.At l.line) (aim_with l.self.settings.now l.self.fields name) id game
-          (λ got. g.S.Sink.Gets l.self.mark.items l.fn.sink got l.sink) l.is_open;
+      (λ got. g.S.Sink.Gets l.self.mark.items l.fn.sink got l.sink) l.is_open;
   grew : g.S.Sink.Grew l.fn.sink l.sink;
   valid : g.L.Line.Valid l.line;
 }

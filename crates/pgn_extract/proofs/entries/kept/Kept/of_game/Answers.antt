@@ -1,6 +1,6 @@
 use Rattle.std.proofs.Common.{◌↔◌, List, ℕ, Option, IsTrue, sym, subst}
 use Rattle.pgn_criteria.specs.Public.Meeting.{heading_of}
-use Rattle.pgn_criteria.specs.declared.condition.Condition.{Condition}
+use Rattle.pgn_criteria.specs.Public.Conditions.{Conditions}
 use Rattle.pgn_extract.specs.Public.Aims.{IsMet}
 use Rattle.pgn_extract.proofs.KeptLines.{legal_line, begins_kept}
 use Rattle.pgn_extract.proofs.entries.kept.Kept.of_game.Goals as goal
@@ -13,5 +13,7 @@ returns c =
     let met = c.in_ok-met.ensures in (
       legal_line game kept is,
       λ aim given. begins_kept game kept is c.in_ok-met.met.items aim met.each
-          (λ n r here. subst (λ (o : Option (List (List (Condition (List ℕ))))). IsTrue r ↔ IsMet o (heading_of game) kept n) (sym given) (met.reports n r here)),
+          (λ n r here.
+          subst (λ (o : Option (List Conditions)). IsTrue r
+          ↔ IsMet o (heading_of game) kept n) (sym given) (met.reports n r here)),
     )

@@ -11,5 +11,6 @@ returns c aim game before P at =
     let ply = c.args.self.now.ply in
     let size = size_left kept met ply aim game before P at in
     let here : slice_get met ply ≡ Some c.index.result.now =
-    slice_get-get_or met ply c.index.result.now (omega (arith, size)) ∙ ap Some (sym c.index.ensures) in
+    slice_get-get_or met ply c.index.result.now (omega (arith, size))
+    ∙ ap Some (sym c.index.ensures) in
     reports_there kept met ply aim game before P c.index.result.now at here

@@ -10,9 +10,11 @@ returns g c aim game before P at replay own rest is =
     let asked = g.Q.Question.asked c.args.self.now.question in
     let n = length before in
     let tags = heading_of game in
-    let here : slice_get replay.positions n ≡ Some P = ap (λ ps. slice_get ps n) is ∙ at_seam before P rest in
+    let here : slice_get replay.positions n ≡ Some P =
+    ap (λ ps. slice_get ps n) is ∙ at_seam before P rest in
     let says : IsTrue c.is_met.result ↔ SomeHold tags replay n P asked =
-    subst (λ Q. IsTrue c.is_met.result ↔ SomeHold tags replay n Q asked) (c.position.ensures ∙ sym at.here)
+    subst (λ Q. IsTrue c.is_met.result ↔ SomeHold tags replay n Q asked) (c.position.ensures
+    ∙ sym at.here)
     (c.is_met.ensures tags replay n) in
     let met = meets_at tags replay n asked P c.is_met.result here says in
     let same = at.asks replay own n (seam_within replay.positions before P rest is) in

@@ -17,7 +17,8 @@ returns-clause-shown g c =
     on_ok_weaker c.push_next.result
     (λ next. (
       fen.0 ++ next.0,
-      shows_fields c.args.fields line (g.Q.Question.asked c.args.self.now.question) (fen.0 ++ next.0)
+      shows_fields c.args.fields line (g.Q.Question.asked c.args.self.now.question) (fen.0
+          ++ next.0)
           (fen.0, next.0, here, next.1, refl),
       next.2 ∙ ap (λ t. t ++ next.0) fen.2 ∙ append_assoc c.args.text.now.items fen.0 next.0,
     ))
@@ -28,5 +29,6 @@ returns-clause-fault g c =
     let fen = c.in_ok-push_fen.ensures in
     MatchResult-weaker c.push_next.result c.push_next.ensures.fault (λ done none. tt)
     (λ fault met. IfSome_then _ met
-    (fails_at c.args.self.now.line (g.Q.Question.asked c.args.self.now.question) c.args.text.now.items fen.0
+    (fails_at c.args.self.now.line (g.Q.Question.asked c.args.self.now.question)
+    c.args.text.now.items fen.0
     c.push_fen.new.text.items c.push_next.new.text.items fen.2))

@@ -14,6 +14,10 @@ returns-clause-put g c =
           c.in_ok-extend_from_slice.ensures.items
           ∙ ap (λ t. t ++ 10 ∷ []) (fields.2 ∙ ap (λ t. t ++ fields.0) c.in_ok-push_ply.ensures)
           ∙ one_line start mark (decimal c.ply.result) fields.0
-          ∙ ap (λ n. start ++ marked_line mark (record { id = id; ply = n; shown = fields.0 })) (c.ply.ensures aim game before P at)
-          ∙ ap (λ t. start ++ t) (sym (append-nil (marked_line mark (record { id = id; ply = length before; shown = fields.0 })))),
+          ∙ ap (λ n. start ++ marked_line mark (record { id = id; ply = n; shown = fields.0 }))
+          (c.ply.ensures aim game before P at)
+          ∙ ap (λ t. start
+          ++ t) (sym
+          (append-nil
+          (marked_line mark (record { id = id; ply = length before; shown = fields.0 })))),
     )

@@ -7,6 +7,7 @@ abbrev pub invariant-loop-count : goal.invariant-loop-count
 invariant-loop-count l =
     record {
       wide : l.width ≡ width l.mark l.tens;
-      at : l.tens_digit + 3 ≡ length (lines_from l.mark (10 * l.tens + 10) l.count) + width l.mark l.tens;
+      at : l.tens_digit + 3 ≡ length (lines_from l.mark (10 * l.tens + 10) l.count)
+          + width l.mark l.tens;
       lines : l.self.ten.items ≡ mixed l.mark l.tens l.count;
     }

@@ -8,5 +8,6 @@ invariant-loop-tens l =
       above : l.first ≤ l.tens;
       within : l.tens ≤ l.last;
       lines : l.self.ten.items ≡ lines_from l.mark (10 * l.tens) 10;
-      written : l.text.items ≡ l.initial.text.items ++ lines_from l.mark (10 * l.first) (10 * l.tens - 10 * l.first);
+      written : l.text.items ≡ l.initial.text.items
+          ++ lines_from l.mark (10 * l.first) (10 * l.tens - 10 * l.first);
     }

@@ -9,7 +9,8 @@ invariant-loop-ply l = record {
   within : l.ply ≤ length l.met.items;
   grown : Grows l.fn.text.items l.text.items;
   looked : EachOfRecord l.self.raw.now (λ game replay packed.
-      IsLookedThrough (record_aim (aim_of l.self.settings.now) l.self.raw.now) (raw_id l.self.raw.now) game l.replayed
+      IsLookedThrough (record_aim (aim_of l.self.settings.now) l.self.raw.now)
+      (raw_id l.self.raw.now) game l.replayed
       l.ply l.fn.text.items l.text.items l.is_open);
 }
 

@@ -10,7 +10,8 @@ invariant-loop-is_open l = record {
   within : length (codes_in l.rest) ≤ length (codes_in l.plies);
   grown : Grows l.fn.text.items l.text.items;
   marked : EachOfRecord l.self.raw.now (λ game replay packed.
-      IsMarkedTo (record_aim (aim_of l.self.settings.now) l.self.raw.now) (raw_id l.self.raw.now) game replay packed
+      IsMarkedTo (record_aim (aim_of l.self.settings.now) l.self.raw.now) (raw_id l.self.raw.now)
+      game replay packed
       l.side (codes_in l.rest) l.fn.text.items l.text.items l.is_open);
 }
 

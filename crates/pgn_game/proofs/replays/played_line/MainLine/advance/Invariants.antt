@@ -8,7 +8,8 @@ invariant-loop-self l =
     record {
       plies_room : l.self-inside.walk.plies + length l.self-inside.rest.now < 2 ^ 64;
       depth_room : l.self-inside.walk.depth + length l.self-inside.rest.now < 2 ^ 64;
-      words : main_words (map item_of l.self-inside.rest.now) l.self-inside.walk.depth ≡ l.fn.self.words;
+      words : main_words (map item_of l.self-inside.rest.now) l.self-inside.walk.depth
+          ≡ l.fn.self.words;
       position : l.self-inside.walk.position ≡ l.fn.self.position;
       plies : l.self-inside.walk.plies ≡ l.fn.self.plies;
     }
