@@ -58,8 +58,9 @@ pub(crate) struct Anything;
 
 impl Question for Anything {
     ghost use Rattle.std.specs.Prelude.{[], ◌∷◌};
+    ghost use Rattle.pgn_criteria.specs.Public.Conditions.{no_conditions};
 
-    ghost asked = { λ _. [] ∷ [] };
+    ghost asked = { λ _. no_conditions ∷ [] };
 
     #[inline(always)]
     fn is_open(&self) -> bool {
