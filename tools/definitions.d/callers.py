@@ -67,8 +67,9 @@ def each_with_callers(tree, calls):
 
 
 def caller(name, call):
-    """Who makes the call."""
-    return Caller(call.crate, name, bool(call.function.clauses), call.file.module == EXAMPLES)
+    """Who makes the call; a function that a trait asks for has the contract that stands there."""
+    is_proved = bool(call.function.clauses) or call.function.trait not in ("", "trait")
+    return Caller(call.crate, name, is_proved, call.file.module == EXAMPLES)
 
 
 def is_call_of_member(calls, crate, file, function, call):

@@ -88,12 +88,17 @@ def read_source(path, crate, folder, file):
     return source
 
 
+def goes_on(line):
+    """The line goes on with what stands before it: it is set in, or closes a bracket."""
+    return line[:1].isspace() or line[:1] in tuple(")]}")
+
+
 def read_lines(source, lines, outer=""):
     """Reads lines whose statements begin in the first column; those in a `module _` are read so too, with its head as what stands outside."""
     current, inner, comment = None, None, []
     for number, line in lines:
         comment = comment + [line] if line.startswith("--") and inner is None else comment
-        begins = line and not line[0].isspace()
+        begins = line and not goes_on(line)
         if begins and inner:
             read_module(source, inner, outer)
             inner = None
@@ -116,10 +121,12 @@ def read_lines(source, lines, outer=""):
 
 
 def read_module(source, lines, outer):
-    """Reads a `module _ HEAD where`, whose statements stand two blanks in."""
+    """Reads a `module _ HEAD where`, whose statements stand two or four blanks in."""
     size = next(place for place, (_, line) in enumerate(lines, 1) if line.endswith(" where"))
     head = " ".join(line.strip() for _, line in lines[:size]).removeprefix("module _").removesuffix("where")
-    read_lines(source, [(number, line.removeprefix("  ")) for number, line in lines[size:]], f"{outer} {head}")
+    body = lines[size:]
+    margin = min(len(line) - len(line.lstrip()) for _, line in body if line.strip())
+    read_lines(source, [(number, line[margin:]) for number, line in body], f"{outer} {head}")
 
 
 def next_definition(source, current, number, line):
@@ -163,7 +170,7 @@ def clauses_of(definition):
     """The texts of a definition: its head, and each clause as its own."""
     clauses = []
     for line in definition.lines:
-        if clauses and (line[0].isspace() or line.startswith("--")):
+        if clauses and (goes_on(line) or line.startswith("--")):
             clauses[-1] += "\n" + line
         elif not line.startswith("unfolding "):
             clauses.append(line)

@@ -3,7 +3,7 @@ from dataclasses import dataclass, field
 
 from callers import CALL
 from kinds import Kind, arguments, bare, binder, components, group_at, groups, sides, signature, split
-from sources import Source, read_lines, read_source
+from sources import Source, goes_on, read_lines, read_source
 from words import is_name, words_of
 
 # The files of a proof's answers, what their goals call what they give, and after which of its parts come values and facts.
@@ -314,7 +314,7 @@ def clauses_in(definition):
     """The clauses of a lemma of a clause's own."""
     clauses = []
     for line in definition.lines:
-        if clauses and line[:1].isspace():
+        if clauses and goes_on(line):
             clauses[-1] += "\n" + line
         elif not line.startswith("unfolding "):
             clauses.append(line)

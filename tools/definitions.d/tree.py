@@ -133,7 +133,8 @@ class Tree:
         """The type that a path of `declared` names, or one of its variants; a constant is none."""
         if "TheConstants" in parts:
             return None
-        for one in [name, *reversed(parts[3:])]:
+        named = [] if "TheVariants" in parts else [name]
+        for one in [*named, *reversed(parts[3:])]:
             if Declared(parts[0], one) in self.types:
                 return Declared(parts[0], one)
         raise ValueError(f"no type is declared at {'.'.join(parts)}.{name}")
