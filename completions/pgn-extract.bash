@@ -86,7 +86,7 @@ _pgn_extract_words() {
 }
 # Offers what a line of criteria, perhaps with its opening quote, may go on with.
 _pgn_extract_criteria() {
-    local line=${1#[\"\']} before='' words conditions='fen flip material moves next played plies result tag turn check mate stalemate'
+    local line=${1#[\"\']} before='' words conditions='fen flip material moves next played plies result tag number date turn check mate stalemate'
     line=${line//\\ / }
     [[ $line == *' '* ]] && before="${line% *} "
     case $before in
@@ -99,6 +99,9 @@ _pgn_extract_criteria() {
     'result ' | *' result ') words='1-0 0-1 1/2-1/2 *' ;;
     'plies ' | 'not plies ' | 'count ') words='= <> < <= > >=' ;;
     'tag ' | 'not tag ') words='Event Site Date Round White Black Result ECO WhiteElo BlackElo White|Black' ;;
+    'number ' | 'not number ') words='WhiteElo BlackElo WhiteElo|BlackElo Round' ;;
+    'date ' | 'not date ') words='Date EventDate Date|EventDate' ;;
+    'number '[!\ ]*' ' | 'not number '[!\ ]*' ' | 'date '[!\ ]*' ' | 'not date '[!\ ]*' ') words='= <> < <= > >=' ;;
     'tag '[!\ ]*' ' | 'not tag '[!\ ]*' ') words='= <> < <= > >= has begins' ;;
     *) return ;;
     esac

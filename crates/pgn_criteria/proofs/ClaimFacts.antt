@@ -1,16 +1,19 @@
 -- The text of a claim ends with a solid byte, and its first word is that of its kind: neither `not`
 -- nor `either`, and with a solid byte at its
 -- head. So it is never that of a denied claim.
-use Rattle.std.proofs.Common.{◌≡◌, ◌≢◌, ℕ, Bool, true, false, IsTrue, List, [], ◌∷◌, ◌++◌, not}
-use Rattle.std.proofs.Common.{refl, sym, ap, ◌∙◌, subst}
+use Rattle.std.proofs.Common.{◌≡◌, ◌≢◌, ℕ, Bool, true, false, List, [], ◌∷◌, ◌++◌, not, refl, sym}
+use Rattle.std.proofs.Common.{ap, ◌∙◌, subst}
 use Rattle.std.specs.Prelude.{codes, ◌+◌, ◌&&◌, ◌||◌, ◌==◌, if◌then◌else◌}
 use Rattle.std.proofs.lemmas.Bool.{and_parts}
 use Rattle.pgn_criteria.specs.Public.Words.{is_blank}
 use Rattle.pgn_criteria.specs.Public.Mirrors.{can_be_mirrored}
 use Rattle.pgn_criteria.specs.Private.Stages.{position_seen}
 use Rattle.pgn_criteria.specs.Private.Reading.{run_of, after_word, ReadsWord}
-use Rattle.pgn_criteria.specs.Public.Lines.{SpellsGame, SpellsPosition, SpellsMove, SpellsSpan}
-use Rattle.pgn_criteria.specs.Public.Lines.{SpellsTaken, side_text, relation_text, comparison_text}
+use Rattle.pgn_criteria.specs.Public.Lines.{SpellsNamed, SpellsTag, SpellsGame, SpellsPosition}
+use Rattle.pgn_criteria.specs.Public.Lines.{SpellsMove, SpellsSpan, SpellsTaken, side_text}
+use Rattle.pgn_criteria.specs.Public.Lines.{relation_text, comparison_text}
+use Rattle.pgn_criteria.specs.declared.condition.ValueClaim.{ValueClaim}
+use Rattle.pgn_criteria.specs.declared.condition.ValueClaim.TheVariants.{Text, Number, Date}
 use Rattle.pgn_criteria.specs.declared.condition.GameClaim.{GameClaim}
 use Rattle.pgn_criteria.specs.declared.condition.GameClaim.TheVariants.{Tag, Moves, Plies, Result}
 use Rattle.pgn_criteria.specs.declared.condition.PositionClaim.{PositionClaim}
@@ -26,7 +29,8 @@ use Rattle.pgn_criteria.proofs.SolidFacts.{begins_some, word_read, word_spelled}
 use Rattle.pgn_criteria.proofs.TurnFacts.{side_ends, turn_read}
 use Rattle.pgn_criteria.proofs.FenFacts.{pattern_some, pattern_solid, fen_read, flip_read}
 use Rattle.pgn_criteria.proofs.PliesFacts.{count_ends, plies_read, counted_read, for_read}
-use Rattle.pgn_criteria.proofs.TagFacts.{tag_read}
+use Rattle.pgn_criteria.proofs.DayTextFacts.{days_end}
+use Rattle.pgn_criteria.proofs.TagFacts.{tag_read, number_read, date_read}
 use Rattle.pgn_criteria.proofs.MaterialFacts.{material_read}
 use Rattle.pgn_criteria.proofs.LimitFacts.{limits_some, limits_solid}
 use Rattle.pgn_criteria.proofs.MoveWordFacts.{words_end, moves_read, like_ends, next_read}
@@ -50,7 +54,7 @@ is_key word = is_word word && (not (total word == 337) && not (total word == 641
 -- what the claim is on whose first word has this sum: 1 the game, 2 a position, 3 moves, 4 plies
 abbrev pub kind_at : ℕ → ℕ
 kind_at n =
-    if n == 316 || n == 554 || n == 541 || n == 671 then 1
+    if n == 316 || n == 649 || n == 414 || n == 554 || n == 541 || n == 671 then 1
     else if n == 313 || n == 427 || n == 847 || n == 457 || n == 510 || n == 423 || n == 960 then 2
     else if n == 447 || n == 639 then 3
     else if n == 327 || n == 553 then 4
@@ -98,16 +102,50 @@ pub record AreClaims {C : Type 0} (Spells : List ℕ → C → Type 0) : Type 0 
   pub keyed : (text : List ℕ) (claim : C) → Spells text claim → HasKey kind text (key claim)
   pub ends : (text : List ℕ) (claim : C) → Spells text claim → EndsSolid text
 
+abbrev pub tag_key : ValueClaim (List ℕ) → List ℕ
+tag_key (Text relation contents) = codes "tag"
+tag_key (Number comparison number) = codes "number"
+tag_key (Date comparison days) = codes "date"
+
+tag_keyed : (text names : List ℕ) (claim : ValueClaim (List ℕ)) → SpellsTag text names claim
+    → HasKey 1 text (tag_key claim)
+tag_keyed text names (Text relation contents) spells =
+    ((tag_read text names relation contents spells).key_is, refl, refl)
+tag_keyed text names (Number comparison number) spells =
+    ((number_read text names comparison number spells).1.key_is, refl, refl)
+tag_keyed text names (Date comparison days) spells =
+    ((date_read text names comparison days spells).1.key_is, refl, refl)
+
+named_ends : (key text names operator own : List ℕ) → SpellsNamed key text names operator own
+    → EndsSolid own → EndsSolid text
+named_ends key text names operator own (first, second, third, is, g, h, k, are) ends =
+    ends_as text _ is (ends_after key (first ++ (names ++ (second ++ (operator ++ (third ++ own)))))
+    (ends_after first (names ++ (second ++ (operator ++ (third ++ own))))
+    (ends_after names (second ++ (operator ++ (third ++ own)))
+    (ends_after second (operator ++ (third ++ own))
+    (ends_after operator (third ++ own) (ends_after third own ends))))))
+
+tag_ends : (text names : List ℕ) (claim : ValueClaim (List ℕ)) → SpellsTag text names claim
+    → EndsSolid text
+tag_ends text names (Text relation contents) (named, good, fits) =
+    named_ends (codes "tag") text names (relation_text relation) (34 ∷ (contents ++ 34 ∷ [])) named
+    (34 ∷ contents, 34, refl, refl)
+tag_ends text names (Number comparison number) (digits, named, counted) =
+    named_ends (codes "number") text names (comparison_text comparison) digits named
+    (count_ends digits number counted)
+tag_ends text names (Date comparison days) (date, named, spelled) =
+    named_ends (codes "date") text names (comparison_text comparison) date named
+    (days_end date days spelled)
+
 abbrev pub game_key : GameClaim (List ℕ) → List ℕ
-game_key (Tag name relation contents) = codes "tag"
+game_key (Tag names value) = tag_key value
 game_key (Moves words) = codes "moves"
 game_key (Plies comparison count) = codes "plies"
 game_key (Result result) = codes "result"
 
 pub game_keyed : (text : List ℕ) (claim : GameClaim (List ℕ)) → SpellsGame text claim
     → HasKey 1 text (game_key claim)
-game_keyed text (Tag name relation contents) spells =
-    ((tag_read text name relation contents spells).key_is, refl, refl)
+game_keyed text (Tag names value) spells = tag_keyed text names value spells
 game_keyed text (Moves words) spells = ((moves_read text words spells).0, refl, refl)
 game_keyed text (Plies comparison count) spells =
     ((plies_read text comparison count spells).key_is, refl, refl)
@@ -115,15 +153,7 @@ game_keyed text (Result result) spells = ((result_read text result spells).0, re
 
 pub game_ends : (text : List ℕ) (claim : GameClaim (List ℕ)) → SpellsGame text claim
     → EndsSolid text
-game_ends text (Tag name relation contents) (first, second, third, is, g, h, k, are, good, fits) =
-    let string = 34 ∷ (contents ++ 34 ∷ []) in
-    ends_as text _ is (ends_after (codes "tag") (first
-    ++ (name ++ (second ++ (relation_text relation ++ (third ++ string)))))
-    (ends_after first (name ++ (second ++ (relation_text relation ++ (third ++ string))))
-    (ends_after name (second ++ (relation_text relation ++ (third ++ string)))
-    (ends_after second (relation_text relation ++ (third ++ string))
-    (ends_after (relation_text relation) (third
-    ++ string) (ends_after third string (34 ∷ contents, 34, refl, refl)))))))
+game_ends text (Tag names value) spells = tag_ends text names value spells
 game_ends text (Moves words) ((gap, is, g), are) =
     ends_as text _ is (ends_after (codes "moves") (gap
     ++ words) (ends_after gap words (words_end words are)))

@@ -1,9 +1,10 @@
 -- Values that stand in a relation.
-use Rattle.std.proofs.Common.{◌↔◌, subst, List, ℕ, Bool, IsTrue}
+use Rattle.std.proofs.Common.{◌≡◌, ◌↔◌, sym, ap, ◌∙◌, subst, List, ℕ, Bool, IsTrue, Some, None}
 use Rattle.pgn_text.specs.Public.Strings.{IsContents}
 use Rattle.pgn_text.specs.Shared.StringTexts.{value_of}
 use Rattle.pgn_text.proofs.Values.{has_value, one_value}
-use Rattle.pgn_criteria.specs.Public.Comparing.{Allows, Stands}
+use Rattle.pgn_criteria.specs.Public.Comparing.{Allows, Stands, Compares, IsNumber, number_in}
+use Rattle.pgn_criteria.specs.declared.compare.Comparison.{Comparison}
 use Rattle.pgn_criteria.specs.declared.compare.Relation.{Relation}
 
 -- contents have one value, so their values decide
@@ -29,3 +30,32 @@ stands_so relation given text r of_given of_text reports =
           (subst (Allows relation stands.value)
           (one_value text stands.other stands.other_signs stands.other_has) stands.allowed)),
     )
+
+some_same : {a b : ℕ} → Some a ≡ Some b → a ≡ b
+some_same e = cc
+
+-- and so it is of the number that the value is, where it is one
+pub number_so : (comparison : Comparison) (given : List ℕ) (number own : ℕ) (r : Bool)
+    → IsContents given → number_in (value_of given) ≡ Some own
+    → (IsTrue r ↔ Compares comparison own number) → IsTrue r ↔ IsNumber comparison given number
+number_so comparison given number own r good is reports =
+    let it = has_value given good in (
+      λ t. record {
+        value = value_of given;
+        signs = it.0;
+        has = it.1;
+        own = own;
+        is = is;
+        holds = reports.0 t;
+      },
+      λ stands. reports.1 (subst (λ n. Compares comparison n number)
+          (some_same (sym stands.is
+          ∙ ap number_in (one_value given stands.value stands.signs stands.has) ∙ is))
+          stands.holds),
+    )
+
+pub number_missing : (comparison : Comparison) (given : List ℕ) (number : ℕ) → IsContents given
+    → number_in (value_of given) ≡ None → IsNumber comparison given number → ⊥
+number_missing comparison given number good none it =
+    let both : Some it.own ≡ None = sym it.is
+    ∙ ap number_in (one_value given it.value it.signs it.has) ∙ none in cc

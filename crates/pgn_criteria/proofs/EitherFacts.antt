@@ -10,10 +10,8 @@ use Rattle.pgn_criteria.specs.Public.Patterns.{FitsPattern}
 use Rattle.pgn_criteria.specs.Private.Stages.{SaysOfSeen, OfSeen, AllSaid, EachOfSeen, AllOfSeen}
 use Rattle.pgn_criteria.specs.Private.Stages.{AreFixed, IsMirrorOf, IsMirrored, AreMirrored}
 use Rattle.pgn_criteria.specs.declared.condition.PositionCondition.{PositionCondition}
-use Rattle.pgn_criteria.specs.declared.condition.PositionClaim.{PositionClaim}
 use Rattle.pgn_criteria.specs.declared.condition.PositionClaim.TheVariants.{Fen, Flip, Material}
-use Rattle.pgn_criteria.specs.declared.condition.PositionClaim.TheVariants.{Turn, Check, Mate}
-use Rattle.pgn_criteria.specs.declared.condition.PositionClaim.TheVariants.{Stalemate}
+use Rattle.pgn_criteria.specs.declared.condition.PositionClaim.TheVariants.{Turn}
 use Rattle.pgn_criteria.specs.declared.material.Limits.{Limits}
 use Rattle.pgn_criteria.proofs.MirrorFacts.{flipped_mirrored, material_mirrored, turn_exchanged}
 use Rattle.pgn_criteria.proofs.TakenFacts.{same_taken}

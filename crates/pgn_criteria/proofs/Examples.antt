@@ -10,7 +10,7 @@ use Rattle.chess.specs.declared.board.man.Man.{Man}
 use Rattle.chess.specs.declared.board.man.Side.TheVariants.{White, Black}
 use Rattle.chess.specs.declared.board.man.Kind.TheVariants.{King, Queen, Pawn, Rook}
 use Rattle.pgn_text.specs.Public.Strings.{Single, Escaped}
-use Rattle.pgn_criteria.specs.Public.Comparing.{number_in, order_of, Allows, Stands}
+use Rattle.pgn_criteria.specs.Public.Comparing.{number_in, order_of, Allows, Stands, IsNumber}
 use Rattle.pgn_criteria.specs.Public.Patterns.{CanBeSplit, IsStretch}
 use Rattle.pgn_criteria.specs.Private.Items.{items_of}
 use Rattle.pgn_criteria.specs.Public.Patterns.IsStretch.{spelled, any, occupied, white, black, many}
@@ -21,7 +21,10 @@ use Rattle.pgn_criteria.specs.Public.Mirrors.{across, beside}
 use Rattle.pgn_game.specs.Public.Replays.{Replay}
 use Rattle.pgn_criteria.specs.Public.MoveTexts.{without_marks, IsLike, GoesOnBy, IsReachedBy}
 use Rattle.pgn_criteria.specs.Public.Meeting.{IsFirst}
+use Rattle.pgn_criteria.proofs.CompareFacts.{number_missing}
 use Rattle.pgn_criteria.proofs.EndFacts.{ends_in, like_ends}
+use Rattle.pgn_criteria.specs.declared.compare.Comparison.{Comparison}
+use Rattle.pgn_criteria.specs.declared.compare.Comparison.TheVariants as compared
 use Rattle.pgn_criteria.proofs.MoveFacts.{byte_back}
 use Rattle.pgn_criteria.specs.declared.compare.Relation.TheVariants.{Equal, Has, Begins}
 use Rattle.pgn_criteria.specs.declared.material.Limit.TheVariants.{Exactly, AtLeast, AtMost}
@@ -48,6 +51,21 @@ a_dot = refl
 
 a_sign : number_in (codes "-1") ≡ None
 a_sign = refl
+
+-- a number is no less than itself, and a question mark is no number
+no_less : IsNumber compared.GreaterOrEqual (codes "27") 27
+no_less = record {
+  value = codes "27";
+  signs = Single 50 ∷ Single 55 ∷ [];
+  has = record { spells = refl; each = refl; gives = refl };
+  own = 27;
+  is = refl;
+  holds = omega arith;
+}
+
+no_question : (comparison : Comparison) (number : ℕ) → IsNumber comparison (codes "?") number → ⊥
+no_question comparison number =
+    number_missing comparison (codes "?") number (Single 63 ∷ [], refl, refl) refl
 
 -- two numbers are ordered as numbers, else the bytes decide, and a beginning is the lesser
 by_number : order_of (codes "9") (codes "10") ≡ order.Less

@@ -1,6 +1,6 @@
 -- What the definitions say of lines that every reader can check.
-use Rattle.std.proofs.Common.{◌==◌, ◌≡◌, ◌≤◌, ◌<◌, ℕ, Bool, true, false, List, [], ◌∷◌, ◌++◌}
-use Rattle.std.proofs.Common.{length, get_or, refl, sym, ap, ◌∙◌, inl, inr, arith, codes}
+use Rattle.std.proofs.Common.{◌≡◌, ◌≤◌, ◌<◌, ℕ, Bool, true, false, List, [], ◌∷◌, ◌++◌, length}
+use Rattle.std.proofs.Common.{get_or, refl, sym, ap, ◌∙◌, inl, inr, arith, codes}
 use Rattle.std.specs.Prelude.{replicate}
 use Rattle.chess.specs.Public.Fen.{parted_at}
 use Rattle.chess.specs.declared.board.man.Kind.{Kind}
@@ -12,7 +12,7 @@ use Rattle.pgn_criteria.specs.Public.Lines.{SpellsGame, SpellsPosition, SpellsMo
 use Rattle.pgn_criteria.specs.Public.Lines.{SpellsCondition, AreNames, SpellsCount, CanBeCompared}
 use Rattle.pgn_criteria.specs.Public.Lines.{Spells, SpellsLimits, IsLimitIn, IsMoveWord, IsMoveLike}
 use Rattle.pgn_criteria.specs.Public.Lines.{a_word, and_words, IsLine, Accepts, alternatives_of}
-use Rattle.pgn_criteria.specs.Public.Lines.{SpellsTurned}
+use Rattle.pgn_criteria.specs.Public.Lines.{SpellsTurned, SpellsDigits}
 use Rattle.pgn_criteria.specs.Public.Lines.SpellsLimit.{one, exactly, at_least, at_most, any}
 use Rattle.pgn_criteria.specs.Public.Comparing.{Compares}
 use Rattle.pgn_criteria.specs.Public.Materials.{limit_of}
@@ -27,6 +27,7 @@ use Rattle.pgn_criteria.specs.declared.condition.Condition.{Condition}
 use Rattle.pgn_criteria.specs.Private.Reading.{run_of}
 use Rattle.pgn_criteria.specs.Public.Conditions.{Conditions, no_conditions}
 use Rattle.pgn_criteria.specs.declared.condition.Condition.TheVariants.{Game, Position, Move, Span}
+use Rattle.pgn_criteria.specs.declared.condition.ValueClaim.TheVariants.{Text, Number}
 use Rattle.pgn_criteria.specs.declared.condition.GameClaim.TheVariants.{Tag, Moves, Plies, Result}
 use Rattle.pgn_criteria.specs.declared.condition.PositionCondition.{PositionCondition}
 use Rattle.pgn_criteria.specs.declared.condition.PositionClaim.{PositionClaim}
@@ -48,48 +49,75 @@ turn = (codes "  ", refl, ((λ none. cc), refl))
 
 -- tag A >= "10"
 tag : SpellsGame (codes "tag A >= "
-    ++ (34 ∷ 49 ∷ 48 ∷ 34 ∷ [])) (Tag (codes "A") GreaterOrEqual (codes "10"))
+    ++ (34 ∷ 49 ∷ 48 ∷ 34 ∷ [])) (Tag (codes "A") (Text GreaterOrEqual (codes "10")))
 tag = (
-  codes " ",
-  codes " ",
-  codes " ",
-  refl,
-  ((λ none. cc), refl),
-  ((λ none. cc), refl),
-  ((λ none. cc), refl),
-  (((λ none. cc), refl), tt),
+  (
+    codes " ",
+    codes " ",
+    codes " ",
+    refl,
+    ((λ none. cc), refl),
+    ((λ none. cc), refl),
+    ((λ none. cc), refl),
+    (((λ none. cc), refl), tt),
+  ),
   (Single 49 ∷ Single 48 ∷ [], refl, refl),
   (λ is. cc),
 )
 
+-- number A <= 27
+number : SpellsGame (codes "number A <= 27") (Tag (codes "A") (Number LessOrEqual 27))
+number = (
+  codes "27",
+  (
+    codes " ",
+    codes " ",
+    codes " ",
+    refl,
+    ((λ none. cc), refl),
+    ((λ none. cc), refl),
+    ((λ none. cc), refl),
+    (((λ none. cc), refl), tt),
+  ),
+  record { digits = refl; short = (omega arith, omega arith); value = refl },
+)
+
+-- ten digits are too many
+ten_digits : (count : ℕ) → SpellsDigits 9 (codes "1000000000") count → ⊥
+ten_digits count spells = let short : 10 ≤ 9 = spells.short.1 in omega arith
+
 -- tag A begins "C"
 tag_begins : SpellsGame (codes "tag A begins "
-    ++ (34 ∷ 67 ∷ 34 ∷ [])) (Tag (codes "A") Begins (codes "C"))
+    ++ (34 ∷ 67 ∷ 34 ∷ [])) (Tag (codes "A") (Text Begins (codes "C")))
 tag_begins = (
-  codes " ",
-  codes " ",
-  codes " ",
-  refl,
-  ((λ none. cc), refl),
-  ((λ none. cc), refl),
-  ((λ none. cc), refl),
-  (((λ none. cc), refl), tt),
+  (
+    codes " ",
+    codes " ",
+    codes " ",
+    refl,
+    ((λ none. cc), refl),
+    ((λ none. cc), refl),
+    ((λ none. cc), refl),
+    (((λ none. cc), refl), tt),
+  ),
   (Single 67 ∷ [], refl, refl),
   (λ is. cc),
 )
 
 -- tag A|B begins "C" names two tags
 two_tags : SpellsGame (codes "tag A|B begins "
-    ++ (34 ∷ 67 ∷ 34 ∷ [])) (Tag (codes "A|B") Begins (codes "C"))
+    ++ (34 ∷ 67 ∷ 34 ∷ [])) (Tag (codes "A|B") (Text Begins (codes "C")))
 two_tags = (
-  codes " ",
-  codes " ",
-  codes " ",
-  refl,
-  ((λ none. cc), refl),
-  ((λ none. cc), refl),
-  ((λ none. cc), refl),
-  (((λ none. cc), refl), (((λ none. cc), refl), tt)),
+  (
+    codes " ",
+    codes " ",
+    codes " ",
+    refl,
+    ((λ none. cc), refl),
+    ((λ none. cc), refl),
+    ((λ none. cc), refl),
+    (((λ none. cc), refl), (((λ none. cc), refl), tt)),
+  ),
   (Single 67 ∷ [], refl, refl),
   (λ is. cc),
 )

@@ -1,6 +1,6 @@
 -- Whether a position of a sound game meets criteria is settled.
 use Rattle.std.proofs.Common.{◌≡◌, ◌<◌, ℕ, zero, suc, ◌+◌, Bool, true, false, List, [], ◌∷◌, length}
-use Rattle.std.proofs.Common.{Option, Some, None, refl, ap, ◌∙◌, sym, subst, inl, inr, arith}
+use Rattle.std.proofs.Common.{Some, None, refl, ap, ◌∙◌, sym, subst, inl, inr, arith}
 use Rattle.std.specs.Prelude.{codes, if◌then◌else◌}
 use Rattle.std.specs.List.{slice_get}
 use Rattle.chess.specs.Public.Fen.{parted_at}
@@ -21,19 +21,21 @@ use Rattle.pgn_game.specs.Public.MainLines.{main_words}
 use Rattle.pgn_game.specs.Public.Replays.{Replay}
 use Rattle.pgn_game.proofs.AnAnswer.{start_on_board}
 use Rattle.pgn_game.proofs.OnBoard.{line_on_board, line_legal}
-use Rattle.pgn_criteria.specs.Public.Meeting.{Heading, HasOneOf, IsSoOfGame, IsSoOfMoves, IsSoAt}
-use Rattle.pgn_criteria.specs.Public.Meeting.{Taken, AllTaken, AllHold, HoldsThere, AreAll}
-use Rattle.pgn_criteria.specs.Public.Meeting.{SpanHolds, SpansHold, IsMetBy, SomeHold, Meets}
-use Rattle.pgn_criteria.specs.Public.Meeting.{is_turned, EachHold}
+use Rattle.pgn_criteria.specs.Public.Meeting.{Heading, IsSoOfValue, HasOneOf, IsSoOfGame}
+use Rattle.pgn_criteria.specs.Public.Meeting.{IsSoOfMoves, IsSoAt, Taken, AllTaken, AllHold}
+use Rattle.pgn_criteria.specs.Public.Meeting.{HoldsThere, AreAll, SpanHolds, SpansHold, IsMetBy}
+use Rattle.pgn_criteria.specs.Public.Meeting.{SomeHold, Meets, is_turned, EachHold}
 use Rattle.pgn_criteria.specs.Public.Mirrors.{flipped_men, mirror}
 use Rattle.pgn_criteria.specs.Public.MoveTexts.{without_marks, FitsWord, FitsMove, FitMoves, IsLike}
 use Rattle.pgn_criteria.specs.Public.MoveTexts.{GoesOnBy, IsReachedBy}
 use Rattle.pgn_criteria.specs.Private.Stages.{AreLegal}
 use Rattle.pgn_criteria.specs.Public.Words.{words_of}
-use Rattle.pgn_criteria.specs.Public.Comparing.{Stands, Compares}
+use Rattle.pgn_criteria.specs.Public.Comparing.{Compares}
 use Rattle.pgn_criteria.specs.Public.Laws.{EachPositionMeetsOrDoesNot}
 use Rattle.pgn_criteria.specs.Public.Conditions.{Conditions}
 use Rattle.pgn_criteria.specs.declared.condition.Stated.{Stated}
+use Rattle.pgn_criteria.specs.declared.condition.ValueClaim.{ValueClaim}
+use Rattle.pgn_criteria.specs.declared.condition.ValueClaim.TheVariants.{Text, Number, Date}
 use Rattle.pgn_criteria.specs.declared.condition.GameClaim.{GameClaim}
 use Rattle.pgn_criteria.specs.declared.condition.GameClaim.TheVariants.{Tag, Moves, Plies, Result}
 use Rattle.pgn_criteria.specs.declared.condition.PositionCondition.{PositionCondition}
@@ -45,7 +47,6 @@ use Rattle.pgn_criteria.specs.declared.condition.MoveClaim.{MoveClaim}
 use Rattle.pgn_criteria.specs.declared.condition.MoveClaim.TheVariants.{Next, Played}
 use Rattle.pgn_criteria.specs.declared.condition.SpanClaim.{SpanClaim}
 use Rattle.pgn_criteria.specs.declared.condition.SpanClaim.TheVariants.{For, Count}
-use Rattle.pgn_criteria.specs.declared.compare.Relation.{Relation}
 use Rattle.pgn_criteria.proofs.MeetFacts.{meets_at}
 use Rattle.pgn_criteria.proofs.MoveFacts.{by_move, star_now, star_on, star_none, star_cases}
 use Rattle.pgn_criteria.proofs.MoveFacts.{byte_now, byte_back, byte_none, by_like}
@@ -55,21 +56,23 @@ use Rattle.pgn_criteria.proofs.SpanFacts.{AreFrom, none_from, one_before, none_b
 use Rattle.pgn_criteria.proofs.SpanFacts.{one_number}
 use Rattle.pgn_criteria.proofs.SplitSettled.{settled_pattern}
 use Rattle.pgn_criteria.proofs.StandsSettled.{settled_by, settled_compared, settled_stands}
+use Rattle.pgn_criteria.proofs.StandsSettled.{settled_number}
+use Rattle.pgn_criteria.proofs.DateSettled.{settled_date}
 
 -- ---- tags
 
-settled_tag : (given : Option (List ℕ)) (relation : Relation) (contents : List ℕ)
-    → Settled ((own : List ℕ) × (given ≡ Some own) × Stands relation own contents)
-settled_tag given relation contents =
-    settled_held given (λ own. Stands relation own contents) (λ own.
-    settled_stands relation own contents)
+settled_value : (claim : ValueClaim (List ℕ)) (given : List ℕ) → Settled (IsSoOfValue given claim)
+settled_value (Text relation contents) given = settled_stands relation given contents
+settled_value (Number comparison number) given = settled_number comparison given number
+settled_value (Date comparison days) given = settled_date comparison given days
 
-settled_one_of : (heading : Heading) (relation : Relation) (contents : List ℕ)
-    (names : List (List ℕ)) → Settled (HasOneOf heading relation contents names)
-settled_one_of heading relation contents [] = inr (λ h. h)
-settled_one_of heading relation contents (name ∷ more) =
-    settled_either (settled_tag (heading.named name) relation contents)
-    (settled_one_of heading relation contents more)
+settled_one_of : (heading : Heading) (claim : ValueClaim (List ℕ)) (names : List (List ℕ))
+    → Settled (HasOneOf heading claim names)
+settled_one_of heading claim [] = inr (λ h. h)
+settled_one_of heading claim (name ∷ more) =
+    settled_either
+    (settled_held (heading.named name) (λ given. IsSoOfValue given claim) (settled_value claim))
+    (settled_one_of heading claim more)
 
 -- ---- moves
 
@@ -174,8 +177,8 @@ settled_taken true (inr none) = inl none
 
 settled_game : (heading : Heading) (replay : Replay) (claim : GameClaim (List ℕ))
     → AllOnBoard replay → AreLegal replay → Settled (IsSoOfGame heading replay claim)
-settled_game heading replay (Tag names relation contents) on_board legal =
-    settled_one_of heading relation contents (parted_at 124 names)
+settled_game heading replay (Tag names value) on_board legal =
+    settled_one_of heading value (parted_at 124 names)
 settled_game heading replay (Moves words) on_board legal =
     settled_moves replay 0 (words_of words) on_board legal
 settled_game heading replay (Plies comparison count) on_board legal =

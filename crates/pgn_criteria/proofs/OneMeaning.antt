@@ -4,15 +4,16 @@ use Rattle.std.proofs.Common.{◌≡◌, ◌≤◌, ℕ, Bool, true, false, List
 use Rattle.std.proofs.Common.{refl, sym, ap, ◌∙◌, subst, inl, inr, arith}
 use Rattle.std.specs.Prelude.{codes, ◌+◌, ◌==◌, if◌then◌else◌}
 use Rattle.std.proofs.lemmas.List.{append_cancel_right}
-use Rattle.chess.specs.Public.Fen.{parted_at}
+use Rattle.chess.specs.Public.Fen.{parted_at, number_from}
 use Rattle.chess.specs.declared.board.man.Side.{Side}
 use Rattle.chess.specs.declared.board.man.Side.TheVariants.{White, Black}
 use Rattle.chess.specs.declared.board.man.Kind.{Kind}
 use Rattle.chess.specs.declared.board.man.Kind.TheVariants.{King, Queen, Rook, Bishop, Knight, Pawn}
 use Rattle.pgn_criteria.specs.Private.Reading.{run_of, after_word, core_of, ReadsWord}
 use Rattle.pgn_criteria.specs.Public.Materials.{limit_of}
-use Rattle.pgn_criteria.specs.Public.Lines.{SpellsGame, SpellsPosition, SpellsMove, SpellsSpan}
-use Rattle.pgn_criteria.specs.Public.Lines.{SpellsTaken, SpellsTurned, SpellsCondition}
+use Rattle.pgn_criteria.specs.Public.Lines.{SpellsTag, SpellsGame, SpellsPosition, SpellsMove}
+use Rattle.pgn_criteria.specs.Public.Lines.{SpellsDays}
+use Rattle.pgn_criteria.specs.Public.Lines.{SpellsSpan, SpellsTaken, SpellsTurned, SpellsCondition}
 use Rattle.pgn_criteria.specs.Public.Lines.{SpellsLimits, Spells, IsLine, AreLines, side_text}
 use Rattle.pgn_criteria.specs.Public.Lines.{relation_text, comparison_text, alternatives_of}
 use Rattle.pgn_criteria.specs.Public.Lines.{IsFirstBad}
@@ -27,6 +28,8 @@ use Rattle.pgn_criteria.specs.declared.compare.Relation.TheVariants.{GreaterOrEq
 use Rattle.pgn_criteria.specs.declared.material.Limits.{Limits}
 use Rattle.pgn_criteria.specs.declared.condition.Condition.{Condition}
 use Rattle.pgn_criteria.specs.declared.condition.Condition.TheVariants.{Game, Position, Move, Span}
+use Rattle.pgn_criteria.specs.declared.condition.ValueClaim.{ValueClaim}
+use Rattle.pgn_criteria.specs.declared.condition.ValueClaim.TheVariants.{Text, Number, Date}
 use Rattle.pgn_criteria.specs.declared.condition.GameClaim.{GameClaim}
 use Rattle.pgn_criteria.specs.declared.condition.GameClaim.TheVariants.{Tag, Moves, Plies, Result}
 use Rattle.pgn_criteria.specs.declared.condition.PositionClaim.{PositionClaim}
@@ -42,15 +45,16 @@ use Rattle.pgn_criteria.specs.declared.line.Meaning.TheVariants.{Nothing, Or, As
 use Rattle.pgn_criteria.proofs.TurnFacts.{turn_read}
 use Rattle.pgn_criteria.proofs.FenFacts.{fen_read, flip_read}
 use Rattle.pgn_criteria.proofs.PliesFacts.{IsComparedRead, plies_read, counted_read, for_read}
-use Rattle.pgn_criteria.proofs.TagFacts.{IsTagRead, tag_read}
+use Rattle.pgn_criteria.proofs.DayTextFacts.{one_days}
+use Rattle.pgn_criteria.proofs.TagFacts.{tag_read, number_read, date_read, named_once, quoted}
 use Rattle.pgn_criteria.proofs.MoveWordFacts.{moves_read, next_read, played_read}
 use Rattle.pgn_criteria.proofs.ResultFacts.{result_read}
 use Rattle.pgn_criteria.proofs.MaterialFacts.{IsMaterialRead, material_read}
 use Rattle.pgn_criteria.proofs.LimitFacts.{limits_given}
-use Rattle.pgn_criteria.proofs.ClaimFacts.{AreClaims, total, is_word, kind_at, one_own, game_key}
-use Rattle.pgn_criteria.proofs.ClaimFacts.{games_are, position_key, positions_are, move_key}
-use Rattle.pgn_criteria.proofs.ClaimFacts.{moves_are, span_key, spans_are, taken_own, taken_read}
-use Rattle.pgn_criteria.proofs.ClaimFacts.{taken_word, taken_either, same_key}
+use Rattle.pgn_criteria.proofs.ClaimFacts.{AreClaims, total, is_word, kind_at, one_own, tag_key}
+use Rattle.pgn_criteria.proofs.ClaimFacts.{game_key, games_are, position_key, positions_are}
+use Rattle.pgn_criteria.proofs.ClaimFacts.{move_key, moves_are, span_key, spans_are, taken_own}
+use Rattle.pgn_criteria.proofs.ClaimFacts.{taken_read, taken_word, taken_either, same_key}
 use Rattle.pgn_criteria.proofs.ConditionFacts.{line_read, either_read, turned_own}
 
 -- texts of relations and sides are those of one
@@ -108,29 +112,6 @@ one_limits : (text : List ℕ) (a b : Limits) → SpellsLimits text a → Spells
 one_limits text a b is has =
     same_limits a b (λ kind. limits_given text a is kind ∙ sym (limits_given text b has kind))
 
--- claims of one word
-one_tag : (text name other : List ℕ) (relation reverse : Relation) (contents more : List ℕ)
-    → IsTagRead text name relation contents → IsTagRead text other reverse more
-    → Tag name relation contents ≡ Tag other reverse more
-one_tag text name other relation reverse contents more is has =
-    let names : name ≡ other = sym is.name_is ∙ has.name_is in
-    let relations : relation ≡ reverse =
-    one_relation relation reverse (sym is.operator_is ∙ has.operator_is) in
-    let strings : contents ≡ more = one_contents contents more (sym is.string_is ∙ has.string_is) in
-    ap (λ x. Tag x relation contents) names ∙ ap (λ x. Tag other x contents) relations
-    ∙ ap (λ x. Tag other reverse x) strings
-
-one_material : (text : List ℕ) (white black first second : Limits) → IsMaterialRead text white black
-    → IsMaterialRead text first second
-    → ◌≡◌ {A = PositionClaim (List ℕ)} (Material white black) (Material first second)
-one_material text white black first second is has =
-    let whites : white ≡ first =
-    one_limits (run_of (after_word text)) white first is.white_is has.white_is in
-    let blacks : black ≡ second =
-    one_limits (after_word (after_word (after_word text))) black second is.black_is has.black_is
-    in
-    ap (λ x. Material x black) whites ∙ ap (λ x. Material first x) blacks
-
 abbrev pub comparison_at : ℕ → Comparison
 comparison_at n = if n == 61 then compared.Equal else if n == 122 then compared.Unequal
     else if n == 60 then compared.Less else if n == 121 then compared.LessOrEqual else if n == 62
@@ -149,6 +130,47 @@ one_comparison : (a b : Comparison) → comparison_text a ≡ comparison_text b 
 one_comparison a b e = sym (comparison_back a) ∙ ap (λ x. comparison_at (total x)) e
     ∙ comparison_back b
 
+-- claims of one word
+one_tag : (text names other : List ℕ) (c d : ValueClaim (List ℕ)) → SpellsTag text names c
+    → SpellsTag text other d → tag_key c ≡ tag_key d → (names ≡ other) × (c ≡ d)
+one_tag text names other (Text relation contents) (Text reverse more) spells has same =
+    let read = named_once (codes "tag") text names other (relation_text relation)
+    (relation_text reverse) (quoted contents) (quoted more)
+    (tag_read text names relation contents spells) (tag_read text other reverse more has) in
+    let relations = one_relation relation reverse read.1 in
+    let strings = one_contents contents more read.2 in
+    (read.0, ap (λ x. Text x contents) relations ∙ ap (λ x. Text reverse x) strings)
+one_tag text names other (Number comparison number) (Number sign more) spells has same =
+    let is = number_read text names comparison number spells in
+    let too = number_read text other sign more has in
+    let read = named_once (codes "number") text names other (comparison_text comparison)
+    (comparison_text sign) is.0 too.0 is.1 too.1 in
+    let signs = one_comparison comparison sign read.1 in
+    let numbers : number ≡ more = is.2.value ∙ ap (number_from 0) read.2 ∙ sym too.2.value in
+    (read.0, ap (λ x. Number x number) signs ∙ ap (λ x. Number sign x) numbers)
+one_tag text names other (Date comparison days) (Date sign more) spells has same =
+    let is = date_read text names comparison days spells in
+    let too = date_read text other sign more has in
+    let read = named_once (codes "date") text names other (comparison_text comparison)
+    (comparison_text sign) is.0 too.0 is.1 too.1 in
+    let signs = one_comparison comparison sign read.1 in
+    let spelled = subst (λ x. SpellsDays (parted_at 46 x) days) read.2 is.2 in
+    let all = one_days (parted_at 46 too.0) days more spelled too.2 in
+    (read.0, ap (λ x. Date x days) signs ∙ ap (λ x. Date sign x) all)
+one_tag text names other c d spells has same =
+    let e : total (tag_key c) ≡ total (tag_key d) = ap total same in absurd (omega arith)
+
+one_material : (text : List ℕ) (white black first second : Limits) → IsMaterialRead text white black
+    → IsMaterialRead text first second
+    → ◌≡◌ {A = PositionClaim (List ℕ)} (Material white black) (Material first second)
+one_material text white black first second is has =
+    let whites : white ≡ first =
+    one_limits (run_of (after_word text)) white first is.white_is has.white_is in
+    let blacks : black ≡ second =
+    one_limits (after_word (after_word (after_word text))) black second is.black_is has.black_is
+    in
+    ap (λ x. Material x black) whites ∙ ap (λ x. Material first x) blacks
+
 one_compared : (key text : List ℕ) (comparison other : Comparison) (count number : ℕ)
     → IsComparedRead key text comparison count → IsComparedRead key text other number
     → (comparison ≡ other) × (count ≡ number)
@@ -163,12 +185,33 @@ one_fen : (text pattern other : List ℕ) → SpellsPosition text (Fen pattern)
 one_fen text pattern other spells has =
     sym (fen_read text pattern spells).1 ∙ (fen_read text other has).1
 
+-- of which form a claim on the game is, and that its key word tells it
+abbrev form : GameClaim (List ℕ) → ℕ
+form (Tag names value) = 1
+form (Moves words) = 2
+form (Plies comparison count) = 3
+form (Result result) = 4
+
+abbrev form_at : ℕ → ℕ
+form_at n = if n == 554 then 2 else if n == 541 then 3 else if n == 671 then 4 else 1
+
+form_back : (claim : GameClaim (List ℕ)) → form_at (total (game_key claim)) ≡ form claim
+form_back (Tag names (Text relation contents)) = refl
+form_back (Tag names (Number comparison number)) = refl
+form_back (Tag names (Date comparison days)) = refl
+form_back (Moves words) = refl
+form_back (Plies comparison count) = refl
+form_back (Result result) = refl
+
 one_game : (text : List ℕ) (c d : GameClaim (List ℕ)) → SpellsGame text c → SpellsGame text d
     → c ≡ d
 unfolding games_are
-one_game text (Tag name relation contents) (Tag other reverse more) spells has =
-    one_tag text name other relation reverse contents more
-    (tag_read text name relation contents spells) (tag_read text other reverse more has)
+one_game text (Tag names value) (Tag other claim) spells has =
+    let keys =
+    same_key SpellsGame games_are text false false (Tag names value) (Tag other claim) spells
+    has in
+    let same = one_tag text names other value claim spells has keys in
+    ap (λ x. Tag x value) same.0 ∙ ap (λ x. Tag other x) same.1
 one_game text (Moves words) (Moves other) spells has =
     ap Moves (sym (moves_read text words spells).1 ∙ (moves_read text other has).1)
 one_game text (Plies comparison count) (Plies other number) spells has =
@@ -179,8 +222,9 @@ one_game text (Plies comparison count) (Plies other number) spells has =
 one_game text (Result result) (Result other) spells has =
     ap Result (sym (result_read text result spells).1 ∙ (result_read text other has).1)
 one_game text c d spells has =
-    let e : total (game_key c) ≡ total (game_key d) =
-    ap total (same_key SpellsGame games_are text false false c d spells has) in absurd (omega arith)
+    let keys = same_key SpellsGame games_are text false false c d spells has in
+    let e : form c ≡ form d =
+    sym (form_back c) ∙ ap (λ x. form_at (total x)) keys ∙ form_back d in absurd (omega arith)
 
 one_position : (text : List ℕ) (c d : PositionClaim (List ℕ)) → SpellsPosition text c
     → SpellsPosition text d → c ≡ d

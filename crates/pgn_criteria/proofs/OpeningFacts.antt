@@ -1,7 +1,6 @@
 -- Conditions on the first moves of a game, decided by its opening.
-use Rattle.std.proofs.Common.{◌↔◌, ◌⊎◌, ◌+◌, ◌<◌, ◌≤◌, ◌≡◌, if◌then◌else◌, ℕ, zero, suc, Bool, true}
-use Rattle.std.proofs.Common.{false, List, [], ◌∷◌, length, map, Option, inl, inr, refl, sym, ap}
-use Rattle.std.proofs.Common.{subst, ◌∙◌, arith}
+use Rattle.std.proofs.Common.{◌↔◌, ◌⊎◌, ◌+◌, ◌<◌, ◌≤◌, ◌≡◌, ℕ, zero, suc, List, [], ◌∷◌, length}
+use Rattle.std.proofs.Common.{map, Option, inl, inr, refl, sym, ap, subst, ◌∙◌, arith}
 use Rattle.std.specs.List.{slice_get}
 use Rattle.chess.specs.Public.Positions.{State}
 use Rattle.pgn_text.specs.Public.Games.{Item}
@@ -20,7 +19,7 @@ use Rattle.pgn_criteria.specs.Private.Stages.{AsksWithin, AllClaims, EachIs, All
 use Rattle.pgn_criteria.specs.Private.Stages.{EachAsksWithin, FitTheSame, on_positions}
 use Rattle.pgn_criteria.specs.declared.condition.Stated.{Stated}
 use Rattle.pgn_criteria.specs.declared.condition.GameClaim.{GameClaim}
-use Rattle.pgn_criteria.specs.declared.condition.GameClaim.TheVariants.{Tag, Moves, Plies, Result}
+use Rattle.pgn_criteria.specs.declared.condition.GameClaim.TheVariants.{Moves, Plies}
 use Rattle.pgn_criteria.specs.declared.condition.MoveClaim.{MoveClaim}
 use Rattle.pgn_criteria.specs.declared.condition.MoveClaim.TheVariants.{Next, Played}
 use Rattle.pgn_criteria.proofs.SpanFacts.{spans_same, no_spans_hold}
@@ -114,12 +113,10 @@ some_hold_there heading replay other ply P Such same (asked ∷ more) such =
 so_within : (heading : Heading) (most : ℕ) (replay other : Replay) → FitTheSame most replay other
     → (claim : GameClaim (List ℕ)) → AsksWithin most claim
     → IsSoOfGame heading replay claim ↔ IsSoOfGame heading other claim
-so_within heading most replay other same (Tag name relation contents) within =
-    (λ holds. holds, λ holds. holds)
 so_within heading most replay other same (Moves words) within = same.words (words_of words) within
 so_within heading most replay other same (Plies comparison count) within =
     same.counts comparison count within
-so_within heading most replay other same (Result result) within = (λ holds. holds, λ holds. holds)
+so_within heading most replay other same claim within = (λ holds. holds, λ holds. holds)
 
 met_within : (heading : Heading) (most : ℕ) (replay other : Replay) → FitTheSame most replay other
     → (ply : ℕ) (P : State) (asked : Conditions) → AllAskWithin most asked
@@ -187,12 +184,11 @@ game_alike : (heading : Heading) (replay other : Replay) → replay.positions �
     → replay.played ≡ other.played
     → (claim : GameClaim (List ℕ)) → IsSoOfGame heading replay claim
     → IsSoOfGame heading other claim
-game_alike heading replay other positions played (Tag name relation contents) so = so
 game_alike heading replay other positions played (Moves words) so =
     fits_there replay other positions played 0 (words_of words) so
 game_alike heading replay other positions played (Plies comparison count) so =
     subst (λ ms. Compares comparison (length ms) count) played so
-game_alike heading replay other positions played (Result result) so = so
+game_alike heading replay other positions played claim so = so
 
 moves_alike : (replay other : Replay) → replay.positions ≡ other.positions
     → replay.played ≡ other.played → (ply : ℕ)

@@ -12,8 +12,10 @@ use Rattle.pgn_criteria.specs.Private.Stages.{IsGood, AreGood, AllGood}
 use Rattle.pgn_criteria.specs.declared.condition.Condition.{Condition}
 use Rattle.pgn_criteria.specs.Public.Conditions.{Conditions, no_conditions, with_condition}
 use Rattle.pgn_criteria.specs.declared.condition.Condition.TheVariants.{Game, Position, Move, Span}
+use Rattle.pgn_criteria.specs.declared.condition.ValueClaim.TheVariants.{Text, Date}
 use Rattle.pgn_criteria.specs.declared.condition.GameClaim.{GameClaim}
-use Rattle.pgn_criteria.specs.declared.condition.GameClaim.TheVariants.{Tag, Moves, Plies, Result}
+use Rattle.pgn_criteria.specs.declared.condition.GameClaim.TheVariants.{Tag}
+use Rattle.pgn_criteria.proofs.DayTextFacts.{days_good}
 use Rattle.pgn_criteria.specs.declared.line.Meaning.{Meaning}
 use Rattle.pgn_criteria.specs.declared.line.Meaning.TheVariants.{Nothing, Or, Asks}
 
@@ -287,10 +289,10 @@ condition_added done begun condition more =
 
 -- conditions that are spelled have the contents of strings
 claim_good : (text : List ℕ) (claim : GameClaim (List ℕ)) → SpellsGame text claim → IsGood claim
-claim_good text (Tag name relation contents) spells = spells.8
-claim_good text (Moves words) spells = tt
-claim_good text (Plies comparison count) spells = tt
-claim_good text (Result result) spells = tt
+claim_good text (Tag names (Text relation contents)) spells = spells.1
+claim_good text (Tag names (Date comparison days)) spells =
+    days_good (parted_at 46 spells.0) days spells.2
+claim_good text claim spells = tt
 
 taken_good : (text : List ℕ) (denied : Bool) (claim : GameClaim (List ℕ))
     → SpellsTaken SpellsGame text denied claim → IsGood claim

@@ -4,8 +4,8 @@ use Rattle.std.specs.Prelude.{codes}
 use Rattle.std.proofs.lemmas.Bool.Decides.{nat_tests}
 use Rattle.chess.specs.Public.Fen.{is_digit}
 use Rattle.pgn_criteria.specs.Private.Reading.{run_of, after_word}
-use Rattle.pgn_criteria.specs.Public.Lines.{SpellsGame, SpellsSpan, SpellsCompared, SpellsCount}
-use Rattle.pgn_criteria.specs.Public.Lines.{comparison_text}
+use Rattle.pgn_criteria.specs.Public.Lines.{SpellsGame, SpellsSpan, SpellsCompared, SpellsDigits}
+use Rattle.pgn_criteria.specs.Public.Lines.{SpellsCount, comparison_text}
 use Rattle.pgn_criteria.specs.declared.compare.Comparison.{Comparison}
 use Rattle.pgn_criteria.specs.declared.compare.Comparison.TheVariants.{Equal, Unequal, Less}
 use Rattle.pgn_criteria.specs.declared.compare.Comparison.TheVariants.{LessOrEqual, Greater}
@@ -16,7 +16,7 @@ use Rattle.pgn_criteria.proofs.SolidFacts.{is_solid, AreSolid, BeginsSolid, Ends
 use Rattle.pgn_criteria.proofs.SolidFacts.{solid_begins, solid_ends, begins_front, front_some}
 use Rattle.pgn_criteria.proofs.SolidFacts.{word_read, word_spelled}
 
-comparison_solid : (comparison : Comparison) → AreSolid (comparison_text comparison)
+pub comparison_solid : (comparison : Comparison) → AreSolid (comparison_text comparison)
 comparison_solid Equal = refl
 comparison_solid Unequal = refl
 comparison_solid Less = refl
@@ -32,24 +32,27 @@ comparison_some LessOrEqual none = cc
 comparison_some Greater none = cc
 comparison_some GreaterOrEqual none = cc
 
-comparison_begins : (comparison : Comparison) → BeginsSolid (comparison_text comparison)
+pub comparison_begins : (comparison : Comparison) → BeginsSolid (comparison_text comparison)
 comparison_begins comparison =
     solid_begins (comparison_text comparison) (comparison_some comparison)
     (comparison_solid comparison)
 
-digit_solid : (b : ℕ) → is_digit b ≡ true → is_solid b ≡ true
+pub digit_solid : (b : ℕ) → is_digit b ≡ true → is_solid b ≡ true
 digit_solid b is = grind (arith, nat_tests)
 
-count_some : (digits : List ℕ) (count : ℕ) → SpellsCount digits count → digits ≢ []
+pub count_some : {most : ℕ} (digits : List ℕ) (count : ℕ) → SpellsDigits most digits count
+    → digits ≢ []
 count_some [] count spells none = let some : 1 ≤ 0 = spells.short.0 in omega arith
 count_some (b ∷ x) count spells none = cc
 
-count_begins : (digits : List ℕ) (count : ℕ) → SpellsCount digits count → BeginsSolid digits
+pub count_begins : {most : ℕ} (digits : List ℕ) (count : ℕ) → SpellsDigits most digits count
+    → BeginsSolid digits
 count_begins digits count spells =
     solid_begins digits (count_some digits count spells)
     (all_solid is_digit digit_solid digits spells.digits)
 
-pub count_ends : (digits : List ℕ) (count : ℕ) → SpellsCount digits count → EndsSolid digits
+pub count_ends : {most : ℕ} (digits : List ℕ) (count : ℕ) → SpellsDigits most digits count
+    → EndsSolid digits
 count_ends digits count spells =
     solid_ends digits (count_some digits count spells)
     (all_solid is_digit digit_solid digits spells.digits)

@@ -1,7 +1,7 @@
 -- Conditions on a game are what they say of the game alone and what they say of a position.
-use Rattle.std.proofs.Common.{◌≡◌, ◌↔◌, ◌+◌, ◌++◌, ◌<◌, if◌then◌else◌, ℕ, zero, suc, Bool, true}
-use Rattle.std.proofs.Common.{false, List, [], ◌∷◌, length, get_or, Option, Some, None, IsTrue}
-use Rattle.std.proofs.Common.{refl, sym, ◌∙◌, subst, inl, inr, arith}
+use Rattle.std.proofs.Common.{◌≡◌, ◌↔◌, ◌+◌, ◌++◌, ◌<◌, ℕ, zero, suc, Bool, true, false, List, []}
+use Rattle.std.proofs.Common.{◌∷◌, length, get_or, Option, Some, None, IsTrue, refl, sym, ◌∙◌}
+use Rattle.std.proofs.Common.{subst, inl, inr, arith}
 use Rattle.std.proofs.lemmas.Option.{slice_get_within, slice_get-get_or, get_or_from_slice_get}
 use Rattle.std.specs.Prelude.{◌⊎◌, replicate}
 use Rattle.std.specs.Option.{unwrap_or}
@@ -22,7 +22,7 @@ use Rattle.pgn_criteria.specs.Private.Stages.{FitsAt, FitsAbout, IsFirstBefore}
 use Rattle.pgn_criteria.specs.Public.Walks.{IsSeenOf}
 use Rattle.pgn_criteria.specs.declared.condition.Stated.{Stated}
 use Rattle.pgn_criteria.specs.declared.condition.GameClaim.{GameClaim}
-use Rattle.pgn_criteria.specs.declared.condition.GameClaim.TheVariants.{Tag, Moves, Plies, Result}
+use Rattle.pgn_criteria.specs.declared.condition.GameClaim.TheVariants.{Moves, Plies}
 use Rattle.pgn_criteria.proofs.SeenFacts.{all_position}
 use Rattle.pgn_criteria.proofs.WalkFacts.{seen_said}
 use Rattle.pgn_criteria.proofs.SpanFacts.{spans_same, no_spans_hold}
@@ -31,10 +31,9 @@ use Rattle.pgn_criteria.proofs.SpanFacts.{spans_same, no_spans_hold}
 one_of_heading : (heading : Heading) (replay : Replay) (denied : Bool) (claim : GameClaim (List ℕ))
     → IsFreeOfMoves claim → SaysOfHeading heading denied claim
     → Taken denied (IsSoOfGame heading replay claim)
-one_of_heading heading replay denied (Tag name relation contents) free reports = reports
 one_of_heading heading replay denied (Moves words) free reports = absurd free
 one_of_heading heading replay denied (Plies comparison count) free reports = absurd free
-one_of_heading heading replay denied (Result result) free reports = reports
+one_of_heading heading replay denied claim free reports = reports
 
 games_of_heading : (heading : Heading) (replay : Replay)
     (games : List (Stated (GameClaim (List ℕ)))) → AllClaims IsFreeOfMoves games
@@ -54,10 +53,9 @@ all_of_heading heading replay conditions free reports =
 
 heading_of_one : (heading : Heading) (replay : Replay) (denied : Bool) (claim : GameClaim (List ℕ))
     → Taken denied (IsSoOfGame heading replay claim) → SaysOfHeading heading denied claim
-heading_of_one heading replay denied (Tag name relation contents) reports = reports
 heading_of_one heading replay denied (Moves words) reports = tt
 heading_of_one heading replay denied (Plies comparison count) reports = tt
-heading_of_one heading replay denied (Result result) reports = reports
+heading_of_one heading replay denied claim reports = reports
 
 heading_of_all : (heading : Heading) (replay : Replay) (games : List (Stated (GameClaim (List ℕ))))
     → AllTaken (IsSoOfGame heading replay) games → AllOfHeading heading games

@@ -1,6 +1,6 @@
 -- Whether the value of a tag stands in a relation to a text is settled.
-use Rattle.std.proofs.Common.{◌≡◌, ◌↔◌, ◌==◌, ◌<◌, ℕ, length, Some, None, Bool, true, false, List}
-use Rattle.std.proofs.Common.{[], ◌∷◌, IsTrue, refl, sym, ap, inl, inr, arith}
+use Rattle.std.proofs.Common.{◌≡◌, ◌↔◌, ◌==◌, ◌<◌, ℕ, length, Option, Some, None, Bool, true, false}
+use Rattle.std.proofs.Common.{List, [], ◌∷◌, IsTrue, refl, sym, ap, inl, inr, arith}
 use Rattle.std.proofs.lemmas.Bool.{eqb-true, cases_lt}
 use Rattle.std.proofs.lemmas.Bool.Decides.{nat_tests}
 use Rattle.std.specs.declared.cmp.Ordering.{Ordering}
@@ -9,14 +9,15 @@ use Rattle.chess.proofs.Settled.{Settled, settled_like, settled_not, settled_tru
 use Rattle.pgn_text.specs.Public.Strings.{IsContents}
 use Rattle.pgn_text.specs.Shared.StringTexts.{contents_front, value_of}
 use Rattle.pgn_text.proofs.Values.{is_contents-none, is_contents-some}
-use Rattle.pgn_criteria.specs.Public.Comparing.{order_of, Allows, Stands, Compares}
+use Rattle.pgn_criteria.specs.Public.Comparing.{order_of, Allows, Stands, Compares, IsNumber}
+use Rattle.pgn_criteria.specs.Public.Comparing.{number_in}
 use Rattle.pgn_criteria.specs.declared.compare.Comparison.{Comparison}
 use Rattle.pgn_criteria.specs.declared.compare.Comparison.TheVariants as compared
 use Rattle.pgn_criteria.specs.declared.compare.Relation.{Relation}
 use Rattle.pgn_criteria.specs.declared.compare.Relation.TheVariants.{Equal, Unequal, Less}
 use Rattle.pgn_criteria.specs.declared.compare.Relation.TheVariants.{LessOrEqual, Greater}
 use Rattle.pgn_criteria.specs.declared.compare.Relation.TheVariants.{GreaterOrEqual, Has, Begins}
-use Rattle.pgn_criteria.proofs.CompareFacts.{stands_so}
+use Rattle.pgn_criteria.proofs.CompareFacts.{stands_so, number_so, number_missing}
 use Rattle.pgn_criteria.proofs.WithinFacts.{begins_next, has_next, has_at_once, has_nothing}
 
 -- where a test of the first fact is one of the second, the second is settled with the first
@@ -32,20 +33,20 @@ settled_test r reports = settled_like reports.0 reports.1 (settled_true r)
 
 -- ---- numbers
 
-settled_below : (a b : ℕ) → Settled (a < b)
-settled_below a b =
+pub settled_less_than : (a b : ℕ) → Settled (a < b)
+settled_less_than a b =
     elim (cases_lt a b) [ inl less ↦ inl less | inr over ↦ inr (λ less. omega (arith, less, over)) ]
 
-settled_same : (a b : ℕ) → Settled (a ≡ b)
+pub settled_same : (a b : ℕ) → Settled (a ≡ b)
 settled_same a b =
     settled_like (eqb-true a b) (λ e. grind (arith, nat_tests)) (settled_true (a == b))
 
 pub settled_compared : (comparison : Comparison) (a b : ℕ) → Settled (Compares comparison a b)
 settled_compared compared.Equal a b = settled_same a b
 settled_compared compared.Unequal a b = settled_not (settled_same a b)
-settled_compared compared.Less a b = settled_below a b
+settled_compared compared.Less a b = settled_less_than a b
 settled_compared compared.LessOrEqual a b = settled_le a b
-settled_compared compared.Greater a b = settled_below b a
+settled_compared compared.Greater a b = settled_less_than b a
 settled_compared compared.GreaterOrEqual a b = settled_le b a
 
 -- ---- the values of tags
@@ -94,7 +95,7 @@ settled_relation Begins a b = settled_begins a b
 -- ---- contents
 
 -- a text is the contents of a string where the longest contents that it begins with are all of it
-settled_contents : (text : List ℕ) → Settled (IsContents text)
+pub settled_contents : (text : List ℕ) → Settled (IsContents text)
 settled_contents text =
     elim (contents_front false text) as (λ o. o ≡ contents_front false text
     → Settled (IsContents text)) [
@@ -119,4 +120,21 @@ settled_stands relation given text = elim (settled_contents given) [
         none (stands.other_signs, stands.other_has.spells, stands.other_has.each))
     | inl of_text ↦ settled_values relation given text of_given of_text
   ]
+]
+
+-- so it is with a number
+settled_found : (comparison : Comparison) (given : List ℕ) (number : ℕ) (found : Option ℕ)
+    → IsContents given → number_in (value_of given) ≡ found
+    → Settled (IsNumber comparison given number)
+settled_found comparison given number None good none =
+    inr (number_missing comparison given number good none)
+settled_found comparison given number (Some own) good is =
+    settled_by (λ r reports. number_so comparison given number own r good is reports)
+    (settled_compared comparison own number)
+
+pub settled_number : (comparison : Comparison) (given : List ℕ) (number : ℕ)
+    → Settled (IsNumber comparison given number)
+settled_number comparison given number = elim (settled_contents given) [
+  | inr none ↦ inr (λ it. none (it.signs, it.has.spells, it.has.each))
+  | inl good ↦ settled_found comparison given number (number_in (value_of given)) good refl
 ]

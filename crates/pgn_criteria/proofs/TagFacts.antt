@@ -1,6 +1,6 @@
 -- Conditions on a tag: what spells one is read as it, and the other way round.
-use Rattle.std.proofs.Common.{◌≡◌, ◌≢◌, ℕ, true, List, [], ◌∷◌, ◌++◌, refl, IsTrue, ap, ◌∙◌, length}
-use Rattle.std.proofs.Common.{drop, arith}
+use Rattle.std.proofs.Common.{◌≡◌, ◌≢◌, ℕ, true, List, [], ◌∷◌, ◌++◌, refl, sym, IsTrue, ap, ◌∙◌}
+use Rattle.std.proofs.Common.{length, drop, arith}
 use Rattle.std.specs.Prelude.{codes}
 use Rattle.std.specs.List.{list_all}
 use Rattle.std.proofs.lemmas.Bool.Decides.{nat_tests}
@@ -8,16 +8,23 @@ use Rattle.std.proofs.lemmas.List.{length-append}
 use Rattle.chess.specs.Public.Fen.{parted_at}
 use Rattle.pgn_text.specs.Public.Bytes.{is_name_byte}
 use Rattle.pgn_text.specs.Public.Strings.{IsContents}
-use Rattle.pgn_criteria.specs.Private.Reading.{run_of, after_word}
-use Rattle.pgn_criteria.specs.Public.Lines.{SpellsGame, AreNames, CanBeCompared, relation_text}
+use Rattle.pgn_criteria.specs.Private.Reading.{after_word, ReadsNamed}
+use Rattle.pgn_criteria.specs.Public.Lines.{SpellsNamed, SpellsTag, AreNames, SpellsDigits}
+use Rattle.pgn_criteria.specs.Public.Lines.{SpellsDays}
+use Rattle.pgn_criteria.specs.Public.Lines.{CanBeCompared, relation_text, comparison_text}
+use Rattle.pgn_criteria.specs.declared.compare.Comparison.{Comparison}
 use Rattle.pgn_criteria.specs.declared.compare.Relation.{Relation}
 use Rattle.pgn_criteria.specs.declared.compare.Relation.TheVariants.{Equal, Unequal, Less}
 use Rattle.pgn_criteria.specs.declared.compare.Relation.TheVariants.{LessOrEqual, Greater}
 use Rattle.pgn_criteria.specs.declared.compare.Relation.TheVariants.{GreaterOrEqual, Has, Begins}
-use Rattle.pgn_criteria.specs.declared.condition.GameClaim.TheVariants.{Tag}
-use Rattle.pgn_criteria.proofs.SolidFacts.{is_solid, AreSolid, EachSolid, all_solid, parts_solid}
-use Rattle.pgn_criteria.proofs.SolidFacts.{solid_begins, begins_front, front_some, word_read}
-use Rattle.pgn_criteria.proofs.SolidFacts.{word_spelled}
+use Rattle.pgn_criteria.specs.declared.condition.ValueClaim.TheVariants.{Text, Number, Date}
+use Rattle.pgn_criteria.specs.declared.dates.Days.{Days}
+use Rattle.pgn_criteria.proofs.PliesFacts.{comparison_solid, comparison_begins, count_begins}
+use Rattle.pgn_criteria.proofs.PliesFacts.{count_some}
+use Rattle.pgn_criteria.proofs.DayTextFacts.{days_some, days_begin}
+use Rattle.pgn_criteria.proofs.SolidFacts.{is_solid, AreSolid, EachSolid, BeginsSolid, all_solid}
+use Rattle.pgn_criteria.proofs.SolidFacts.{parts_solid, solid_begins, begins_front, front_some}
+use Rattle.pgn_criteria.proofs.SolidFacts.{word_read, word_spelled}
 
 name_byte_solid : (b : ℕ) → is_name_byte b ≡ true → is_solid b ≡ true
 name_byte_solid b is = grind (arith, nat_tests)
@@ -61,55 +68,138 @@ relation_some Begins none = cc
 abbrev pub quoted : List ℕ → List ℕ
 quoted contents = 34 ∷ (contents ++ 34 ∷ [])
 
--- the words of the text are those of the condition
-pub record IsTagRead (text names : List ℕ) (relation : Relation) (contents : List ℕ) : Type 0 where
-  pub key_is : run_of text ≡ codes "tag"
-  pub name_is : run_of (after_word text) ≡ names
-  pub operator_is : run_of (after_word (after_word text)) ≡ relation_text relation
-  pub string_is : after_word (after_word (after_word text)) ≡ quoted contents
+pub relation_begins : (relation : Relation) → BeginsSolid (relation_text relation)
+relation_begins relation =
+    solid_begins (relation_text relation) (relation_some relation) (relation_solid relation)
 
-pub tag_read : (text name : List ℕ) (relation : Relation) (contents : List ℕ)
-    → SpellsGame text (Tag name relation contents) → IsTagRead text name relation contents
-tag_read text name relation contents (first, second, third, is, g, h, k, are, good, fits) =
-    let begins = solid_begins name (names_some name are) (names_solid name are) in
-    let string = quoted contents in
-    let operator = relation_text relation ++ (third ++ string) in
-    let named = name ++ (second ++ operator) in
-    let one =
-    word_read text (codes "tag") first named is refl g
-    (begins_front name (second ++ operator) begins) in
-    let two = word_read (after_word text) name second operator one.1 (names_solid name are) h
-    (begins_front (relation_text relation) (third
-    ++ string)
-    (solid_begins (relation_text relation) (relation_some relation) (relation_solid relation)))
-    in
-    let three =
-    word_read (after_word (after_word text)) (relation_text relation) third string two.1
-    (relation_solid relation) k (34, contents ++ 34 ∷ [], refl, refl) in
-    record { key_is = one.0; name_is = two.0; operator_is = three.0; string_is = three.1 }
+names_begin : (names : List ℕ) → AreNames (parted_at 124 names) → BeginsSolid names
+names_begin names are = solid_begins names (names_some names are) (names_solid names are)
 
--- and a text of such words spells it
-pub tag_spelled : (text name : List ℕ) (relation : Relation) (contents : List ℕ)
-    → IsTagRead text name relation contents → AreNames (parted_at 124 name)
-    → IsContents contents → CanBeCompared relation contents
-    → SpellsGame text (Tag name relation contents)
-tag_spelled text name relation contents read are good fits =
+-- what is spelled with names and an operator is read so
+pub named_read : (key text names operator own : List ℕ) → AreSolid key → AreSolid operator
+    → BeginsSolid operator → BeginsSolid own → SpellsNamed key text names operator own
+    → ReadsNamed key text names operator own
+named_read key text names operator own solid sign begins rest (
+  first,
+  second,
+  third,
+  is,
+  g,
+  h,
+  k,
+  are,
+) =
+    let compared = operator ++ (third ++ own) in
+    let named = names ++ (second ++ compared) in
+    let one = word_read text key first named is solid g
+    (begins_front names (second ++ compared) (names_begin names are)) in
+    let two = word_read (after_word text) names second compared one.1 (names_solid names are) h
+    (begins_front operator (third ++ own) begins) in
+    let three = word_read (after_word (after_word text)) operator third own two.1 sign k rest in
+    record { key_is = one.0; name_is = two.0; are = are; operator_is = three.0; own_is = three.1 }
+
+-- and the other way round
+pub named_spelled : (key text names operator own : List ℕ) → BeginsSolid operator → own ≢ []
+    → ReadsNamed key text names operator own → SpellsNamed key text names operator own
+named_spelled key text names operator own begins some reads =
     let three =
-    word_spelled (after_word (after_word text)) (relation_text relation) (quoted contents)
-    read.operator_is read.string_is (λ none. cc) in
-    let two =
-    word_spelled (after_word text) name (relation_text relation
-    ++ (three.0 ++ quoted contents)) read.name_is three.1
-    (front_some (relation_text relation) (three.0
-    ++ quoted contents)
-    (solid_begins (relation_text relation) (relation_some relation) (relation_solid relation)))
-    in
-    let one =
-    word_spelled text (codes "tag") (name
-    ++ (two.0 ++ (relation_text relation ++ (three.0 ++ quoted contents)))) read.key_is two.1
-    (front_some name (two.0 ++ (relation_text relation ++ (three.0 ++ quoted contents)))
-    (solid_begins name (names_some name are) (names_solid name are))) in
-    (one.0, two.0, three.0, one.1, one.2, two.2, three.2, are, good, fits)
+    word_spelled (after_word (after_word text)) operator own reads.operator_is reads.own_is some in
+    let compared = operator ++ (three.0 ++ own) in
+    let two = word_spelled (after_word text) names compared reads.name_is three.1
+    (front_some operator (three.0 ++ own) begins) in
+    let one = word_spelled text key (names ++ (two.0 ++ compared)) reads.key_is two.1
+    (front_some names (two.0 ++ compared) (names_begin names reads.are)) in
+    (one.0, two.0, three.0, one.1, one.2, two.2, three.2, reads.are)
+
+-- in one way
+pub named_once : (key text names other operator sign own more : List ℕ)
+    → ReadsNamed key text names operator own → ReadsNamed key text other sign more
+    → (names ≡ other) × (operator ≡ sign) × (own ≡ more)
+named_once key text names other operator sign own more is has = (
+  sym is.name_is ∙ has.name_is,
+  sym is.operator_is ∙ has.operator_is,
+  sym is.own_is ∙ has.own_is,
+)
+
+-- the operator and what follows it are these
+named_as : (key text names operator sign own more : List ℕ)
+    → ReadsNamed key text names operator own → operator ≡ sign → own ≡ more
+    → ReadsNamed key text names sign more
+named_as key text names operator sign own more reads same too = record {
+  key_is = reads.key_is;
+  name_is = reads.name_is;
+  are = reads.are;
+  operator_is = reads.operator_is ∙ same;
+  own_is = reads.own_is ∙ too;
+}
+
+pub tag_read : (text names : List ℕ) (relation : Relation) (contents : List ℕ)
+    → SpellsTag text names (Text relation contents)
+    → ReadsNamed (codes "tag") text names (relation_text relation) (quoted contents)
+tag_read text names relation contents spells =
+    named_read (codes "tag") text names (relation_text relation) (quoted contents) refl
+    (relation_solid relation) (relation_begins relation) (
+      34,
+      contents ++ 34 ∷ [],
+      refl,
+      refl,
+    ) spells.0
+
+pub tag_spelled : (text names operator string : List ℕ) (relation : Relation)
+    (contents : List ℕ) → ReadsNamed (codes "tag") text names operator string
+    → operator ≡ relation_text relation → string ≡ quoted contents → IsContents contents
+    → CanBeCompared relation contents → SpellsTag text names (Text relation contents)
+tag_spelled text names operator string relation contents reads sign own good fits =
+    let read = named_as (codes "tag") text names operator (relation_text relation) string
+    (quoted contents) reads sign own in
+    let named = named_spelled (codes "tag") text names (relation_text relation) (quoted contents)
+    (relation_begins relation) (λ none. cc) read in
+    (named, good, fits)
+
+-- a number of which the digits end the text
+pub number_read : (text names : List ℕ) (comparison : Comparison) (number : ℕ)
+    → SpellsTag text names (Number comparison number)
+    → (digits : List ℕ)
+    × ReadsNamed (codes "number") text names (comparison_text comparison) digits
+    × SpellsDigits 9 digits number
+number_read text names comparison number (digits, named, counted) =
+    let read = named_read (codes "number") text names (comparison_text comparison) digits refl
+    (comparison_solid comparison) (comparison_begins comparison)
+    (count_begins digits number counted) named in
+    (digits, read, counted)
+
+pub number_spelled : (text names operator digits : List ℕ) (comparison : Comparison) (number : ℕ)
+    → ReadsNamed (codes "number") text names operator digits
+    → operator ≡ comparison_text comparison → SpellsDigits 9 digits number
+    → SpellsTag text names (Number comparison number)
+number_spelled text names operator digits comparison number reads sign counted =
+    let read = named_as (codes "number") text names operator (comparison_text comparison) digits
+    digits reads sign refl in
+    let named = named_spelled (codes "number") text names (comparison_text comparison) digits
+    (comparison_begins comparison) (count_some digits number counted) read in
+    (digits, named, counted)
+
+-- a date of which the last digit ends the text
+pub date_read : (text names : List ℕ) (comparison : Comparison) (days : Days)
+    → SpellsTag text names (Date comparison days)
+    → (date : List ℕ) × ReadsNamed (codes "date") text names (comparison_text comparison) date
+    × SpellsDays (parted_at 46 date) days
+date_read text names comparison days (date, named, spelled) =
+    let read = named_read (codes "date") text names (comparison_text comparison) date refl
+    (comparison_solid comparison) (comparison_begins comparison) (days_begin date days spelled)
+    named in
+    (date, read, spelled)
+
+pub date_spelled : (text names operator date : List ℕ) (comparison : Comparison) (days : Days)
+    → ReadsNamed (codes "date") text names operator date
+    → operator ≡ comparison_text comparison → SpellsDays (parted_at 46 date) days
+    → SpellsTag text names (Date comparison days)
+date_spelled text names operator date comparison days reads sign spelled =
+    let read = named_as (codes "date") text names operator (comparison_text comparison) date date
+    reads sign refl in
+    let named = named_spelled (codes "date") text names (comparison_text comparison) date
+    (comparison_begins comparison) (days_some date days spelled) read in
+    (date, named, spelled)
 
 has_read : (relation : Relation) → relation_text relation ≡ codes "has" → relation ≡ Has
 has_read Equal is = cc

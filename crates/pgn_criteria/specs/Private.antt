@@ -5,6 +5,7 @@ pub mod Counting
 pub mod Layouts
 pub mod Planning
 pub mod Numbers
+pub mod DateEnds
 pub mod Stages
 pub mod Reading
 pub mod Tracks

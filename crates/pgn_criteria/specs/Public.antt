@@ -5,6 +5,7 @@ pub mod Patterns
 pub mod Materials
 pub mod MoveTexts
 pub mod Comparing
+pub mod Dates
 pub mod Conditions
 pub mod Mirrors
 pub mod Meeting

@@ -2,11 +2,12 @@
 ghost use Rattle.std.specs.Prelude.{◌≡◌, ◌∷◌, [], IfOk, OnOk};
 ghost use Rattle.pgn_criteria.specs.Public.Conditions.{no_conditions, with_condition};
 ghost use Rattle.pgn_criteria.specs.Private.Reading.{joined};
-ghost use Rattle.pgn_criteria.specs.Private.Stages.{game_seen, position_seen, move_seen, stated};
-ghost use Rattle.pgn_criteria.specs.Private.Stages.{seen, condition_seen};
+ghost use Rattle.pgn_criteria.specs.Private.Stages.{value_seen, game_seen, position_seen};
+ghost use Rattle.pgn_criteria.specs.Private.Stages.{move_seen, stated, seen, condition_seen};
 
 use crate::condition::{
     Condition, GameClaim, MoveClaim, PositionClaim, PositionCondition, SpanClaim, Stated,
+    ValueClaim,
 };
 use std::alloc::{AllocError, Global};
 use std::marker::Model;
@@ -35,20 +36,30 @@ impl Model for Conditions {
     } };
 }
 
+/// The claim on a tag's value with texts of its own.
+fn owned_value(alloc: Global, claim: ValueClaim<&[u8]>) -> Result<ValueClaim<Vec<u8>>, AllocError>
+    ensures { IfOk result (λ own. value_seen (λ text. text.items) own
+        ≡ value_seen (λ bytes. bytes.now) claim.entry) }
+{
+    match claim {
+        ValueClaim::Text { relation, contents } => Ok(ValueClaim::Text {
+            relation,
+            contents: contents.to_vec(alloc)?,
+        }),
+        ValueClaim::Number { comparison, number } => Ok(ValueClaim::Number { comparison, number }),
+        ValueClaim::Date { comparison, days } => Ok(ValueClaim::Date { comparison, days }),
+    }
+}
+
 /// The claim on the game with texts of its own.
 fn owned_game(alloc: Global, claim: GameClaim<&[u8]>) -> Result<GameClaim<Vec<u8>>, AllocError>
     ensures { IfOk result (λ own. game_seen (λ text. text.items) own
         ≡ game_seen (λ bytes. bytes.now) claim.entry) }
 {
     match claim {
-        GameClaim::Tag {
-            names,
-            relation,
-            contents,
-        } => Ok(GameClaim::Tag {
+        GameClaim::Tag { names, value } => Ok(GameClaim::Tag {
             names: names.to_vec(alloc)?,
-            relation,
-            contents: contents.to_vec(alloc)?,
+            value: owned_value(alloc, value)?,
         }),
         GameClaim::Moves(words) => Ok(GameClaim::Moves(words.to_vec(alloc)?)),
         GameClaim::Plies { comparison, count } => Ok(GameClaim::Plies { comparison, count }),

@@ -1,7 +1,7 @@
 -- How lines are read: the words that the code equals.
 use Rattle.std.specs.Prelude.{◌≡◌, ◌≢◌, true, false, ℕ, ◌-◌, ◌++◌, ◌==◌, if◌then◌else◌, Bool, List}
 use Rattle.std.specs.Prelude.{[], ◌∷◌, reverse, IsTrue, map}
-use Rattle.chess.specs.Public.Fen.{is_digit, is_distinct}
+use Rattle.chess.specs.Public.Fen.{is_digit, is_distinct, parted_at}
 use Rattle.chess.specs.Public.Letters.{kind_letter}
 use Rattle.chess.specs.declared.board.man.Kind.{Kind}
 use Rattle.pgn_criteria.specs.Public.Words.{is_blank}
@@ -11,7 +11,7 @@ use Rattle.pgn_criteria.specs.declared.material.Limit.TheVariants.{AnyNumber}
 use Rattle.pgn_criteria.specs.Public.Conditions.{Conditions}
 use Rattle.pgn_criteria.specs.declared.line.Meaning.{Meaning}
 use Rattle.pgn_criteria.specs.declared.line.Meaning.TheVariants.{Nothing, Or, Asks}
-use Rattle.pgn_criteria.specs.Public.Lines.{SpellsEntries}
+use Rattle.pgn_criteria.specs.Public.Lines.{SpellsEntries, AreNames}
 use Rattle.pgn_criteria.specs.Private.Stages.{condition_seen}
 
 -- the first run of bytes that are no blanks, what follows it, and what follows the blanks that a
@@ -88,6 +88,15 @@ with_open done begun (first ∷ more) = done ++ (joined begun first ∷ more)
 abbrev pub ReadsWord : List ℕ → List ℕ → Bool → List ℕ → Type 0
 ReadsWord word text true own = (run_of text ≡ word) × (own ≡ after_word text)
 ReadsWord word text false own = (run_of text ≢ word) × (own ≡ text)
+
+-- the words of the text: a key word, names of tags with | between, and an operator; and what
+-- follows them
+pub record ReadsNamed (key text names operator own : List ℕ) : Type 0 where
+  pub key_is : run_of text ≡ key
+  pub name_is : run_of (after_word text) ≡ names
+  pub are : AreNames (parted_at 124 names)
+  pub operator_is : run_of (after_word (after_word text)) ≡ operator
+  pub own_is : after_word (after_word (after_word text)) ≡ own
 
 -- the byte *
 abbrev pub is_star : ℕ → Bool

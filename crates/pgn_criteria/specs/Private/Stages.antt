@@ -1,6 +1,6 @@
 -- Conditions by what they are tried on: the game alone, or a position.
 use Rattle.std.specs.Prelude.{◌≡◌, ◌↔◌, ◌≤◌, ◌<◌, ◌+◌, if◌then◌else◌, ℕ, Bool, true, false, List}
-use Rattle.std.specs.Prelude.{[], ◌∷◌, length, map, Option, Some, None, ◌⊎◌}
+use Rattle.std.specs.Prelude.{[], ◌∷◌, length, Option, Some, None, ◌⊎◌}
 use Rattle.chess.specs.Public.Fen.{parted_at}
 use Rattle.chess.specs.Public.Placements.{Placement, opposite}
 use Rattle.chess.specs.Public.Positions.{State}
@@ -20,12 +20,15 @@ use Rattle.pgn_criteria.specs.declared.compare.Comparison.{Comparison}
 use Rattle.pgn_criteria.specs.Public.Meeting.{Heading, HasOneOf, Taken, AllTaken, IsSoOfGame}
 use Rattle.pgn_criteria.specs.Public.Meeting.{IsSoOfMoves, IsSoOf, PositionsHold, is_turned, AreAll}
 use Rattle.pgn_criteria.specs.Public.Meeting.{SpansHold}
+use Rattle.pgn_criteria.specs.Private.DateEnds.{AreGoodDays}
 use Rattle.pgn_criteria.specs.declared.meets.Stage.{Stage}
 use Rattle.pgn_criteria.specs.declared.meets.Stage.TheVariants.{Squares, Men, Attacks, Replies}
 use Rattle.pgn_criteria.specs.declared.condition.Condition.{Condition}
 use Rattle.pgn_criteria.specs.declared.condition.Condition.TheVariants.{Game, Position}
 use Rattle.pgn_criteria.specs.declared.condition.Condition.TheVariants.{Move as Moving, Span}
 use Rattle.pgn_criteria.specs.declared.condition.Stated.{Stated}
+use Rattle.pgn_criteria.specs.declared.condition.ValueClaim.{ValueClaim}
+use Rattle.pgn_criteria.specs.declared.condition.ValueClaim.TheVariants.{Text, Number, Date}
 use Rattle.pgn_criteria.specs.declared.condition.GameClaim.{GameClaim}
 use Rattle.pgn_criteria.specs.declared.condition.GameClaim.TheVariants.{Tag, Moves, Plies, Result}
 use Rattle.pgn_criteria.specs.declared.condition.PositionCondition.{PositionCondition}
@@ -39,8 +42,13 @@ use Rattle.pgn_criteria.specs.declared.condition.SpanClaim.{SpanClaim}
 use Rattle.pgn_criteria.specs.declared.condition.SpanClaim.TheVariants.{For, Count}
 
 -- claims and conditions by the bytes of their texts
+abbrev pub value_seen : {T : Type 0} → (T → List ℕ) → ValueClaim T → ValueClaim (List ℕ)
+value_seen bytes (Text relation contents) = Text relation (bytes contents)
+value_seen bytes (Number comparison number) = Number comparison number
+value_seen bytes (Date comparison days) = Date comparison days
+
 abbrev pub game_seen : {T : Type 0} → (T → List ℕ) → GameClaim T → GameClaim (List ℕ)
-game_seen bytes (Tag names relation contents) = Tag (bytes names) relation (bytes contents)
+game_seen bytes (Tag names value) = Tag (bytes names) (value_seen bytes value)
 game_seen bytes (Moves words) = Moves (bytes words)
 game_seen bytes (Plies comparison count) = Plies comparison count
 game_seen bytes (Result result) = Result (bytes result)
@@ -76,9 +84,14 @@ condition_seen bytes (Position own) = Position (seen bytes own)
 condition_seen bytes (Moving own) = Moving (stated (move_seen bytes) own)
 condition_seen bytes (Span claim) = Span claim
 
--- the contents of a claim on a tag are those of a string
+-- the contents of a claim on a tag's value are those of a string, and its days some of a year
+abbrev pub IsGoodValue : ValueClaim (List ℕ) → Type 0
+IsGoodValue (Text relation contents) = IsContents contents
+IsGoodValue (Number comparison number) = Unit {0}
+IsGoodValue (Date comparison days) = AreGoodDays days
+
 abbrev pub IsGood : GameClaim (List ℕ) → Type 0
-IsGood (Tag names relation contents) = IsContents contents
+IsGood (Tag names value) = IsGoodValue value
 IsGood claim = Unit {0}
 
 -- all claims are such
@@ -111,8 +124,8 @@ AllOfPly replay ply asked = AllTaken (IsSoOfMoves replay ply) asked.moves
 
 -- what a condition says of the tags and of the result
 abbrev pub SaysOfHeading : Heading → Bool → GameClaim (List ℕ) → Type 0
-SaysOfHeading heading denied (Tag names relation contents) =
-    Taken denied (HasOneOf heading relation contents (parted_at 124 names))
+SaysOfHeading heading denied (Tag names value) =
+    Taken denied (HasOneOf heading value (parted_at 124 names))
 SaysOfHeading heading denied (Result result) = Taken denied (heading.result ≡ result)
 SaysOfHeading heading denied claim = Unit {0}
 

@@ -68,3 +68,12 @@ Compares compared.Less a b = a < b
 Compares compared.LessOrEqual a b = a ≤ b
 Compares compared.Greater a b = b < a
 Compares compared.GreaterOrEqual a b = b ≤ a
+
+-- the value of a string with these contents is a number of which the comparison with this one holds
+pub record IsNumber (comparison : Comparison) (given : List ℕ) (number : ℕ) : Type 0 where
+  pub value : List ℕ
+  pub signs : List Sign
+  pub has : HasValue given value signs
+  pub own : ℕ
+  pub is : number_in value ≡ Some own
+  pub holds : Compares comparison own number

@@ -31,6 +31,9 @@ use Rattle.pgn_criteria.specs.declared.parse.CriteriaError.TheVariants.{TooLong,
 use Rattle.pgn_criteria.specs.Public.Conditions.{Conditions, no_conditions, with_condition}
 use Rattle.pgn_criteria.specs.declared.condition.Condition.{Condition}
 use Rattle.pgn_criteria.specs.declared.condition.Condition.TheVariants.{Game, Position, Move, Span}
+use Rattle.pgn_criteria.specs.declared.condition.ValueClaim.{ValueClaim}
+use Rattle.pgn_criteria.specs.declared.condition.ValueClaim.TheVariants.{Text, Number, Date}
+use Rattle.pgn_criteria.specs.declared.dates.Days.{Days}
 use Rattle.pgn_criteria.specs.declared.condition.GameClaim.{GameClaim}
 use Rattle.pgn_criteria.specs.declared.condition.GameClaim.TheVariants.{Tag, Moves, Plies, Result}
 use Rattle.pgn_criteria.specs.declared.condition.PositionClaim.{PositionClaim}
@@ -135,11 +138,40 @@ pub data AreMoveWords : List ℕ → Type 0 where
   and_words : (word gap words : List ℕ) → IsMoveWord word → IsGap gap → AreMoveWords words
       → AreMoveWords (word ++ (gap ++ words))
 
--- a number of plies: 1 to 4 digits
-pub record SpellsCount (text : List ℕ) (count : ℕ) : Type 0 where
+-- a number of one digit or more, but not of more than so many
+pub record SpellsDigits (most : ℕ) (text : List ℕ) (count : ℕ) : Type 0 where
   pub digits : IsTrue (list_all is_digit text)
-  pub short : (1 ≤ length text) × (length text ≤ 4)
+  pub short : (1 ≤ length text) × (length text ≤ most)
   pub value : count ≡ number_from 0 text
+
+-- a number of exactly so many digits
+abbrev pub SpellsField : ℕ → List ℕ → ℕ → Type 0
+SpellsField size text number = SpellsDigits size text number × (length text ≡ size)
+
+-- two digits of a number from 1 to this one, which is the first and the last
+abbrev pub SpellsOne : ℕ → List ℕ → ℕ → ℕ → Type 0
+SpellsOne most text first last = SpellsField 2 text first × (1 ≤ first) × (first ≤ most)
+    × (last ≡ first)
+
+-- the numbers from 1 to this one
+abbrev pub AreAllTo : ℕ → ℕ → ℕ → Type 0
+AreAllTo most first last = (first ≡ 1) × (last ≡ most)
+
+-- the parts, with dots between, of a year YYYY, of a month YYYY.MM, or of a day YYYY.MM.DD
+abbrev pub SpellsDays : List (List ℕ) → Days → Type 0
+SpellsDays (year ∷ []) days = SpellsField 4 year days.year
+    × AreAllTo 12 days.first_month days.last_month × AreAllTo 31 days.first_day days.last_day
+SpellsDays (year ∷ month ∷ []) days = SpellsField 4 year days.year
+    × SpellsOne 12 month days.first_month days.last_month
+    × AreAllTo 31 days.first_day days.last_day
+SpellsDays (year ∷ month ∷ day ∷ []) days = SpellsField 4 year days.year
+    × SpellsOne 12 month days.first_month days.last_month
+    × SpellsOne 31 day days.first_day days.last_day
+SpellsDays parts days = ⊥
+
+-- a number of plies: 1 to 4 digits
+abbrev pub SpellsCount : List ℕ → ℕ → Type 0
+SpellsCount text count = SpellsDigits 4 text count
 
 -- a key word, a comparison and a number of plies, with one or more blanks between
 abbrev pub SpellsCompared : List ℕ → List ℕ → Comparison → ℕ → Type 0
@@ -155,17 +187,29 @@ CanBeCompared relation contents = relation ≡ Has → length contents ≤ 255
 abbrev pub SpellsAfter : List ℕ → List ℕ → List ℕ → Type 0
 SpellsAfter key text own = (gap : List ℕ) × (text ≡ key ++ (gap ++ own)) × IsGap gap
 
--- the text of a claim on the game: its words with one or more blanks between; the names of tags
--- have | between, and the contents of a string
--- quotes about
-abbrev pub SpellsGame : List ℕ → GameClaim (List ℕ) → Type 0
-SpellsGame text (Tag names relation contents) = (first second third : List ℕ)
-    × (text ≡ codes "tag"
-    ++ (first
-    ++ (names
-    ++ (second ++ (relation_text relation ++ (third ++ (34 ∷ (contents ++ 34 ∷ []))))))))
+-- a key word, names of tags with | between, an operator, and what values are compared with, with
+-- one or
+-- more blanks between
+abbrev pub SpellsNamed : List ℕ → List ℕ → List ℕ → List ℕ → List ℕ → Type 0
+SpellsNamed key text names operator own = (first second third : List ℕ)
+    × (text ≡ key ++ (first ++ (names ++ (second ++ (operator ++ (third ++ own))))))
     × IsGap first × IsGap second × IsGap third × AreNames (parted_at 124 names)
+
+-- the text of a claim on the value of one of the tags; the contents of a string have quotes about
+abbrev pub SpellsTag : List ℕ → List ℕ → ValueClaim (List ℕ) → Type 0
+SpellsTag text names (Text relation contents) =
+    SpellsNamed (codes "tag") text names (relation_text relation) (34 ∷ (contents ++ 34 ∷ []))
     × IsContents contents × CanBeCompared relation contents
+SpellsTag text names (Number comparison number) = (digits : List ℕ)
+    × SpellsNamed (codes "number") text names (comparison_text comparison) digits
+    × SpellsDigits 9 digits number
+SpellsTag text names (Date comparison days) = (date : List ℕ)
+    × SpellsNamed (codes "date") text names (comparison_text comparison) date
+    × SpellsDays (parted_at 46 date) days
+
+-- of one on the game: its words with one or more blanks between
+abbrev pub SpellsGame : List ℕ → GameClaim (List ℕ) → Type 0
+SpellsGame text (Tag names value) = SpellsTag text names value
 SpellsGame text (Moves words) = SpellsAfter (codes "moves") text words × AreMoveWords words
 SpellsGame text (Plies comparison count) = SpellsCompared (codes "plies") text comparison count
 SpellsGame text (Result result) = SpellsAfter (codes "result") text result × IsResult result

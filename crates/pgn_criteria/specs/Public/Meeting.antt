@@ -15,10 +15,12 @@ use Rattle.pgn_criteria.specs.Public.Materials.{FitsMaterial}
 use Rattle.pgn_criteria.specs.Public.Mirrors.{mirror, FitsEitherWay, can_be_mirrored}
 use Rattle.pgn_criteria.specs.Public.MoveTexts.{FitMoves, GoesOnBy, IsReachedBy}
 use Rattle.pgn_criteria.specs.Public.Words.{words_of}
-use Rattle.pgn_criteria.specs.Public.Comparing.{Stands, Compares}
-use Rattle.pgn_criteria.specs.declared.compare.Relation.{Relation}
+use Rattle.pgn_criteria.specs.Public.Comparing.{Stands, Compares, IsNumber}
+use Rattle.pgn_criteria.specs.Public.Dates.{IsDate}
 use Rattle.pgn_criteria.specs.Public.Conditions.{Conditions}
 use Rattle.pgn_criteria.specs.declared.condition.Stated.{Stated}
+use Rattle.pgn_criteria.specs.declared.condition.ValueClaim.{ValueClaim}
+use Rattle.pgn_criteria.specs.declared.condition.ValueClaim.TheVariants.{Text, Number, Date}
 use Rattle.pgn_criteria.specs.declared.condition.GameClaim.{GameClaim}
 use Rattle.pgn_criteria.specs.declared.condition.GameClaim.TheVariants.{Tag, Moves, Plies, Result}
 use Rattle.pgn_criteria.specs.declared.condition.PositionCondition.{PositionCondition}
@@ -41,22 +43,26 @@ pub record Heading : Type 0 where
 abbrev pub heading_of : GameText → Heading
 heading_of game = record { named = λ name. tag_in name game.tags; result = game.result }
 
--- the game has a tag with the name, and its value stands in the relation to that of the contents
-abbrev pub HasTag : Heading → Relation → List ℕ → List ℕ → Type 0
-HasTag heading relation contents name =
-    (given : List ℕ) × (heading.named name ≡ Some given) × Stands relation given contents
+-- the claim is so of the value of a string with these contents
+abbrev pub IsSoOfValue : List ℕ → ValueClaim (List ℕ) → Type 0
+IsSoOfValue given (Text relation contents) = Stands relation given contents
+IsSoOfValue given (Number comparison number) = IsNumber comparison given number
+IsSoOfValue given (Date comparison days) = IsDate comparison given days
+
+-- the game has a tag with the name, and the claim is so of its value
+abbrev pub HasTag : Heading → ValueClaim (List ℕ) → List ℕ → Type 0
+HasTag heading claim name =
+    (given : List ℕ) × (heading.named name ≡ Some given) × IsSoOfValue given claim
 
 -- so it is with one of these names
-abbrev pub HasOneOf : Heading → Relation → List ℕ → List (List ℕ) → Type 0
-HasOneOf heading relation contents [] = ⊥
-HasOneOf heading relation contents (name ∷ more) =
-    HasTag heading relation contents name ⊎ HasOneOf heading relation contents more
+abbrev pub HasOneOf : Heading → ValueClaim (List ℕ) → List (List ℕ) → Type 0
+HasOneOf heading claim [] = ⊥
+HasOneOf heading claim (name ∷ more) = HasTag heading claim name ⊎ HasOneOf heading claim more
 
 -- the claim is so of a game with this heading and this main line. A missing tag stands in no
 -- relation
 abbrev pub IsSoOfGame : Heading → Replay → GameClaim (List ℕ) → Type 0
-IsSoOfGame heading replay (Tag names relation contents) =
-    HasOneOf heading relation contents (parted_at 124 names)
+IsSoOfGame heading replay (Tag names value) = HasOneOf heading value (parted_at 124 names)
 IsSoOfGame heading replay (Moves words) = FitMoves replay 0 (words_of words)
 IsSoOfGame heading replay (Plies comparison count) =
     Compares comparison (length replay.played) count

@@ -1,19 +1,19 @@
 //! Numbers and dates that are compared with a tag's value, byte by byte where not both are digits
 //! alone.
 use crate::compare::Relation;
-use crate::condition::{GameClaim, Stated};
+use crate::condition::{GameClaim, Stated, ValueClaim};
 
 const ABOVE: &str =
-    "tag: ? is above every digit, so unknown values are found; tag NAME <= \"9999\" beside it keeps them out";
+    "tag: ? is above every digit, so unknown values are found; take number or date in place of tag";
 
 const BELOW: &str =
-    "tag: - and the empty value are below every digit, so they are found; tag NAME >= \"1\" beside it keeps them out";
+    "tag: - and the empty value are below every digit, so they are found; take number or date in place of tag";
 
 const DOTTED: &str =
-    "tag: bytes are compared, so 1985.??.?? is above 1985.12.31, and 10.1 below 9.1; compare years, as < \"1986\"";
+    "tag: bytes are compared, so 1985.??.?? is above 1985.12.31, and 10.1 below 9.1; take date in place of tag";
 
 const SEVERAL: &str =
-    "tag: ? is above every digit, - and the empty value below; take an alternative for each tag, with its own guard";
+    "tag: ? is above every digit, - and the empty value below; take number or date in place of tag";
 
 /// From which side a condition bounds a value.
 #[derive(Clone, Copy, PartialEq, Eq)]
@@ -57,8 +57,7 @@ fn are_digits(text: &[u8]) -> bool {
 fn is_guard(condition: &Stated<GameClaim<Vec<u8>>>, tag: &[u8], bound: Bound) -> bool {
     let GameClaim::Tag {
         names,
-        relation,
-        contents,
+        value: ValueClaim::Text { relation, contents },
     } = &condition.claim
     else {
         return false;
@@ -79,8 +78,7 @@ pub(super) fn tag_doubt(
 ) -> Option<&'static str> {
     let GameClaim::Tag {
         names,
-        relation,
-        contents,
+        value: ValueClaim::Text { relation, contents },
     } = &condition.claim
     else {
         return None;

@@ -1,9 +1,12 @@
 //! Why a line is refused: where it stops being of the language, and what is expected there.
+ghost use Rattle.std.specs.Prelude.{◌≤◌};
+
+use super::days::days_of;
 use super::limits::limits_of;
 use super::move_words::{is_move_like, is_move_word};
-use super::plies::{comparison_of, count_of};
+use super::plies::{COUNT_DIGITS, comparison_of, count_of};
 use super::result::is_result;
-use super::tag::{are_names, contents_of, relation_of};
+use super::tag::{NUMBER_DIGITS, are_names, contents_of, relation_of};
 use super::{core_of, side_of};
 use crate::cut::next_part;
 use crate::rank::next_item;
@@ -57,6 +60,18 @@ const CONTENTS: &str = "tag: a text between double quotes";
 
 const CONTAINED: &str = "tag: a text of at most 255 bytes after has";
 
+const NUMBER_NAME: &str = "number: a name of letters, digits and _, or several with | between";
+
+const NUMBER_COMPARISON: &str = "number: a comparison, one of = <> < <= > >=";
+
+const NUMBER: &str = "number: a number of one to nine digits";
+
+const DATE_NAME: &str = "date: a name of letters, digits and _, or several with | between";
+
+const DATE_COMPARISON: &str = "date: a comparison, one of = <> < <= > >=";
+
+const DATE: &str = "date: a year, a month or a day, such as 1985, 1985.06 or 1985.06.30";
+
 const COMPARISON: &str = "plies: a comparison, one of = <> < <= > >=";
 
 const COUNT: &str = "plies: a number of one to four digits";
@@ -94,7 +109,7 @@ const RESULT_ALONE: &str = "nothing after the result; or stands on a line of its
 const BLANK: &str = "a blank before this";
 
 const CONDITION: &str =
-    "a condition, which begins with fen, flip, material, moves, next, played, plies, result, tag, turn, check, mate, stalemate, for or count, or the words not, either and or";
+    "a condition, which begins with fen, flip, material, moves, next, played, plies, result, tag, number, date, turn, check, mate, stalemate, for or count, or the words not, either and or";
 
 const DENIED: &str = "a condition after not, and no second not";
 
@@ -111,6 +126,8 @@ const OTHER_WAY: &str = "not: a condition; either stands in front of not";
 enum Key {
     Fen,
     Tag,
+    Number,
+    Date,
     Turn,
     Moves,
     Plies,
@@ -130,9 +147,10 @@ enum Key {
 }
 
 /// The key words, each with the question whether it was meant.
-const KEYS: [(&[u8], Key, &str); 18] = [
+const KEYS: [(&[u8], Key, &str); 20] = [
     (b"fen", Key::Fen, "did you mean fen?"),
     (b"tag", Key::Tag, "did you mean tag?"),
+    (b"number", Key::Number, "did you mean number?"),
     (b"turn", Key::Turn, "did you mean turn?"),
     (b"moves", Key::Moves, "did you mean moves?"),
     (b"plies", Key::Plies, "did you mean plies?"),
@@ -142,6 +160,7 @@ const KEYS: [(&[u8], Key, &str); 18] = [
     (b"material", Key::Material, "did you mean material?"),
     (b"check", Key::Check, "did you mean check?"),
     (b"mate", Key::Mate, "did you mean mate?"),
+    (b"date", Key::Date, "did you mean date?"),
     (b"stalemate", Key::Stalemate, "did you mean stalemate?"),
     (b"for", Key::For, "did you mean for?"),
     (b"count", Key::Count, "did you mean count?"),
@@ -363,27 +382,63 @@ fn has_digit(text: &[u8]) -> bool {
     matches!(text, [b'0'..=b'9', ..])
 }
 
-/// Where a number that is refused stops, with what is expected in its place.
-fn count_stop(text: &[u8], expected: &'static str) -> Stop {
+/// Where a number that is refused stops, with the most digits that it may have and what is expected
+/// in its place.
+fn count_stop(text: &[u8], most: usize, expected: &'static str) -> Stop
+    requires { most ≤ 9 }
+{
     let (digits, more) = split_first(text);
-    if count_of(digits).is_some() && !more.is_empty() {
+    if count_of(digits, most).is_some() && !more.is_empty() {
         return end_stop(more, NOTHING);
     }
     Stop::before(text, expected)
 }
 
-/// Where a condition on a number of plies that is refused stops, with what is expected in place of
-/// its comparison and of its number.
-fn plies_stop(text: &[u8], comparison: &'static str, count: &'static str) -> Stop {
+/// Where a comparison with a number that is refused stops, with what is expected in place of
+/// either.
+fn compared_stop(text: &[u8], most: usize, comparison: &'static str, count: &'static str) -> Stop
+    requires { most ≤ 9 }
+{
     let (operator, digits) = split_first(text);
     if comparison_of(operator).is_some() {
-        return count_stop(digits, count);
+        return count_stop(digits, most, count);
     }
+    sign_stop(text, comparison)
+}
+
+/// Where no comparison is, with what is expected in its place.
+fn sign_stop(text: &[u8], comparison: &'static str) -> Stop {
     let rest = after_signs(text);
     if rest.len() < text.len() && has_digit(rest) {
         return Stop::before(rest, BLANK);
     }
     Stop::before(text, comparison)
+}
+
+/// Where a condition on the number of a tag that is refused stops.
+fn number_stop(text: &[u8]) -> Stop {
+    let (names, rest) = split_first(text);
+    if !are_names(names) {
+        return Stop::before(text, NUMBER_NAME);
+    }
+    compared_stop(rest, NUMBER_DIGITS, NUMBER_COMPARISON, NUMBER)
+}
+
+/// Where a condition on the date of a tag that is refused stops.
+fn date_stop(text: &[u8]) -> Stop {
+    let (names, rest) = split_first(text);
+    if !are_names(names) {
+        return Stop::before(text, DATE_NAME);
+    }
+    let (operator, own) = split_first(rest);
+    if comparison_of(operator).is_none() {
+        return sign_stop(rest, DATE_COMPARISON);
+    }
+    let (date, more) = split_first(own);
+    if days_of(date).is_some() && !more.is_empty() {
+        return end_stop(more, NOTHING);
+    }
+    Stop::before(own, DATE)
 }
 
 /// Where a condition on the result that is refused stops.
@@ -476,9 +531,11 @@ fn claim_stop(text: &[u8]) -> Stop {
         Key::Flip => flip_stop(rest),
         Key::Moves => moves_stop(rest),
         Key::Material => material_stop(rest),
-        Key::Plies => plies_stop(rest, COMPARISON, COUNT),
-        Key::Count => plies_stop(rest, COUNT_COMPARISON, COUNT_PLIES),
-        Key::For => count_stop(rest, RUN),
+        Key::Plies => compared_stop(rest, COUNT_DIGITS, COMPARISON, COUNT),
+        Key::Count => compared_stop(rest, COUNT_DIGITS, COUNT_COMPARISON, COUNT_PLIES),
+        Key::Number => number_stop(rest),
+        Key::Date => date_stop(rest),
+        Key::For => count_stop(rest, COUNT_DIGITS, RUN),
         Key::Result => result_stop(rest),
         Key::Next => like_stop(rest, NEXT),
         Key::Played => like_stop(rest, PLAYED),

@@ -3,13 +3,16 @@ ghost use Rattle.std.specs.Prelude.{◌≡◌, ◌≤◌, ℕ, length, nat_le, I
 ghost use Rattle.std.specs.List.{list_all};
 ghost use Rattle.chess.specs.Public.Fen.{is_digit, number_from};
 ghost use Rattle.pgn_criteria.specs.Public.Lines.{SpellsGame, SpellsSpan, SpellsCompared};
-ghost use Rattle.pgn_criteria.specs.Public.Lines.{SpellsCount, comparison_text};
+ghost use Rattle.pgn_criteria.specs.Public.Lines.{SpellsDigits, comparison_text};
 ghost use Rattle.pgn_criteria.specs.declared.compare.Comparison.{Comparison};
 ghost use Rattle.pgn_criteria.specs.declared.condition.GameClaim.TheVariants.{Plies};
 ghost use Rattle.pgn_criteria.specs.declared.condition.SpanClaim.TheVariants.{For, Count};
 
 use crate::compare::Comparison;
 use crate::words::{after_key, split_first};
+
+/// The most digits of a number of plies.
+pub(super) const COUNT_DIGITS: usize = 4;
 
 /// The comparison that is written so.
 pub(super) fn comparison_of(text: &[u8]) -> Option<Comparison>
@@ -27,12 +30,13 @@ pub(super) fn comparison_of(text: &[u8]) -> Option<Comparison>
     }
 }
 
-/// The number of plies that the text is, if it is 1 to 4 digits.
-pub(super) fn count_of(text: &[u8]) -> Option<u32>
-    ensures { MatchOption result ((count : ℕ) → SpellsCount text.now count
-        → ⊥) (λ count. SpellsCount text.now count) }
+/// The number that the text is, if it is so many digits at most, and one or more.
+pub(super) fn count_of(text: &[u8], most: usize) -> Option<u32>
+    requires { most ≤ 9 }
+    ensures { MatchOption result ((count : ℕ) → SpellsDigits most text.now count
+        → ⊥) (λ count. SpellsDigits most text.now count) }
 {
-    if text.is_empty() || text.len() > 4 {
+    if text.is_empty() || text.len() > most {
         return None;
     }
     let mut count = 0u32;
@@ -57,7 +61,7 @@ fn compared_of(text: &[u8], key: &[u8]) -> Option<(Comparison, u32)>
     let rest = after_key(text, key)?;
     let (operator, digits) = split_first(rest);
     let comparison = comparison_of(operator)?;
-    let count = count_of(digits)?;
+    let count = count_of(digits, COUNT_DIGITS)?;
     Some((comparison, count))
 }
 
@@ -87,6 +91,6 @@ pub(super) fn for_of(text: &[u8]) -> Option<u32>
         → ⊥) (λ count. SpellsSpan text.now (For count)) }
 {
     let digits = after_key(text, b"for")?;
-    let count = count_of(digits)?;
+    let count = count_of(digits, COUNT_DIGITS)?;
     if count == 0 { None } else { Some(count) }
 }

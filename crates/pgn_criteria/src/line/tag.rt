@@ -4,14 +4,19 @@ ghost use Rattle.std.specs.List.{list_all};
 ghost use Rattle.chess.specs.Public.Fen.{parted_at};
 ghost use Rattle.pgn_text.specs.Public.Bytes.{is_name_byte};
 ghost use Rattle.pgn_text.specs.Public.Strings.{IsContents};
-ghost use Rattle.pgn_criteria.specs.Public.Lines.{SpellsGame, IsName, AreNames, CanBeCompared};
-ghost use Rattle.pgn_criteria.specs.Public.Lines.{relation_text};
+ghost use Rattle.pgn_criteria.specs.Public.Lines.{SpellsGame, SpellsTag, IsName, AreNames};
+ghost use Rattle.pgn_criteria.specs.Public.Lines.{CanBeCompared, relation_text};
+ghost use Rattle.pgn_criteria.specs.Private.Reading.{ReadsNamed};
 ghost use Rattle.pgn_criteria.specs.Private.Stages.{game_seen};
+ghost use Rattle.pgn_criteria.specs.declared.compare.Comparison.{Comparison};
 ghost use Rattle.pgn_criteria.specs.declared.compare.Relation.{Relation};
-ghost use Rattle.pgn_criteria.specs.declared.condition.GameClaim.TheVariants.{Tag};
+ghost use Rattle.pgn_criteria.specs.declared.condition.ValueClaim.TheVariants.{Text, Number, Date};
+ghost use Rattle.pgn_criteria.specs.declared.dates.Days.{Days};
 
+use super::days::days_of;
+use super::plies::{comparison_of, count_of};
 use crate::compare::Relation;
-use crate::condition::GameClaim;
+use crate::condition::{GameClaim, ValueClaim};
 use crate::cut::next_part;
 use crate::words::{after_key, split_first};
 use pgn_text::is_contents;
@@ -84,6 +89,9 @@ pub(super) fn contents_of(text: &[u8]) -> Option<&[u8]>
     }
 }
 
+/// The most digits of a number that values are compared with.
+pub(super) const NUMBER_DIGITS: usize = 9;
+
 /// The most bytes of a text that values are to contain: as many as a string of a game has (PGN 7).
 /// Looking for it stays linear in the value.
 const MOST_CONTAINED: usize = 255;
@@ -95,26 +103,60 @@ pub(super) fn can_be_compared(relation: Relation, contents: &[u8]) -> bool
     relation != Relation::Has || contents.len() <= MOST_CONTAINED
 }
 
-/// The claim on a tag that the text spells, if it is one.
-pub(super) fn tag_of(text: &[u8]) -> Option<GameClaim<&[u8]>>
-    ensures { MatchOption result ((names contents : List ℕ) (relation : Relation)
-        → SpellsGame text.now (Tag names relation contents)
-        → ⊥) (λ found. SpellsGame text.now (game_seen (λ bytes. bytes.now) found)) }
+/// The names, the operator and what follows it, after a key word, if the text is that word with
+/// them.
+fn named_of<'a>(text: &'a [u8], key: &[u8]) -> Option<(&'a [u8], &'a [u8], &'a [u8])>
+    ensures { MatchOption result ((names operator own : List ℕ)
+        → ReadsNamed key.now text.now names operator own → ⊥)
+        (λ found. ReadsNamed key.now text.now found.0.now found.1.now found.2.now) }
 {
-    let rest = after_key(text, b"tag")?;
+    let rest = after_key(text, key)?;
     let (names, rest) = split_first(rest);
     if !are_names(names) {
         return None;
     }
-    let (operator, string) = split_first(rest);
+    let (operator, own) = split_first(rest);
+    Some((names, operator, own))
+}
+
+/// The claim on the number of a tag that the text spells, if it is one.
+pub(super) fn number_of(text: &[u8]) -> Option<GameClaim<&[u8]>>
+    ensures { MatchOption result ((names : List ℕ) (comparison : Comparison) (number : ℕ)
+        → SpellsTag text.now names (Number comparison number) → ⊥)
+        (λ found. SpellsGame text.now (game_seen (λ bytes. bytes.now) found)) }
+{
+    let (names, operator, digits) = named_of(text, b"number")?;
+    let comparison = comparison_of(operator)?;
+    let number = count_of(digits, NUMBER_DIGITS)?;
+    let value = ValueClaim::Number { comparison, number };
+    Some(GameClaim::Tag { names, value })
+}
+
+/// The claim on the date of a tag that the text spells, if it is one.
+pub(super) fn date_of(text: &[u8]) -> Option<GameClaim<&[u8]>>
+    ensures { MatchOption result ((names : List ℕ) (comparison : Comparison) (days : Days)
+        → SpellsTag text.now names (Date comparison days) → ⊥)
+        (λ found. SpellsGame text.now (game_seen (λ bytes. bytes.now) found)) }
+{
+    let (names, operator, date) = named_of(text, b"date")?;
+    let comparison = comparison_of(operator)?;
+    let days = days_of(date)?;
+    let value = ValueClaim::Date { comparison, days };
+    Some(GameClaim::Tag { names, value })
+}
+
+/// The claim on the text of a tag that the text spells, if it is one.
+pub(super) fn tag_of(text: &[u8]) -> Option<GameClaim<&[u8]>>
+    ensures { MatchOption result ((names contents : List ℕ) (relation : Relation)
+        → SpellsTag text.now names (Text relation contents)
+        → ⊥) (λ found. SpellsGame text.now (game_seen (λ bytes. bytes.now) found)) }
+{
+    let (names, operator, string) = named_of(text, b"tag")?;
     let relation = relation_of(operator)?;
     let contents = contents_of(string)?;
     if !can_be_compared(relation, contents) {
         return None;
     }
-    Some(GameClaim::Tag {
-        names,
-        relation,
-        contents,
-    })
+    let value = ValueClaim::Text { relation, contents };
+    Some(GameClaim::Tag { names, value })
 }

@@ -85,6 +85,8 @@ const ABOUT: &str =
 const AFTER_HELP: &str =
     "Criteria, a condition a line; all of them hold (man pgn-extract-criteria):\n  \
     tag White|Black = \"Tal\"    the value of a tag; also <> < <= > >= has begins\n  \
+    number WhiteElo >= 2700    the value as a number; also = <> < <= >\n  \
+    date Date < 1985.06        the value as a date; also 1985, 1985.06.30\n  \
     fen */*/*/*/*/*/*PPP/*RK1  men as in FEN; ? a square, ! a man, * any squares\n  \
     material KRP* v KRP*       each side's men: P* any number, R2+ two or more\n  \
     moves e4 c5 *, next *x*    the first moves; the next, * any bytes; also played\n  \

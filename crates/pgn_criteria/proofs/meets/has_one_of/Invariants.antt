@@ -1,12 +1,14 @@
 use Rattle.std.proofs.Common.{◌↔◌, length}
 use Rattle.chess.specs.Public.Fen.{parted_at}
 use Rattle.pgn_criteria.specs.Public.Meeting.{HasOneOf}
+use Rattle.pgn_criteria.specs.Private.Stages.{value_seen}
 use Rattle.pgn_criteria.proofs.meets.has_one_of.Given as goal
 
 abbrev pub invariant-loop-after : goal.invariant-loop-after
 invariant-loop-after g l =
-    HasOneOf (g.H.Headed.heading l.game) l.relation l.contents (parted_at 124 l.rest)
-    ↔ HasOneOf (g.H.Headed.heading l.game) l.relation l.contents (parted_at 124 l.names)
+    let claim = value_seen (λ text. text.items) l.claim in
+    HasOneOf (g.H.Headed.heading l.game) claim (parted_at 124 l.rest)
+    ↔ HasOneOf (g.H.Headed.heading l.game) claim (parted_at 124 l.names)
 
 abbrev pub decreases-loop-after : goal.decreases-loop-after
 decreases-loop-after g l = length (parted_at 124 l.rest)

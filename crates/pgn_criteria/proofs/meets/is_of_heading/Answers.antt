@@ -9,8 +9,7 @@ pub returns-in-Tag : goal.returns-in-Tag
 returns-in-Tag g c =
     let heading : Heading = g.H.Headed.heading c.args.game.now in
     let denied = c.args.condition.now.is_denied in
-    let reports = rw (c.deref-in-Tag.ensures.value, c.deref.ensures.value) at c.has_one_of.ensures
-    in
+    let reports = rw c.deref.ensures.value at c.has_one_of.ensures in
     subst (λ k. IsTrue (not (beq c.has_one_of.result denied))
     ↔ SaysOfHeading heading denied (game_seen (λ text. text.items) k)) (sym c.in-Tag.is)
     (reports_taken denied c.has_one_of.result reports)

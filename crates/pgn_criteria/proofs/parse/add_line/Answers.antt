@@ -1,10 +1,16 @@
 use Rattle.std.proofs.Common.{◌≡◌, ◌∷◌, ◌++◌, [], ℕ, List, ap, ◌∙◌}
+use Rattle.std.specs.Prelude.{Result, Ok, Err, OnOk}
 use Rattle.pgn_criteria.specs.Public.Conditions.{Conditions, no_conditions}
 use Rattle.pgn_criteria.specs.Public.Lines.{alternatives_of}
 use Rattle.pgn_criteria.specs.Private.Reading.{with_open}
 use Rattle.pgn_criteria.specs.declared.line.Meaning.{Meaning}
-use Rattle.pgn_criteria.specs.declared.line.Meaning.TheVariants.{Or}
-use Rattle.pgn_criteria.proofs.ParseFacts.{or_added}
+use Rattle.pgn_criteria.specs.declared.line.Meaning.TheVariants.{Or, Asks}
+use Rattle.pgn_criteria.specs.Public.Lines.{IsLine}
+use Rattle.pgn_criteria.specs.Private.Reading.{joined}
+use Rattle.pgn_criteria.specs.Private.Stages.{condition_seen}
+use Rattle.pgn_criteria.specs.Public.Conditions.{with_condition}
+use Rattle.pgn_criteria.specs.declared.condition.Condition.{Condition}
+use Rattle.pgn_criteria.proofs.ParseFacts.{or_added, condition_added}
 use Rattle.pgn_criteria.proofs.parse.add_line.Goals as goal
 
 -- an alternative pushed after others, and none begun
@@ -16,6 +22,28 @@ or_pushed done new own last begun pushed is fresh more =
     ap (λ x. with_open x begun (alternatives_of more)) (pushed ∙ ap (λ a. done ++ (a ∷ [])) is)
     ∙ ap (λ x. with_open (done ++ (last ∷ [])) x (alternatives_of more)) fresh
     ∙ or_added done last more
+
+-- a line that asks for a condition which is added
+asked : {T E : Type 0} (r : Result T E) (line : List ℕ) (condition : Condition (List ℕ))
+    (done : List Conditions) (begun new : Conditions) → IsLine line (Asks condition)
+    → OnOk r (new ≡ joined begun (with_condition condition no_conditions))
+    → OnOk r ((means : Meaning (List ℕ)) × IsLine line means
+    × ((more : List (Meaning (List ℕ))) → with_open done new (alternatives_of more)
+    ≡ with_open done begun (alternatives_of (means ∷ more))))
+asked (Ok t) line condition done begun new is added = (
+  Asks condition,
+  is,
+  (λ more. ap (λ x. with_open done x (alternatives_of more)) added
+      ∙ condition_added done begun condition more),
+)
+asked (Err e) line condition done begun new is added = tt
+
+pub returns-in-Some-Asks : goal.returns-in-Some-Asks
+returns-in-Some-Asks c =
+    asked c.add.result c.args.line.now
+    (condition_seen (λ bytes. bytes.now) c.in-Some-Asks.condition) c.args.alternatives.now.items
+    c.args.last.now c.add.new.self (rw c.in-Some-Asks.field-0-is at c.in-Some-Asks.ensures)
+    c.add.ensures
 
 pub returns-in_ok-push-in-Some-Or : goal.returns-in_ok-push-in-Some-Or
 returns-in_ok-push-in-Some-Or c = (
