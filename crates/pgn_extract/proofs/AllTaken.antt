@@ -1,16 +1,29 @@
--- Where each sound game is written, its first position is an entry of it.
-use Rattle.std.specs.Prelude.{Result, Ok, Err, OnOk, OnErr, IfErr, MatchResult}
-use Rattle.std.proofs.Common.{◌≡◌, ℕ, ◌+◌, ◌<◌, List, length, Option, sym, subst, inl, arith}
-use Rattle.pgn_text.specs.Public.GameTexts.{GameText, tag_in}
+-- What is put of a game in its form and its mode. Where each sound game is written, its first
+-- position is an entry of it.
+use Rattle.std.specs.Prelude.{Result, Ok, Err, OnOk, OnErr, IfErr, IfSome, MatchResult}
+use Rattle.std.proofs.Common.{◌≡◌, ℕ, ◌+◌, ◌<◌, List, [], length, Option, refl, sym, subst, ◌∙◌}
+use Rattle.std.proofs.Common.{append-nil, arith}
+use Rattle.std.proofs.lemmas.Option.{IfSome_then}
+use Rattle.pgn_text.specs.Public.GameTexts.{GameText}
+use Rattle.pgn_game.specs.Public.Faults.{Fault}
 use Rattle.pgn_game.specs.Public.MainLines.{main_words}
-use Rattle.pgn_game.specs.Public.Replays.{Replay, IsReplay}
-use Rattle.pgn_game.specs.Public.Starts.{fen_tag}
+use Rattle.pgn_game.specs.Public.Replays.{Replay}
+use Rattle.pgn_game.specs.declared.replays.replayer.Lines.{Lines}
+use Rattle.pgn_game.specs.declared.replays.replayer.Lines.TheVariants.{Main}
 use Rattle.pgn_game.proofs.OneReplay.{line_length}
 use Rattle.pgn_criteria.specs.Public.Meeting.{heading_of, Heading}
 use Rattle.pgn_criteria.specs.Public.Conditions.{Conditions}
 use Rattle.pgn_extract.specs.Public.Aims.{Aim, GameId, IsMet}
-use Rattle.pgn_extract.specs.Private.Blockwise.{IsGameWritten, IsGivenText, TakesAll}
-use Rattle.pgn_extract.specs.Public.Exports.{HasEntry, IsSelected, written_lines}
+use Rattle.pgn_extract.specs.Private.Blockwise.{TakesAll, by_itself, AddsOutput, AddsSound}
+use Rattle.pgn_extract.specs.Private.Blockwise.{PutsText, StopsIn}
+use Rattle.pgn_extract.specs.Private.Finding.{AddsEntries}
+use Rattle.pgn_extract.specs.Public.Exports.{HasEntry, IsSelected, IsTextOf, IsWritten, selected}
+use Rattle.pgn_extract.specs.Public.Exports.{lines_in, written_lines}
+use Rattle.pgn_extract.specs.Public.GameReports.{IsFaultOf, IsReplayOf}
+use Rattle.pgn_extract.specs.Public.Listing.{listing}
+use Rattle.pgn_extract.specs.Public.Verdicts.{AreEntryLines, IsOutput, replayed_lines}
+use Rattle.pgn_extract.specs.declared.settings.Form.{Form}
+use Rattle.pgn_extract.specs.declared.settings.Mode.{Mode}
 
 -- ply 0 is an entry
 first_is_entry : (aim : Aim) (tags : Heading) (replay : Replay) → TakesAll aim
@@ -29,19 +42,17 @@ first_is_entry aim tags replay all some =
 
 pub all_written : (aim : Aim) (id : GameId) (game : GameText) (replay : Replay) (text : List ℕ)
     → TakesAll aim
-    → IsReplay (written_lines aim) (tag_in fen_tag game.tags) game.elements replay
-    → IsGivenText aim.form aim id game text
-    → IsGameWritten aim id game replay text
+    → IsReplayOf (written_lines aim) game replay
+    → IsTextOf aim.form aim id (by_itself game) text
+    → IsWritten aim id (by_itself game) replay text
 all_written aim id game replay text all is given =
     let tags = heading_of game in
     let count : length replay.positions ≡ length replay.played + 1 =
     line_length is.start (main_words game.elements 0) replay.positions replay.played is.line in
     let some : 0 < length replay.positions = omega (arith, count) in
-    inl (
-      subst (λ select. IsSelected select (HasEntry aim tags replay)) (sym all.select)
-          (first_is_entry aim tags replay all some),
-      given,
-    )
+    selected
+    (subst (λ select. IsSelected select (HasEntry aim tags replay)) (sym all.select)
+    (first_is_entry aim tags replay all some)) given
 
 -- what an export that is played promises, in one
 pub put_or_left : {T E : Type 0} {Sound Text Left Done : Type 0} {Fails : E → Type 0} {Stops : E
@@ -50,3 +61,43 @@ pub put_or_left : {T E : Type 0} {Sound Text Left Done : Type 0} {Fails : E → 
     → ((error : E) → Fails error → Left → Stops error) → MatchResult result (λ _. Done) Stops
 put_or_left (Ok value) text sound fails left done stops = done text sound
 put_or_left (Err error) text sound fails left done stops = stops error fails left
+
+module _ (lines : Lines) (game : GameText) (old new : List ℕ) where
+  -- where nothing is added, the fault stands alone
+  pub stops_left : (own : Option Fault) → IfSome own (IsFaultOf lines game) → new ≡ old
+      → IfSome own (StopsIn lines game old new)
+  stops_left own met left =
+      IfSome_then own met (λ fault is. (is, [], left ∙ sym (append-nil old)))
+
+module _ {T E : Type 0} (aim : Aim) (id : GameId) (game : GameText) (old new : List ℕ)
+    (result : Result T E) (of : E → Option Fault) where
+  -- what a form puts is put where games are written in it
+  pub put_as : (form : Form) → aim.form ≡ form
+      → MatchResult result (λ _. AddsSound (lines_in form aim.style) game (λ _.
+      IsTextOf form aim id (by_itself game)) old new)
+      (λ error. IfSome (of error) (StopsIn (lines_in form aim.style) game old new))
+      → MatchResult result (λ _. PutsText aim id game old new)
+      (λ error. IfSome (of error) (StopsIn (written_lines aim) game old new))
+  put_as form is =
+      subst (λ f. MatchResult result (λ _. AddsSound (lines_in f aim.style) game (λ _.
+      IsTextOf f aim id (by_itself game)) old new)
+      (λ error. IfSome (of error) (StopsIn (lines_in f aim.style) game old new))) (sym is)
+
+  -- and what goes to the output in a mode
+  pub put_in : (mode : Mode) → aim.mode ≡ mode
+      → MatchResult result (λ _. AddsSound (replayed_lines mode aim) game
+      (IsOutput mode aim id (by_itself game)) old new)
+      (λ error. IfSome (of error) (StopsIn (replayed_lines mode aim) game old new))
+      → MatchResult result (λ _. AddsOutput aim id game old new)
+      (λ error. IfSome (of error) (StopsIn (replayed_lines aim.mode aim) game old new))
+  put_in mode is =
+      subst (λ m. MatchResult result (λ _. AddsSound (replayed_lines m aim) game
+      (IsOutput m aim id (by_itself game)) old new)
+      (λ error. IfSome (of error) (StopsIn (replayed_lines m aim) game old new))) (sym is)
+
+-- the lines of its entries go to it
+pub entries_out : (aim : Aim) (id : GameId) (game : GameText) (old new : List ℕ)
+    → AddsEntries aim id game old new
+    → AddsSound Main game (AreEntryLines aim id (by_itself game)) old new
+entries_out aim id game old new (replay, is, entries, these, put) =
+    (replay, is, listing aim.name entries, (entries, these, refl), put)

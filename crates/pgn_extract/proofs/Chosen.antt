@@ -132,15 +132,3 @@ module _ (id : GameId) (P : ℕ → Type 0) (S : ℕ → List ℕ → Type 0) wh
         absurd (fails held)
     one_chosen _ _ _ (leave first all xs fails more) (leave _ _ ys also others) =
         one_chosen all xs ys more others
-
--- the same are chosen by a fact that says the same
-pub chosen_by : (id : GameId) (P Q : ℕ → Type 0) (S : ℕ → List ℕ → Type 0)
-    → ((ply : ℕ) → P ply → Q ply) → ((ply : ℕ) → Q ply → P ply)
-    → (all : List ℕ) (chosen : List Entry) → AreChosen id P S all chosen
-    → AreChosen id Q S all chosen
-chosen_by id P Q S to from _ _ none = none
-chosen_by id P Q S to from _ _ (keep first shown all chosen holds shows more) =
-    keep first shown all chosen (to first holds) shows (chosen_by id P Q S to from all chosen more)
-chosen_by id P Q S to from _ _ (leave first all chosen fails more) =
-    leave first all chosen (λ holds.
-    fails (from first holds)) (chosen_by id P Q S to from all chosen more)

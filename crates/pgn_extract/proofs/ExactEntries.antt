@@ -10,7 +10,8 @@ use Rattle.chess.specs.Public.Positions.{State}
 use Rattle.pgn_text.specs.Public.Marks.{PieceKind, ReadableGame, UnreadableRest, TooLongBlock}
 use Rattle.pgn_text.specs.Public.Marks.{MarkedPiece}
 use Rattle.pgn_text.specs.Public.Parts.{Part}
-use Rattle.pgn_text.specs.Public.Games.{Item, items_of, first_tag}
+use Rattle.pgn_text.specs.Public.Games.{Item}
+use Rattle.pgn_text.specs.Public.GameTexts.{GameText, tag_in}
 use Rattle.pgn_game.proofs.OneReplay.{one_replay, no_fault}
 use Rattle.pgn_game.specs.Public.Replays.{Replay, IsReplay, IsMainReplay}
 use Rattle.pgn_game.specs.declared.replays.replayer.Lines.TheVariants.{Main}
@@ -21,7 +22,9 @@ use Rattle.pgn_extract.proofs.ChoiceFacts.{by_choice, when_taken}
 use Rattle.pgn_extract.proofs.Chosen.{entry_at, none_in, in_front, Rise, IsPicked, chosen_from}
 use Rattle.pgn_extract.proofs.Chosen.{chosen_all, chosen_ascend}
 use Rattle.pgn_extract.proofs.FieldTexts.{one_text}
-use Rattle.pgn_extract.specs.Public.Listing.{Entry, AreFields, heading_in, IsPlyOfGame, IsEarlier}
+use Rattle.pgn_extract.proofs.GameExport.{one_game}
+use Rattle.pgn_criteria.specs.Public.Meeting.{heading_of}
+use Rattle.pgn_extract.specs.Public.Listing.{Entry, AreFields, IsGameOf, IsPlyOfGame, IsEarlier}
 use Rattle.pgn_extract.specs.Public.Listing.{Ascend, AreEntries}
 use Rattle.pgn_extract.specs.Public.GameReports.{plies_of, IsReplayOf}
 use Rattle.pgn_extract.specs.Private.EntryRows.{AreGameEntries, sound, faulty, ArePieceEntries}
@@ -64,22 +67,22 @@ has_ply ply (position ∷ more) at low high =
     ]
 
 -- what an entry of a game with a replay is
-abbrev pub IsOfGame : Aim → GameId → List Part → Replay → Entry → Type 0
-IsOfGame aim id parts replay entry =
-    IsPicked id (IsEntry aim (heading_in parts) replay) (AreFields aim.fields replay)
+abbrev pub IsOfGame : Aim → GameId → GameText → Replay → Entry → Type 0
+IsOfGame aim id game replay entry =
+    IsPicked id (IsEntry aim (heading_of game) replay) (AreFields aim.fields replay)
     (plies_of 0 replay.positions) entry
 
 -- the entries of a piece are those of one game
 own_ply : (aim : Aim) (kind : PieceKind) (id : GameId) (own : List Entry)
     → ArePieceEntries aim kind id own → (entry : Entry) → Contains own entry
-    → (parts : List Part) × (replay : Replay) × (kind ≡ ReadableGame parts)
-    × IsReplayOf Main parts replay × IsOfGame aim id parts replay entry
-own_ply aim (ReadableGame parts) id own (sound replay is these) entry has =
+    → (parts : List Part) × (game : GameText) × (replay : Replay) × (kind ≡ ReadableGame parts)
+    × IsGameOf parts game × IsReplayOf Main game replay × IsOfGame aim id game replay entry
+own_ply aim (ReadableGame parts) id own (game, made, sound replay is these) entry has =
     let of =
-    chosen_from id (IsEntry aim (heading_in parts) replay) (AreFields aim.fields replay)
+    chosen_from id (IsEntry aim (heading_of game) replay) (AreFields aim.fields replay)
     (plies_of 0 replay.positions) own these entry has in
-    (parts, replay, refl, is, of)
-own_ply aim (ReadableGame parts) id own (faulty fault is none) entry has =
+    (parts, game, replay, refl, made, is, of)
+own_ply aim (ReadableGame parts) id own (game, made, faulty fault is none) entry has =
     absurd (none_in entry (subst (λ e. Contains e entry) none has))
 own_ply aim (UnreadableRest bytes) id own none entry has =
     absurd (none_in entry (subst (λ e. Contains e entry) none has))
@@ -87,27 +90,27 @@ own_ply aim TooLongBlock id own none entry has =
     absurd (none_in entry (subst (λ e. Contains e entry) none has))
 
 -- and all of them, where it is sound
-own_has : (aim : Aim) (id : GameId) (parts : List Part) (own : List Entry)
-    → AreGameEntries aim id parts own
-    → (replay : Replay) → IsReplayOf Main parts replay → (entry : Entry)
+own_has : (aim : Aim) (id : GameId) (game : GameText) (own : List Entry)
+    → AreGameEntries aim id game own
+    → (replay : Replay) → IsReplayOf Main game replay → (entry : Entry)
     → entry ≡ entry_at id entry.ply entry.shown
-    → entry.ply < length replay.positions → IsEntry aim (heading_in parts) replay entry.ply
+    → entry.ply < length replay.positions → IsEntry aim (heading_of game) replay entry.ply
     → AreFields aim.fields replay entry.ply entry.shown → Contains own entry
-own_has aim id parts own (sound first is these) replay also entry marked less listed shows =
+own_has aim id game own (sound first is these) replay also entry marked less listed shows =
     let same : replay ≡ first =
-    sym (one_replay Main (first_tag fen_tag parts) (items_of parts) first replay is also) in
+    sym (one_replay Main (tag_in fen_tag game.tags) game.elements first replay is also) in
     let here : entry.ply < length first.positions =
     subst (λ (r : Replay). entry.ply < length r.positions) same less in
-    chosen_all id (IsEntry aim (heading_in parts) first) (AreFields aim.fields first)
+    chosen_all id (IsEntry aim (heading_of game) first) (AreFields aim.fields first)
     (one_text aim.fields first) (plies_of 0 first.positions) own these entry
     (record {
       is = marked;
       among = has_ply 0 first.positions entry.ply (omega arith) (omega arith);
-      fact = subst (λ (r : Replay). IsEntry aim (heading_in parts) r entry.ply) same listed;
+      fact = subst (λ (r : Replay). IsEntry aim (heading_of game) r entry.ply) same listed;
       shows = subst (λ (r : Replay). AreFields aim.fields r entry.ply entry.shown) same shows;
     })
-own_has aim id parts own (faulty fault is none) replay also entry marked less listed shows =
-    absurd (no_fault Main (first_tag fen_tag parts) (items_of parts) fault (replay, also) is)
+own_has aim id game own (faulty fault is none) replay also entry marked less listed shows =
+    absurd (no_fault Main (tag_in fen_tag game.tags) game.elements fault (replay, also) is)
 
 -- a piece that has entries is chosen
 taken_piece : (taken : Bool) {P : Type 0} (own : List Entry) → IfChosen taken P (own ≡ [])
@@ -128,20 +131,22 @@ to_ply aim number (piece ∷ more) entries (own, rest, parted, here, others) ent
           let taken = taken_piece (is_chosen aim.chosen (id_of number piece)) own here entry first
           in
           let of = own_ply aim piece.kind (id_of number piece) own taken.1 entry first in
-          let place = of.4 in
+          let place = of.6 in
           let same : entry.id ≡ id_of number piece = ap (λ (e : Entry). e.id) place.is in
           record {
             place = 0;
             parts = of.0;
-            replay = of.1;
-            game = ap (λ (p : MarkedPiece).
-                Some p) (ap (λ k. record { offset = piece.offset; kind = k }) of.2
+            game = of.1;
+            replay = of.2;
+            piece = ap (λ (p : MarkedPiece).
+                Some p) (ap (λ k. record { offset = piece.offset; kind = k }) of.3
                 ∙ ap (λ (i : GameId). record { offset = i.offset; kind = ReadableGame of.0 })
                 (sym same));
             numbered = ap (λ (i : GameId). i.number) same ∙ omega arith;
             chosen = subst (λ i. is_chosen aim.chosen i ≡ true) (sym same) taken.0;
-            is_replay = main_of of.3;
-            within = within_plies of.1.positions entry.ply place.among;
+            is_game = of.4;
+            is_replay = main_of of.5;
+            within = within_plies of.2.positions entry.ply place.among;
             listed = place.fact;
             shows = place.shows;
           }
@@ -150,10 +155,12 @@ to_ply aim number (piece ∷ more) entries (own, rest, parted, here, others) ent
           record {
             place = suc of.place;
             parts = of.parts;
-            replay = of.replay;
             game = of.game;
+            replay = of.replay;
+            piece = of.piece;
             numbered = (let n = of.numbered in omega arith);
             chosen = of.chosen;
+            is_game = of.is_game;
             is_replay = of.is_replay;
             within = of.within;
             listed = of.listed;
@@ -166,7 +173,7 @@ pub from_ply : (aim : Aim) (number : ℕ) (pieces : List MarkedPiece) (entries :
     → AreEntryRows aim number pieces entries → (entry : Entry) → IsPlyOfGame aim number pieces entry
     → Contains entries entry
 from_ply aim number pieces entries are entry of =
-    by_place number pieces entries are of.place of.game of.numbered
+    by_place number pieces entries are of.place of.piece of.numbered
   where
     by_place : (number : ℕ) (pieces : List MarkedPiece) (entries : List Entry)
         → AreEntryRows aim number pieces entries
@@ -182,10 +189,13 @@ from_ply aim number pieces entries are entry of =
         let taken : is_chosen aim.chosen (id_of number piece) ≡ true =
         subst (λ i. is_chosen aim.chosen i ≡ true) same of.chosen in
         let own_here = when_taken (is_chosen aim.chosen (id_of number piece)) _ taken here in
+        let (game, made, entered) =
+        subst (λ (p : MarkedPiece). ArePieceEntries aim p.kind (id_of number piece) own) is
+        own_here in
         let has =
-        own_has aim (id_of number piece) of.parts own
-        (subst (λ (p : MarkedPiece). ArePieceEntries aim p.kind (id_of number piece) own) is
-        own_here)
+        own_has aim (id_of number piece) of.game own
+        (subst (λ g. AreGameEntries aim (id_of number piece) g own)
+        (one_game of.parts game of.game made of.is_game) entered)
         of.replay (replay_of of.is_replay) entry (ap (λ i. entry_at i entry.ply entry.shown) same)
         of.within of.listed of.shows in
         subst (λ e. Contains e entry) (sym parted) (Contains-append_left own rest entry has)
@@ -224,10 +234,10 @@ ascend-append (x ∷ xs) ys before after cross = (
 -- the entries of a piece are in order
 ascend_own : (aim : Aim) (kind : PieceKind) (id : GameId) (own : List Entry)
     → ArePieceEntries aim kind id own → Ascend own
-ascend_own aim (ReadableGame parts) id own (sound replay is these) =
-    chosen_ascend id (IsEntry aim (heading_in parts) replay) (AreFields aim.fields replay)
+ascend_own aim (ReadableGame parts) id own (game, made, sound replay is these) =
+    chosen_ascend id (IsEntry aim (heading_of game) replay) (AreFields aim.fields replay)
     (plies_of 0 replay.positions) own these (plies_rise 0 replay.positions)
-ascend_own aim (ReadableGame parts) id own (faulty fault is none) = subst Ascend (sym none) tt
+ascend_own aim (ReadableGame parts) id own (game, made, faulty fault is none) = subst Ascend (sym none) tt
 ascend_own aim (UnreadableRest bytes) id own none = subst Ascend (sym none) tt
 ascend_own aim TooLongBlock id own none = subst Ascend (sym none) tt
 
@@ -245,7 +255,7 @@ entries_ascend aim number (piece ∷ more) entries (own, rest, parted, here, oth
     let taken = taken_piece (is_chosen aim.chosen (id_of number piece)) own here x has in
     let first = own_ply aim piece.kind (id_of number piece) own taken.1 x has in
     let second = to_ply aim (number + 1) more rest others y other in
-    let low : x.id.number ≡ number = ap (λ (e : Entry). e.id.number) first.4.is in
+    let low : x.id.number ≡ number = ap (λ (e : Entry). e.id.number) first.6.is in
     let high = second.numbered in
     inl (omega arith)))
 

@@ -4,7 +4,7 @@ use Rattle.std.proofs.Common.{ℕ, zero, suc, ◌+◌, ◌<◌, true, false, Boo
 use Rattle.std.proofs.Common.{arith, inl, inr}
 use Rattle.pgn_text.specs.Public.Marks.{PieceKind, ReadableGame, UnreadableRest, TooLongBlock}
 use Rattle.pgn_text.specs.Public.Marks.{MarkedPiece}
-use Rattle.pgn_text.specs.Public.Parts.{Part}
+use Rattle.pgn_text.specs.Public.GameTexts.{GameText}
 use Rattle.pgn_game.specs.Public.Replays.{Replay}
 use Rattle.pgn_extract.specs.Public.Aims.{Aim, GameId, IsWanted}
 use Rattle.pgn_extract.specs.Public.Exports.{AreExports, HasEntry, IsGameExport, IsPieceExport}
@@ -14,7 +14,7 @@ use Rattle.pgn_extract.specs.Public.GameReports.{IsReplayOf}
 use Rattle.pgn_extract.specs.Public.Choices.{id_of, is_chosen}
 use Rattle.pgn_extract.specs.Public.Laws.{FirstChangesNoExport, with_first}
 use Rattle.pgn_extract.proofs.ChoiceFacts.{choice_of}
-use Rattle.pgn_extract.specs.Public.Listing.{heading_in}
+use Rattle.pgn_criteria.specs.Public.Meeting.{heading_of}
 use Rattle.pgn_extract.specs.declared.settings.Form.{Form}
 use Rattle.pgn_extract.specs.declared.settings.Form.TheVariants.{Standard, AsItStands, Line, Record}
 use Rattle.pgn_extract.proofs.Decided.{all_decided}
@@ -22,79 +22,80 @@ use Rattle.pgn_extract.proofs.Exported.{selected_by}
 use Rattle.pgn_extract.proofs.SomeReport.{none_before}
 
 -- the text of a game is the same whether the first of its entries is asked for or all
-text_of_any : (aim : Aim) (id : GameId) (parts : List Part) (text : List ℕ) (form : Form)
+text_of_any : (aim : Aim) (id : GameId) (game : GameText) (text : List ℕ) (form : Form)
     (first other : Bool)
-    → IsTextOf form (with_first first aim) id parts text
-    → IsTextOf form (with_first other aim) id parts text
-text_of_any aim id parts text Standard first other own = own
-text_of_any aim id parts text AsItStands first other own = own
-text_of_any aim id parts text (Line notation) first other own = own
-text_of_any aim id parts text Record first other own = own
+    → IsTextOf form (with_first first aim) id game text
+    → IsTextOf form (with_first other aim) id game text
+text_of_any aim id game text Standard first other own = own
+text_of_any aim id game text AsItStands first other own = own
+text_of_any aim id game text (Line notation) first other own = own
+text_of_any aim id game text Record first other own = own
 
-module _ (aim : Aim) (id : GameId) (parts : List Part) (replay : Replay)
-    (is : IsReplayOf (written_lines aim) parts replay) where
+module _ (aim : Aim) (id : GameId) (game : GameText) (replay : Replay)
+    (is : IsReplayOf (written_lines aim) game replay) where
   -- of the plies up to one that is wanted there is a first
   first_wanted : (fuel ply : ℕ) → ply < fuel → ply < length replay.positions
-      → IsWanted aim (heading_in parts) replay ply
-      → HasEntry (with_first true aim) (heading_in parts) replay
+      → IsWanted aim (heading_of game) replay ply
+      → HasEntry (with_first true aim) (heading_of game) replay
   first_wanted zero ply within less wanted = absurd (omega arith)
   first_wanted (suc fuel) ply within less wanted =
-      elim (none_before aim (heading_in parts) replay ply (λ n below.
-      all_decided aim (written_lines aim) parts replay is n (omega arith))) [
+      elim (none_before aim (heading_of game) replay ply (λ n below.
+      all_decided aim (written_lines aim) game replay is n (omega arith))) [
         | inl none ↦ (ply, less, (wanted, λ only before earlier holds. none before earlier holds))
         | inr (n, below, earlier) ↦ first_wanted fuel n (omega arith) (omega arith) earlier
       ]
 
-  some_first : HasEntry (with_first false aim) (heading_in parts) replay
-      → HasEntry (with_first true aim) (heading_in parts) replay
+  some_first : HasEntry (with_first false aim) (heading_of game) replay
+      → HasEntry (with_first true aim) (heading_of game) replay
   some_first (ply, less, entry) = first_wanted (ply + 1) ply (omega arith) less entry.0
 
-  first_of_all : HasEntry (with_first true aim) (heading_in parts) replay
-      → HasEntry (with_first false aim) (heading_in parts) replay
+  first_of_all : HasEntry (with_first true aim) (heading_of game) replay
+      → HasEntry (with_first false aim) (heading_of game) replay
   first_of_all (ply, less, entry) = (ply, less, (entry.0, λ only. absurd (cc)))
 
-  written_all : (text : List ℕ) → IsWritten (with_first true aim) id parts replay text
-      → IsWritten (with_first false aim) id parts replay text
+  written_all : (text : List ℕ) → IsWritten (with_first true aim) id game replay text
+      → IsWritten (with_first false aim) id game replay text
   written_all text (selected has own) =
       selected (selected_by aim.select _ _ first_of_all some_first has)
-      (text_of_any aim id parts text aim.form true false own)
+      (text_of_any aim id game text aim.form true false own)
   written_all text (unselected none empty) =
       unselected (λ has. none (selected_by aim.select _ _ some_first first_of_all has)) empty
 
-  written_first : (text : List ℕ) → IsWritten (with_first false aim) id parts replay text
-      → IsWritten (with_first true aim) id parts replay text
+  written_first : (text : List ℕ) → IsWritten (with_first false aim) id game replay text
+      → IsWritten (with_first true aim) id game replay text
   written_first text (selected has own) =
       selected (selected_by aim.select _ _ some_first first_of_all has)
-      (text_of_any aim id parts text aim.form false true own)
+      (text_of_any aim id game text aim.form false true own)
   written_first text (unselected none empty) =
       unselected (λ has. none (selected_by aim.select _ _ first_of_all some_first has)) empty
 
 module _ (aim : Aim) where
-  game_all : (id : GameId) (parts : List Part) (text : List ℕ)
-      → IsGameExport (with_first true aim) id parts text
-      → IsGameExport (with_first false aim) id parts text
-  game_all id parts text (sound replay is written) =
-      sound replay is (written_all aim id parts replay is text written)
-  game_all id parts text (faulty fault is empty) = faulty fault is empty
+  game_all : (id : GameId) (game : GameText) (text : List ℕ)
+      → IsGameExport (with_first true aim) id game text
+      → IsGameExport (with_first false aim) id game text
+  game_all id game text (sound replay is written) =
+      sound replay is (written_all aim id game replay is text written)
+  game_all id game text (faulty fault is empty) = faulty fault is empty
 
-  game_first : (id : GameId) (parts : List Part) (text : List ℕ)
-      → IsGameExport (with_first false aim) id parts text
-      → IsGameExport (with_first true aim) id parts text
-  game_first id parts text (sound replay is written) =
-      sound replay is (written_first aim id parts replay is text written)
-  game_first id parts text (faulty fault is empty) = faulty fault is empty
+  game_first : (id : GameId) (game : GameText) (text : List ℕ)
+      → IsGameExport (with_first false aim) id game text
+      → IsGameExport (with_first true aim) id game text
+  game_first id game text (sound replay is written) =
+      sound replay is (written_first aim id game replay is text written)
+  game_first id game text (faulty fault is empty) = faulty fault is empty
 
   piece_all : (id : GameId) (kind : PieceKind) (text : List ℕ)
       → IsPieceExport (with_first true aim) id kind text
       → IsPieceExport (with_first false aim) id kind text
-  piece_all id (ReadableGame parts) text of = game_all id parts text of
+  piece_all id (ReadableGame parts) text (game, is, of) = (game, is, game_all id game text of)
   piece_all id (UnreadableRest bytes) text of = of
   piece_all id TooLongBlock text of = of
 
   piece_first : (id : GameId) (kind : PieceKind) (text : List ℕ)
       → IsPieceExport (with_first false aim) id kind text
       → IsPieceExport (with_first true aim) id kind text
-  piece_first id (ReadableGame parts) text of = game_first id parts text of
+  piece_first id (ReadableGame parts) text (game, is, of) =
+      (game, is, game_first id game text of)
   piece_first id (UnreadableRest bytes) text of = of
   piece_first id TooLongBlock text of = of
 

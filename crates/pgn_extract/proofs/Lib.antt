@@ -1,5 +1,4 @@
 pub mod AllTaken
-pub mod TextPut
 pub mod Beginnings
 pub mod BegunAll
 pub mod BlockWritten
@@ -49,7 +48,6 @@ pub mod Found
 pub mod RestOfBlock
 pub mod Resumed
 pub mod RunProgress
-pub mod SameTags
 pub mod SeveralFacts
 pub mod SeveralPackFacts
 pub mod StoppedFiles

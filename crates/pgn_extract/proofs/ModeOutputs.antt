@@ -4,7 +4,7 @@ use Rattle.std.proofs.Common.{◌≡◌, ℕ, ◌+◌, Bool, true, false, if◌t
 use Rattle.std.proofs.Common.{refl, sym, ap, ◌∙◌, subst, append_assoc, Option}
 use Rattle.pgn_text.specs.Public.Marks.{PieceKind, ReadableGame, UnreadableRest, TooLongBlock}
 use Rattle.pgn_text.specs.Public.Marks.{MarkedPiece}
-use Rattle.pgn_text.specs.Public.Parts.{Part}
+use Rattle.pgn_text.specs.Public.GameTexts.{GameText}
 use Rattle.pgn_extract.specs.Public.Choices.{id_of, IfChosen, is_chosen}
 use Rattle.pgn_extract.specs.Public.Index.{index, index_line}
 use Rattle.pgn_extract.specs.Public.Listing.{Entry, entry_line, listing}
@@ -15,7 +15,7 @@ use Rattle.pgn_extract.specs.Public.Exports.{IsPieceExport, AreExports, faulty_t
 use Rattle.pgn_extract.specs.Public.Laws.{RunIndexes, RunExports}
 use Rattle.pgn_extract.specs.Public.Runs.{Adds}
 use Rattle.pgn_extract.specs.Public.Verdicts.{Verdict, SoundGame, FaultyGame, output_of}
-use Rattle.pgn_extract.specs.Public.Verdicts.{output_text, IsListed, IsExported, IsVerdictIn}
+use Rattle.pgn_extract.specs.Public.Verdicts.{output_text, IsReplayed, IsVerdictIn}
 use Rattle.pgn_extract.specs.Public.Verdicts.{IsPieceVerdict, AreVerdicts}
 use Rattle.pgn_extract.specs.Public.Aims.{Aim, GameId}
 use Rattle.pgn_extract.specs.declared.settings.Mode.TheVariants as modes
@@ -30,13 +30,13 @@ listing-append name (x ∷ xs) ys =
     ∙ sym (append_assoc (entry_line name x) (listing name xs) (listing name ys))
 
 -- a game's entries
-of_game : (aim : Aim) (verdict : Verdict) (id : GameId) (parts : List Part)
-    → IsListed aim verdict id parts
-    → (own : List Entry) × AreGameEntries aim id parts own
+of_game : (aim : Aim) (verdict : Verdict) (id : GameId) (game : GameText)
+    → IsReplayed modes.List aim id game verdict
+    → (own : List Entry) × AreGameEntries aim id game own
     × (output_of verdict ≡ listing aim.name own)
-of_game aim (SoundGame text) id parts (replay, entries, is, these, here) =
+of_game aim (SoundGame text) id game (replay, is, (entries, these, here)) =
     (entries, sound replay is these, here)
-of_game aim (FaultyGame text line note) id parts (fault, is, here, noted, empty) =
+of_game aim (FaultyGame text line note) id game (fault, is, here, noted, empty) =
     ([], faulty fault is refl, empty)
 
 -- a piece's entries
@@ -45,7 +45,9 @@ of_piece : (kind : PieceKind) (aim : Aim) → aim.mode ≡ modes.List
     → (own : List Entry) × ArePieceEntries aim kind id own
     × (output_of verdict ≡ listing aim.name own)
 of_piece (ReadableGame parts) aim lists id verdict is =
-    of_game aim verdict id parts (subst (λ m. IsVerdictIn m aim id parts verdict) lists is)
+    let (game, made, by) = subst (λ m. IsVerdictIn m aim id parts verdict) lists is in
+    let own = of_game aim verdict id game by in
+    (own.0, (game, made, own.1), own.2)
 of_piece (UnreadableRest bytes) aim lists id verdict (note, noted, names, is) =
     ([], refl, ap output_of is ∙ ap (λ m. faulty_text m aim.select bytes) lists)
 of_piece TooLongBlock aim lists id verdict (note, noted, is) = ([], refl, ap output_of is)
@@ -79,11 +81,11 @@ of_pieces aim lists number (piece ∷ more) verdicts (verdict, rest, parted, is,
     )
 
 -- a game's export
-export_of_game : (aim : Aim) (verdict : Verdict) (id : GameId) (parts : List Part)
-    → IsExported aim verdict id parts
-    → IsGameExport aim id parts (output_of verdict)
-export_of_game aim (SoundGame text) id parts (replay, is, written) = exported replay is written
-export_of_game aim (FaultyGame text line note) id parts (fault, is, here, noted, written) =
+export_of_game : (aim : Aim) (verdict : Verdict) (id : GameId) (game : GameText)
+    → IsReplayed modes.Export aim id game verdict
+    → IsGameExport aim id game (output_of verdict)
+export_of_game aim (SoundGame text) id game (replay, is, written) = exported replay is written
+export_of_game aim (FaultyGame text line note) id game (fault, is, here, noted, written) =
     unexported fault is written
 
 -- a piece's export
@@ -91,7 +93,8 @@ export_of_piece : (kind : PieceKind) (aim : Aim) → aim.mode ≡ modes.Export
     → (id : GameId) (verdict : Verdict) → IsPieceVerdict kind aim id verdict
     → IsPieceExport aim id kind (output_of verdict)
 export_of_piece (ReadableGame parts) aim exports id verdict is =
-    export_of_game aim verdict id parts (subst (λ m. IsVerdictIn m aim id parts verdict) exports is)
+    let (game, made, by) = subst (λ m. IsVerdictIn m aim id parts verdict) exports is in
+    (game, made, export_of_game aim verdict id game by)
 export_of_piece (UnreadableRest bytes) aim exports id verdict (note, noted, names, is) =
     ap output_of is ∙ ap (λ m. faulty_text m aim.select bytes) exports
 export_of_piece TooLongBlock aim exports id verdict (note, noted, is) = ap output_of is

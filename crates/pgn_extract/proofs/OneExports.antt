@@ -1,8 +1,7 @@
 -- The exports of pieces are one text.
 use Rattle.std.proofs.Common.{◌≡◌, ℕ, ◌+◌, List, [], ◌∷◌, ◌++◌, sym, ap, ◌∙◌, subst}
-use Rattle.pgn_text.specs.Public.Games.{items_of, first_tag}
+use Rattle.pgn_text.specs.Public.GameTexts.{GameText, tag_in}
 use Rattle.pgn_text.specs.Public.Marks.{PieceKind, ReadableGame, UnreadableRest, TooLongBlock}
-use Rattle.pgn_text.specs.Public.Parts.{Part}
 use Rattle.pgn_game.specs.Public.Replays.{Replay}
 use Rattle.pgn_game.specs.Public.Starts.{fen_tag}
 use Rattle.pgn_game.proofs.OneReplay.{one_replay, no_fault}
@@ -11,33 +10,35 @@ use Rattle.pgn_extract.specs.Public.Choices.{id_of, is_chosen}
 use Rattle.pgn_extract.specs.Public.Exports.{written_lines, IsWritten, IsGameExport, sound, faulty}
 use Rattle.pgn_extract.specs.Public.Exports.{IsPieceExport}
 use Rattle.pgn_extract.specs.Public.Laws.{TextHasOneExport}
-use Rattle.pgn_extract.proofs.GameExport.{one_export_of_parts}
+use Rattle.pgn_extract.proofs.GameExport.{one_game}
 use Rattle.pgn_extract.proofs.OneVerdict.{one_written}
 use Rattle.pgn_extract.proofs.ChoiceFacts.{by_both}
 
-of_game : (aim : Aim) (id : GameId) (parts : List Part) (x y : List ℕ) → IsGameExport aim id parts x
-    → IsGameExport aim id parts y → x ≡ y
-of_game aim id parts x y (sound first is this) (sound second also that) =
+of_game : (aim : Aim) (id : GameId) (game : GameText) (x y : List ℕ) → IsGameExport aim id game x
+    → IsGameExport aim id game y → x ≡ y
+of_game aim id game x y (sound first is this) (sound second also that) =
     let same : second ≡ first =
-    one_replay (written_lines aim) (first_tag fen_tag parts) (items_of parts) second first also
+    one_replay (written_lines aim) (tag_in fen_tag game.tags) game.elements second first also
     is in
-    one_written one_export_of_parts aim id parts first x y this
-    (subst (λ (r : Replay). IsWritten aim id parts r y) same that)
-of_game aim id parts x y (sound first is this) (faulty fault also none) =
-    absurd (no_fault (written_lines aim) (first_tag fen_tag parts) (items_of parts) fault (
+    one_written aim id game first x y this
+    (subst (λ (r : Replay). IsWritten aim id game r y) same that)
+of_game aim id game x y (sound first is this) (faulty fault also none) =
+    absurd (no_fault (written_lines aim) (tag_in fen_tag game.tags) game.elements fault (
       first,
       is,
     ) also)
-of_game aim id parts x y (faulty fault is none) (sound second also that) =
-    absurd (no_fault (written_lines aim) (first_tag fen_tag parts) (items_of parts) fault (
+of_game aim id game x y (faulty fault is none) (sound second also that) =
+    absurd (no_fault (written_lines aim) (tag_in fen_tag game.tags) game.elements fault (
       second,
       also,
     ) is)
-of_game aim id parts x y (faulty fault is none) (faulty other also empty) = none ∙ sym empty
+of_game aim id game x y (faulty fault is none) (faulty other also empty) = none ∙ sym empty
 
 of_piece : (kind : PieceKind) (aim : Aim) (id : GameId) (x y : List ℕ) → IsPieceExport aim id kind x
     → IsPieceExport aim id kind y → x ≡ y
-of_piece (ReadableGame parts) aim id x y a b = of_game aim id parts x y a b
+of_piece (ReadableGame parts) aim id x y (game, is, a) (other, also, b) =
+    of_game aim id game x y a
+    (subst (λ g. IsGameExport aim id g y) (one_game parts other game also is) b)
 of_piece (UnreadableRest bytes) aim id x y a b = a ∙ sym b
 of_piece TooLongBlock aim id x y a b = a ∙ sym b
 

@@ -163,10 +163,12 @@ of_whole : (aim : Aim) (before rest : List MarkedPiece) (number : ℕ) (e : Entr
 of_whole aim before rest number e of = record {
   place = length before + of.place;
   parts = of.parts;
+  game = of.game;
   replay = of.replay;
-  game = place_after before rest of.place ∙ of.game;
+  piece = place_after before rest of.place ∙ of.piece;
   numbered = (let n = of.numbered in omega arith);
   chosen = of.chosen;
+  is_game = of.is_game;
   is_replay = of.is_replay;
   within = of.within;
   listed = of.listed;
@@ -182,11 +184,13 @@ of_rest aim before rest number e of low =
     let place : of.place ≡ length before + (of.place - length before) = omega arith in record {
       place = of.place - length before;
       parts = of.parts;
+      game = of.game;
       replay = of.replay;
-      game = sym (place_after before rest (of.place - length before))
-          ∙ sym (ap (slice_get (before ++ rest)) place) ∙ of.game;
+      piece = sym (place_after before rest (of.place - length before))
+          ∙ sym (ap (slice_get (before ++ rest)) place) ∙ of.piece;
       numbered = omega arith;
       chosen = of.chosen;
+      is_game = of.is_game;
       is_replay = of.is_replay;
       within = of.within;
       listed = of.listed;
@@ -232,10 +236,12 @@ listed_ply : (aim : Aim) (number : ℕ) (pieces : List MarkedPiece) (e : Entry)
 listed_ply aim number pieces e of = record {
   place = of.place;
   parts = of.parts;
-  replay = of.replay;
   game = of.game;
+  replay = of.replay;
+  piece = of.piece;
   numbered = of.numbered;
   chosen = of.chosen;
+  is_game = of.is_game;
   is_replay = of.is_replay;
   within = of.within;
   listed = of.listed;
@@ -247,10 +253,12 @@ ply_listed : (aim : Aim) (number : ℕ) (pieces : List MarkedPiece) (e : Entry)
 ply_listed aim number pieces e of = record {
   place = of.place;
   parts = of.parts;
-  replay = of.replay;
   game = of.game;
+  replay = of.replay;
+  piece = of.piece;
   numbered = of.numbered;
   chosen = of.chosen;
+  is_game = of.is_game;
   is_replay = of.is_replay;
   within = of.within;
   listed = of.listed;

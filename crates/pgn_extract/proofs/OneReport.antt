@@ -1,19 +1,15 @@
 -- The pieces of a text are reported in only one way, but for the notes.
 use Rattle.std.proofs.Common.{ℕ, List, sym, ◌∙◌}
 use Rattle.pgn_text.specs.Public.Marks.{MarkedPiece}
-use Rattle.pgn_game.proofs.OneReplay.{one_replay, one_fault, no_fault}
 use Rattle.pgn_extract.specs.Public.Aims.{Aim}
 use Rattle.pgn_extract.specs.Public.Laws.{TextHasOneReport}
-use Rattle.pgn_extract.proofs.GameExport.{one_export_of_parts}
 use Rattle.pgn_extract.specs.Public.Verdicts.{Verdict, AreVerdicts, IsSameReport}
 use Rattle.pgn_extract.proofs.OneVerdict.{all_one_verdict, bare_verdicts}
 
 pub same_report : (aim : Aim) (number : ℕ) (pieces : List MarkedPiece) (xs ys : List Verdict)
     → AreVerdicts aim number pieces xs → AreVerdicts aim number pieces ys → IsSameReport aim xs ys
 same_report aim number pieces xs ys x y =
-    let same =
-    all_one_verdict one_replay one_fault no_fault one_export_of_parts aim number pieces xs ys x
-    y in record {
+    let same = all_one_verdict aim number pieces xs ys x y in record {
       but_notes = same;
       without_notes = λ plain. sym (bare_verdicts aim plain number pieces xs x) ∙ same
           ∙ bare_verdicts aim plain number pieces ys y;

@@ -5,7 +5,8 @@ use Rattle.std.proofs.Common.{length, drop, Option, Some, refl, sym, ap, ◌∙�
 use Rattle.std.proofs.Common.{length-append, length-drop, arith}
 use Rattle.std.specs.List.{AllByRecursion}
 use Rattle.std.proofs.lemmas.Bool.Decides.{nat_tests}
-use Rattle.std.specs.Prelude.{◌&&◌, true, nat_le, IfSome, IsTrue}
+use Rattle.std.specs.Prelude.{true, nat_le, IfSome, IsTrue}
+use Rattle.pgn_text.specs.Public.GameTexts.{GameText, ShowsGame}
 use Rattle.pgn_text.specs.Public.Limits.{block_limit, depth_limit, largest_offset}
 use Rattle.pgn_text.specs.Public.Marks.{PieceKind, ReadableGame, UnreadableRest, TooLongBlock}
 use Rattle.pgn_text.specs.Public.Marks.{MarkedPiece, marked, AreOfBlock, over, within, AreOfBlocks}
@@ -16,13 +17,12 @@ use Rattle.pgn_text.proofs.MarkBounds.{mark_bounds}
 use Rattle.pgn_game.proofs.PackRoom.{game_fits}
 use Rattle.pgn_game.specs.Public.PackedGames.{PackedGame, FitsRecord, longest_name, is_origin}
 use Rattle.pgn_game.specs.Public.PackedGames.{is_shown_name}
-use Rattle.pgn_game.specs.declared.replays.replayer.Lines.TheVariants.{Main}
 use Rattle.pgn_extract.specs.Public.Laws.{PackIsListedAsItsText}
 use Rattle.pgn_extract.specs.Public.Runs.{job_of, Completes}
 use Rattle.pgn_extract.proofs.ModeOutputs.{run_exports}
 use Rattle.pgn_extract.specs.Public.Searching.{AreGameRecords, sound, faulty, ArePieceRecords}
 use Rattle.pgn_extract.specs.Public.Searching.{AreRecords, IsPackOf, PackedTextIsAPack}
-use Rattle.pgn_extract.proofs.GameExport.{own_replay}
+use Rattle.pgn_extract.specs.Public.Listing.{IsGameOf}
 use Rattle.pgn_extract.proofs.PackTaken.{pieces_records}
 use Rattle.pgn_extract.specs.declared.marks.GameId.{GameId}
 use Rattle.pgn_extract.specs.Public.GivenMarks.{game_id}
@@ -99,21 +99,22 @@ is_met_there id name counted placed shown =
     let second : nat_le id.offset largest_offset ≡ true = grind (arith, nat_tests) in
     rw (first, second, shown) refl
 
-record_fits : (name : Option (List ℕ)) (id : GameId) (parts : List Part) (records : List PackedGame)
+record_fits : (name : Option (List ℕ)) (id : GameId) (parts : List Part) (game : GameText)
+    → IsGameOf parts game → (records : List PackedGame)
     → IfSome name (λ own. length own ≤ longest_name)
     → id.number < 2 ^ 64 → id.offset < 2 ^ 64 → IsTrue (is_origin id.number id.offset name)
-    → length (spelled parts) ≤ block_limit → AreGameRecords name id parts records
+    → length (spelled parts) ≤ block_limit → AreGameRecords name id game records
     → AllByRecursion FitsRecord records
-record_fits name id parts records short number_fits offset_fits origin small
-    (sound game replay packed good shows is packs one) =
-    let own = own_replay Main game parts replay shows is in
+record_fits name id parts game (good, shows) records short number_fits offset_fits origin small
+    (sound replay packed is packs one) =
     let text : length game.text ≤ block_limit = omega (arith, ap length shows.text) in
+    let here = subst (λ n. ShowsGame game n parts) (sym shows.place) shows in
     subst (AllByRecursion FitsRecord) (sym one) (
-      game_fits name id.number id.offset game parts replay packed good shows text own packs short
+      game_fits name id.number id.offset game parts replay packed good here text is packs short
           number_fits offset_fits origin,
       tt,
     )
-record_fits name id parts records short number_fits offset_fits origin small
+record_fits name id parts game made records short number_fits offset_fits origin small
     (faulty fault is none) = subst (AllByRecursion FitsRecord) (sym none) tt
 
 piece_fits : (name : Option (List ℕ)) (id : GameId) (kind : PieceKind) (records : List PackedGame)
@@ -121,8 +122,9 @@ piece_fits : (name : Option (List ℕ)) (id : GameId) (kind : PieceKind) (record
     → id.number < 2 ^ 64 → id.offset < 2 ^ 64 → IsTrue (is_origin id.number id.offset name)
     → IsSmallKind kind → ArePieceRecords name kind id records
     → AllByRecursion FitsRecord records
-piece_fits name id (ReadableGame parts) records short number_fits offset_fits origin small are =
-    record_fits name id parts records short number_fits offset_fits origin small are
+piece_fits name id (ReadableGame parts) records short number_fits offset_fits origin small
+    (game, made, are) =
+    record_fits name id parts game made records short number_fits offset_fits origin small are
 piece_fits name id (UnreadableRest bytes) records short number_fits offset_fits origin small none =
     subst (AllByRecursion FitsRecord) (sym none) tt
 piece_fits name id TooLongBlock records short number_fits offset_fits origin small none =

@@ -2,8 +2,7 @@
 -- games.
 use Rattle.std.proofs.Common.{◌≡◌, ◌⊎◌, ℕ, ◌+◌, inl, inr, List, [], ◌∷◌, ◌++◌, Option, refl, sym}
 use Rattle.std.proofs.Common.{ap, ap₂, ◌∙◌, subst, append_assoc, append-nil}
-use Rattle.pgn_text.specs.Public.GameTexts.{GameText, ShowsGame}
-use Rattle.pgn_text.specs.Public.Games.{items_of, first_tag}
+use Rattle.pgn_text.specs.Public.GameTexts.{GameText, IsGameText, tag_in}
 use Rattle.pgn_text.specs.Public.Marks.{PieceKind, ReadableGame, UnreadableRest, TooLongBlock}
 use Rattle.pgn_text.specs.Public.Marks.{MarkedPiece}
 use Rattle.pgn_text.specs.Public.Parts.{Part}
@@ -12,14 +11,14 @@ use Rattle.pgn_game.proofs.PackOnce.{one_pack}
 use Rattle.pgn_game.specs.Public.PackedGames.{PackedGame, IsPacked, pack_bytes}
 use Rattle.pgn_game.specs.Public.Starts.{fen_tag}
 use Rattle.pgn_game.specs.declared.replays.replayer.Lines.TheVariants.{Main}
-use Rattle.pgn_criteria.specs.Public.Meeting.{Heading, heading_of}
+use Rattle.pgn_criteria.specs.Public.Meeting.{heading_of}
 use Rattle.pgn_extract.specs.Public.Aims.{Aim, GameId}
 use Rattle.pgn_extract.specs.Private.EntryRows.{AreGameEntries, sound as sound_rows}
 use Rattle.pgn_extract.specs.Private.EntryRows.{faulty as faulty_rows, ArePieceEntries}
 use Rattle.pgn_extract.specs.Private.EntryRows.{AreEntryRows}
-use Rattle.pgn_extract.specs.Public.GameReports.{AreListed}
+use Rattle.pgn_extract.specs.Public.GameReports.{AreListed, IsReplayOf}
 use Rattle.pgn_extract.specs.Public.Index.{mark_line}
-use Rattle.pgn_extract.specs.Public.Listing.{Entry, AreEntries, listing, heading_in}
+use Rattle.pgn_extract.specs.Public.Listing.{Entry, AreEntries, IsGameOf, listing}
 use Rattle.pgn_extract.specs.Public.Searching.{AreGameRecords, sound, faulty, ArePieceRecords}
 use Rattle.pgn_extract.specs.Public.Searching.{AreRecords, IsPackOf, IsRecordListing}
 use Rattle.pgn_extract.specs.Public.Searching.{AreRecordLines, ArePackLines, BeginsWithRecords}
@@ -28,7 +27,7 @@ use Rattle.pgn_extract.specs.Public.Searching.{keep, leave, of_all}
 use Rattle.pgn_extract.specs.declared.settings.Mode.{Mode}
 use Rattle.pgn_extract.specs.declared.settings.Mode.TheVariants as modes
 use Rattle.pgn_extract.proofs.ExactEntries.{are_entries}
-use Rattle.pgn_extract.proofs.GameExport.{own_replay}
+use Rattle.pgn_extract.proofs.GameExport.{one_game}
 use Rattle.pgn_extract.proofs.ModeOutputs.{listing-append}
 use Rattle.pgn_extract.proofs.OneListing.{one_listing}
 use Rattle.pgn_extract.specs.Public.GivenMarks.{game_id}
@@ -64,22 +63,14 @@ one_more_record aim (first ∷ before) packed text own (lines, others, parted, h
   one_more_record aim before packed others own listed of,
 )
 
--- the heading of a game is that of its parts
-same_heading : (game : GameText) (at : ℕ) (parts : List Part) → ShowsGame game at parts
-    → heading_of game ≡ heading_in parts
-same_heading game at parts shows =
-    λ i. record { named = λ name. shows.tags name i; result = shows.result i }
-
 -- what is listed of a record is listed of the game
 game_rows : (aim : Aim) → aim.mode ≡ modes.List
-    → (name : Option (List ℕ)) (id : GameId) (parts : List Part) (own : List PackedGame)
-    (text : List ℕ)
-    → AreGameRecords name id parts own → ArePackLines aim own text
-    → (rows : List Entry) × AreGameEntries (of_all aim) id parts rows × (text ≡ listing name rows)
-game_rows aim list name id parts own text (sound game replay packed good shows is packs one)
-    listed =
+    → (name : Option (List ℕ)) (id : GameId) (game : GameText) → IsGameText game
+    → (own : List PackedGame) (text : List ℕ)
+    → AreGameRecords name id game own → ArePackLines aim own text
+    → (rows : List Entry) × AreGameEntries (of_all aim) id game rows × (text ≡ listing name rows)
+game_rows aim list name id game good own text (sound replay packed is packs one) listed =
     let (lines, others, parted, of, none) = subst (λ r. ArePackLines aim r text) one listed in
-    let played = own_replay Main game parts replay shows is in
     let own_mark : IsPacked packed.name packed.number packed.offset game replay packed = record {
       name = refl;
       number = refl;
@@ -93,21 +84,16 @@ game_rows aim list name id parts own text (sound game replay packed good shows i
     } in
     let here : IsRecordListing aim packed lines =
     subst (λ (m : Mode). AreRecordLines m aim packed lines) list of in
-    let found = here game replay good played own_mark in
-    let headed : AreListed aim (game_id packed.number packed.offset) (heading_in parts) replay
-    found.0 =
-    subst (λ (heading : Heading).
-    AreListed aim (game_id packed.number packed.offset) heading replay found.0)
-    (same_heading game game.at parts shows) found.1 in
-    let marked : AreListed aim id (heading_in parts) replay found.0 =
-    subst (λ (i : GameId). AreListed aim i (heading_in parts) replay found.0)
-    (ap₂ game_id packs.number packs.offset) headed in (
+    let found = here game replay good is own_mark in
+    let marked : AreListed aim id (heading_of game) replay found.0 =
+    subst (λ (i : GameId). AreListed aim i (heading_of game) replay found.0)
+    (ap₂ game_id packs.number packs.offset) found.1 in (
       found.0,
       sound_rows replay is marked,
       parted ∙ ap (λ t. lines ++ t) none ∙ append-nil lines ∙ found.2
           ∙ ap (λ (title : Option (List ℕ)). listing title found.0) packs.name,
     )
-game_rows aim list name id parts own text (faulty fault is none) listed =
+game_rows aim list name id game good own text (faulty fault is none) listed =
     ([], faulty_rows fault is refl, subst (λ r. ArePackLines aim r text) none listed)
 
 piece_rows : (aim : Aim) → aim.mode ≡ modes.List
@@ -115,8 +101,9 @@ piece_rows : (aim : Aim) → aim.mode ≡ modes.List
     (text : List ℕ)
     → ArePieceRecords name kind id own → ArePackLines aim own text
     → (rows : List Entry) × ArePieceEntries (of_all aim) kind id rows × (text ≡ listing name rows)
-piece_rows aim list name (ReadableGame parts) id own text are listed =
-    game_rows aim list name id parts own text are listed
+piece_rows aim list name (ReadableGame parts) id own text (game, made, are) listed =
+    let rows = game_rows aim list name id game made.0 own text are listed in
+    (rows.0, (game, made, rows.1), rows.2)
 piece_rows aim list name (UnreadableRest bytes) id own text none listed =
     ([], refl, subst (λ r. ArePackLines aim r text) none listed)
 piece_rows aim list name TooLongBlock id own text none listed =
@@ -174,25 +161,28 @@ IsPieceLine name id kind line =
     (IsSoundPiece kind × (line ≡ mark_line name id)) ⊎ ((IsSoundPiece kind → ⊥) × (line ≡ []))
 
 game_line : (aim : Aim) → aim.mode ≡ modes.Index
-    → (name : Option (List ℕ)) (id : GameId) (parts : List Part) (own : List PackedGame)
-    (text : List ℕ)
-    → AreGameRecords name id parts own → ArePackLines aim own text
+    → (name : Option (List ℕ)) (id : GameId) (parts : List Part) (game : GameText)
+    → IsGameOf parts game → (own : List PackedGame) (text : List ℕ)
+    → AreGameRecords name id game own → ArePackLines aim own text
     → IsPieceLine name id (ReadableGame parts) text
-game_line aim index name id parts own text (sound game replay packed good shows is packs one)
-    lines =
+game_line aim index name id parts game made own text (sound replay packed is packs one) lines =
     let (line, others, parted, of, empty) = subst (λ r. ArePackLines aim r text) one lines in
     let marked : line ≡ mark_line packed.name (game_id packed.number packed.offset) =
     subst (λ (m : Mode). AreRecordLines m aim packed line) index of in
     inl (
-      (replay, is),
+      (game, made, replay, is),
       parted ∙ ap (λ t. line ++ t) empty ∙ append-nil line ∙ marked
           ∙ ap (λ (title : Option (List ℕ)).
           mark_line title (game_id packed.number packed.offset)) packs.name
           ∙ ap (mark_line name) (ap₂ game_id packs.number packs.offset),
     )
-game_line aim index name id parts own text (faulty fault is empty) lines =
+game_line aim index name id parts game made own text (faulty fault is empty) lines =
     inr (
-      λ good. no_fault Main (first_tag fen_tag parts) (items_of parts) fault good is,
+      λ good. no_fault Main (tag_in fen_tag game.tags) game.elements fault (
+        good.2,
+        subst (λ g. IsReplayOf Main g good.2)
+            (one_game parts good.0 game good.1 made) good.3,
+      ) is,
       subst (λ r. ArePackLines aim r text) empty lines,
     )
 
@@ -200,8 +190,8 @@ piece_line : (aim : Aim) → aim.mode ≡ modes.Index
     → (name : Option (List ℕ)) (kind : PieceKind) (id : GameId) (own : List PackedGame)
     (text : List ℕ)
     → ArePieceRecords name kind id own → ArePackLines aim own text → IsPieceLine name id kind text
-piece_line aim index name (ReadableGame parts) id own text are lines =
-    game_line aim index name id parts own text are lines
+piece_line aim index name (ReadableGame parts) id own text (game, made, are) lines =
+    game_line aim index name id parts game made own text are lines
 piece_line aim index name (UnreadableRest bytes) id own text empty lines =
     inr (λ no. no, subst (λ r. ArePackLines aim r text) empty lines)
 piece_line aim index name TooLongBlock id own text empty lines =

@@ -2,19 +2,16 @@
 use Rattle.std.proofs.Common.{◌≡◌, ℕ, ◌+◌, ◌<◌, List, [], ◌∷◌, ◌++◌, length, Option, refl, sym, ap}
 use Rattle.std.proofs.Common.{◌∙◌, subst, append-nil, arith}
 use Rattle.std.proofs.lemmas.List.Concat.{flat_map-append}
-use Rattle.pgn_text.specs.Public.GameTexts.{tag_in}
-use Rattle.pgn_text.specs.Public.Games.{Item, items_of}
+use Rattle.pgn_text.specs.Public.GameTexts.{GameText}
 use Rattle.pgn_text.specs.Public.Marks.{PieceKind, ReadableGame, UnreadableRest, TooLongBlock}
 use Rattle.pgn_text.specs.Public.Marks.{MarkedPiece}
-use Rattle.pgn_text.specs.Public.Parts.{Part, spelled}
 use Rattle.pgn_game.proofs.OneReplay.{line_length}
 use Rattle.pgn_game.specs.Public.MainLines.{main_words}
 use Rattle.pgn_game.specs.Public.PackedGames.{PackedGame, record_bytes, pack_bytes}
-use Rattle.pgn_game.specs.Public.Replays.{Replay, IsReplay}
-use Rattle.pgn_game.specs.Public.Starts.{fen_tag}
+use Rattle.pgn_game.specs.Public.Replays.{Replay}
 use Rattle.pgn_game.specs.declared.replays.replayer.Lines.{Lines}
 use Rattle.pgn_game.specs.declared.replays.replayer.Lines.TheVariants.{Main}
-use Rattle.pgn_criteria.specs.Public.Meeting.{Heading}
+use Rattle.pgn_criteria.specs.Public.Meeting.{Heading, heading_of}
 use Rattle.pgn_criteria.specs.Public.Conditions.{Conditions}
 use Rattle.pgn_extract.specs.Public.Aims.{Aim, GameId, IsMet}
 use Rattle.pgn_extract.specs.Public.Exports.{HasEntry, IsSelected, IsWritten, selected, unselected}
@@ -22,7 +19,6 @@ use Rattle.pgn_extract.specs.Public.Exports.{IsTextOf, sound as exported, faulty
 use Rattle.pgn_extract.specs.Public.Exports.{IsPieceExport, AreExports, faulty_text, lines_in}
 use Rattle.pgn_extract.specs.Public.Choices.{id_of, is_chosen}
 use Rattle.pgn_extract.specs.Public.GameReports.{IsReplayOf, IsFaultOf}
-use Rattle.pgn_extract.specs.Public.Listing.{heading_in}
 use Rattle.pgn_extract.specs.Public.Searching.{AreGameRecords, sound, faulty, ArePieceRecords}
 use Rattle.pgn_extract.specs.Public.Searching.{AreRecords, PacksAll}
 use Rattle.pgn_extract.specs.declared.settings.Form.{Form}
@@ -46,37 +42,30 @@ has_first packing tags replay all some =
     )
 
 -- so a sound game is selected
-is_selected : (packing : Aim) (parts : List Part) (replay : Replay) → PacksAll packing
-    → IsReplayOf Main parts replay
-    → IsSelected packing.select (HasEntry packing (heading_in parts) replay)
-is_selected packing parts replay all is =
+is_selected : (packing : Aim) (game : GameText) (replay : Replay) → PacksAll packing
+    → IsReplayOf Main game replay
+    → IsSelected packing.select (HasEntry packing (heading_of game) replay)
+is_selected packing game replay all is =
     let count : length replay.positions ≡ length replay.played + 1 =
-    line_length is.start (main_words (items_of parts) 0) replay.positions replay.played is.line
+    line_length is.start (main_words game.elements 0) replay.positions replay.played is.line
     in
-    subst (λ (select : Select). IsSelected select (HasEntry packing (heading_in parts) replay))
-    (sym all.select) (has_first packing (heading_in parts) replay all (omega (arith, count)))
+    subst (λ (select : Select). IsSelected select (HasEntry packing (heading_of game) replay))
+    (sym all.select) (has_first packing (heading_of game) replay all (omega (arith, count)))
 
 -- the record of a sound game
-sound_record : (packing : Aim) (id : GameId) (parts : List Part) (replay : Replay) (text : List ℕ)
-    → PacksAll packing → IsReplayOf Main parts replay
-    → IsWritten packing id parts replay text
-    → (records : List PackedGame) × AreGameRecords packing.name id parts records
+sound_record : (packing : Aim) (id : GameId) (game : GameText) (replay : Replay) (text : List ℕ)
+    → PacksAll packing → IsReplayOf Main game replay
+    → IsWritten packing id game replay text
+    → (records : List PackedGame) × AreGameRecords packing.name id game records
     × (text ≡ pack_bytes records)
-sound_record packing id parts replay text all is (selected entry of) =
-    let (game, good, shows, kept) =
-    subst (λ (form : Form). IsTextOf form packing id parts text) all.form of in
-    let items : IsReplay Main (tag_in fen_tag game.tags) (items_of parts) kept.replay =
-    subst (λ (list : List Item). IsReplay Main (tag_in fen_tag game.tags) list kept.replay)
-    shows.elements kept.is_replay in
-    let played : IsReplayOf Main parts kept.replay =
-    subst (λ (fen : Option (List ℕ)).
-    IsReplay Main fen (items_of parts) kept.replay) (shows.tags fen_tag) items in (
+sound_record packing id game replay text all is (selected entry of) =
+    let kept = subst (λ (form : Form). IsTextOf form packing id game text) all.form of in (
       kept.packed ∷ [],
-      sound game kept.replay kept.packed good shows played kept.is_packed refl,
+      sound kept.replay kept.packed kept.is_replay kept.is_packed refl,
       kept.spells ∙ sym (append-nil (record_bytes kept.packed)),
     )
-sound_record packing id parts replay text all is (unselected none empty) =
-    absurd (none (is_selected packing parts replay all is))
+sound_record packing id game replay text all is (unselected none empty) =
+    absurd (none (is_selected packing game replay all is))
 
 -- the lines that must be sound
 main_alone : (packing : Aim) → PacksAll packing → lines_in packing.form packing.style ≡ Main
@@ -92,15 +81,21 @@ piece_records : (packing : Aim) (id : GameId) (kind : PieceKind) (text : List �
     → IsPieceExport packing id kind text
     → (records : List PackedGame) × ArePieceRecords packing.name kind id records
     × (text ≡ pack_bytes records)
-piece_records packing id (ReadableGame parts) text all (exported replay is written) =
-    sound_record packing id parts replay text all
-    (subst (λ (lines : Lines). IsReplayOf lines parts replay) (main_alone packing all) is)
-    written
-piece_records packing id (ReadableGame parts) text all (unexported fault is written) = (
+piece_records packing id (ReadableGame parts) text all (game, made, exported replay is written) =
+    let own =
+    sound_record packing id game replay text all
+    (subst (λ (lines : Lines). IsReplayOf lines game replay) (main_alone packing all) is)
+    written in
+    (own.0, (game, made, own.1), own.2)
+piece_records packing id (ReadableGame parts) text all (game, made, unexported fault is written) = (
   [],
-  faulty fault (subst (λ (lines : Lines).
-      IsFaultOf lines parts fault) (main_alone packing all) is) refl,
-  nothing packing (spelled parts) text all written,
+  (
+    game,
+    made,
+    faulty fault (subst (λ (lines : Lines).
+        IsFaultOf lines game fault) (main_alone packing all) is) refl,
+  ),
+  nothing packing game.text text all written,
 )
 piece_records packing id (UnreadableRest bytes) text all written =
     ([], refl, nothing packing bytes text all written)

@@ -4,6 +4,7 @@ use Rattle.std.proofs.Common.{codes, count_by, decimal, length, ap, subst, refl,
 use Rattle.std.proofs.lemmas.Fmt.{decimal_digit}
 use Rattle.std.specs.declared.io.ErrorKind.TheVariants.{NotFound}
 use Rattle.chess.specs.Public.Positions.{State}
+use Rattle.pgn_text.specs.Public.GameTexts.{GameText}
 use Rattle.pgn_text.specs.Public.Marks.{ReadableGame, TooLongBlock, UnreadableRest}
 use Rattle.pgn_text.specs.Public.Parts.{Part}
 use Rattle.pgn_game.specs.Public.Faults.{AmbiguousMove, BadStart, IllegalMove}
@@ -12,22 +13,24 @@ use Rattle.pgn_game.specs.declared.exports.style.Style.{Style}
 use Rattle.pgn_game.specs.declared.replays.replayer.Lines.TheVariants.{All, Main}
 use Rattle.pgn_extract.specs.Public.Aims.{Aim, GameId}
 use Rattle.pgn_extract.specs.Public.Exports.{HasEntry, IsPieceExport, IsSelected, IsWritten}
-use Rattle.pgn_extract.specs.Public.Exports.{faulty_text, lines_in, selected, unselected}
+use Rattle.pgn_extract.specs.Public.Exports.{faulty_text, lines_in, selected, unselected, written_lines}
 use Rattle.pgn_extract.specs.Public.Choices.{is_chosen}
-use Rattle.pgn_extract.specs.Public.GameReports.{cause_text}
+use Rattle.pgn_extract.specs.Public.GameReports.{AreListed, cause_text}
 use Rattle.pgn_extract.specs.Public.Index.{fault_text, index, mark, mark_line}
-use Rattle.pgn_extract.specs.Public.Listing.{AreFields, IsFenField, heading_in, IsNextField}
-use Rattle.pgn_extract.specs.Public.Listing.{IsNextMove}
+use Rattle.pgn_extract.specs.Public.Listing.{AreFields, Entry, IsFenField, IsNextField, IsNextMove}
+use Rattle.pgn_extract.specs.Public.Listing.{listing}
 use Rattle.pgn_extract.specs.Public.Outcomes.{Writes}
 use Rattle.pgn_extract.specs.Public.Several.{AreOfPaths, AtPath, FileOf, IsOfPath, IsOpened, IsRead}
 use Rattle.pgn_extract.specs.Public.Several.{IsRefused, NoFile, Order, name_at, own_summary}
 use Rattle.pgn_extract.specs.Public.Several.{summary_text}
-use Rattle.pgn_extract.specs.Public.Verdicts.{FaultyGame, IsExported, IsListed, IsVerdict}
-use Rattle.pgn_extract.specs.Public.Verdicts.{SoundGame, Verdict, is_faulty, output_text}
+use Rattle.pgn_extract.specs.Public.Verdicts.{FaultyGame, IsOutput, IsReplayed, IsVerdict}
+use Rattle.pgn_extract.specs.Public.Verdicts.{SoundGame, Verdict, is_faulty, output_text, replayed_lines}
 use Rattle.pgn_extract.proofs.ChoiceFacts.{when_taken}
 use Rattle.pgn_extract.proofs.TwoFiles.{plain}
 use Rattle.pgn_extract.specs.declared.settings.Form.TheVariants.{AsItStands, Record, Standard}
+use Rattle.pgn_extract.specs.declared.settings.Mode.{Mode}
 use Rattle.pgn_extract.specs.declared.settings.Mode.TheVariants as modes
+use Rattle.pgn_criteria.specs.Public.Meeting.{heading_of}
 use Rattle.pgn_extract.specs.declared.settings.Select.TheVariants.{Faulty, Matching}
 use Rattle.pgn_extract.specs.Public.GivenMarks.{game_id}
 
@@ -98,11 +101,11 @@ lines_are : (style : Style) → (lines_in Record style ≡ Main)
 lines_are style = (refl, refl, refl)
 
 -- no sound game is written among the faulty ones, and no faulty one among those that are sought
-no_sound_game : (aim : Aim) (id : GameId) (parts : List Part) (replay : Replay)
-    → aim.select ≡ Faulty → IsWritten aim id parts replay (codes "x") → ⊥
-no_sound_game aim id parts replay faulty (selected is text) =
-    subst (λ select. IsSelected select (HasEntry aim (heading_in parts) replay)) faulty is
-no_sound_game aim id parts replay faulty (unselected is none) = cc
+no_sound_game : (aim : Aim) (id : GameId) (game : GameText) (replay : Replay)
+    → aim.select ≡ Faulty → IsWritten aim id game replay (codes "x") → ⊥
+no_sound_game aim id game replay faulty (selected is text) =
+    subst (λ select. IsSelected select (HasEntry aim (heading_of game) replay)) faulty is
+no_sound_game aim id game replay faulty (unselected is none) = cc
 
 no_faulty_bytes : (aim : Aim) (id : GameId) (bytes : List ℕ) → aim.select ≡ Matching
     → IsPieceExport aim id (UnreadableRest bytes) (codes "x") → ⊥
@@ -113,13 +116,27 @@ no_faulty_bytes aim id bytes matching is =
 -- ---- what is reported
 
 -- nothing is listed of a faulty game, and its line is not empty
-nothing_listed : (aim : Aim) (id : GameId) (parts : List Part) (line note : List ℕ)
-    → IsListed aim (FaultyGame (codes "x") line note) id parts → ⊥
-nothing_listed aim id parts line note (fault, first, is, noted, none) = cc
+nothing_listed : (aim : Aim) (id : GameId) (game : GameText) (line note : List ℕ)
+    → IsReplayed modes.List aim id game (FaultyGame (codes "x") line note) → ⊥
+nothing_listed aim id game line note (fault, first, is, noted, none) = cc
 
-no_fault_unsaid : (aim : Aim) (id : GameId) (parts : List Part) (text note : List ℕ)
-    → IsExported aim (FaultyGame text [] note) id parts → ⊥
-no_fault_unsaid aim id parts text note (fault, first, is, noted, written) = cc
+no_fault_unsaid : (mode : Mode) (aim : Aim) (id : GameId) (game : GameText) (text note : List ℕ)
+    → IsReplayed mode aim id game (FaultyGame text [] note) → ⊥
+no_fault_unsaid mode aim id game text note (fault, first, is, noted, written) = cc
+
+-- all lines that are written must be sound in the export alone
+lines_that_are_replayed : (aim : Aim)
+    → replayed_lines modes.Index aim ∷ replayed_lines modes.List aim
+    ∷ replayed_lines modes.Export aim ∷ []
+    ≡ Main ∷ Main ∷ written_lines aim ∷ []
+lines_that_are_replayed aim = refl
+
+-- where no entry is listed, nothing goes to the output
+no_line_of_no_entry : (aim : Aim) (id : GameId) (game : GameText) (replay : Replay)
+    → ((entries : List Entry) → AreListed aim id (heading_of game) replay entries
+    → codes "x" ≡ listing aim.name entries → ⊥)
+    → IsOutput modes.List aim id game replay (codes "x") → ⊥
+no_line_of_no_entry aim id game replay none (entries, listed, is) = none entries listed is
 
 -- bytes that are no game are not sound
 not_sound : (aim : Aim) (id : GameId) (bytes text : List ℕ) → is_chosen aim.chosen id ≡ true

@@ -6,15 +6,14 @@ use Rattle.pgn_game.specs.Public.Replays.{Replay}
 use Rattle.pgn_game.specs.declared.exports.notation.Notation.TheVariants.{San, Uci}
 use Rattle.pgn_criteria.specs.Public.Meeting.{Heading, Meets}
 use Rattle.pgn_criteria.specs.Public.Conditions.{Conditions}
-use Rattle.pgn_text.specs.Public.Games.{first_tag}
 use Rattle.pgn_text.specs.Public.Marks.{ReadableGame, UnreadableRest, TooLongBlock}
-use Rattle.pgn_text.specs.Public.Parts.{Part, Star, Tag}
+use Rattle.pgn_text.specs.Public.Parts.{Part}
 use Rattle.pgn_extract.specs.Public.Aims.{Aim, GameId, IsMet}
 use Rattle.pgn_extract.specs.Public.GameReports.{AreChosen, plies_of}
 use Rattle.pgn_extract.specs.Public.GivenMarks.{game_id, is_number, mark_of, mark_around}
 use Rattle.pgn_extract.specs.Public.Index.{index_line, mark, mark_line}
 use Rattle.pgn_extract.specs.Public.Listing.{Ascend, Entry, IsEarlier, IsPlyOfGame}
-use Rattle.pgn_extract.specs.Public.Listing.{entries_at_least, entry_line, heading_in}
+use Rattle.pgn_extract.specs.Public.Listing.{entries_at_least, entry_line}
 use Rattle.pgn_extract.specs.Public.Notes.{AreLines, indented}
 use Rattle.pgn_extract.specs.Public.Requests.{Refusal, asked_form, asked_mode, asked_select}
 use Rattle.pgn_extract.specs.Public.Requests.{asked_style, bad_mark, file_refusals, has_fields}
@@ -185,14 +184,6 @@ line_of_an_entry :
     ≡ (codes "a:" ++ mark (game_id 2 5)) ++ 32 ∷ decimal 3 ++ (codes " e4" ++ 10 ∷ [])
 line_of_an_entry = refl
 
-heading_has_the_first_tag : heading_in (Tag [] (codes "A") [] (codes "b") [] ∷ Star ∷ [])
-    ≡ record {
-      named = λ name. first_tag name (Tag [] (codes "A") [] (codes "b") [] ∷ Star
-          ∷ []);
-      result = codes "*";
-    }
-heading_has_the_first_tag = refl
-
 no_entry_is_earlier_than_itself : (entry : Entry) → IsEarlier entry entry → ⊥
 no_entry_is_earlier_than_itself entry is = elim is [
   | inl number ↦ omega (arith, number)
@@ -209,7 +200,7 @@ earlier_entries_are_left_out first second one two = rw one (rw two refl)
 
 no_entry_of_no_piece : (aim : Aim) (number : ℕ) (entry : Entry)
     → IsPlyOfGame aim number [] entry → ⊥
-no_entry_of_no_piece aim number entry is = let none = is.game in cc
+no_entry_of_no_piece aim number entry is = let none = is.piece in cc
 
 no_wanted_ply_is_left : (aim : Aim) (tags : Heading) (replay : Replay) (ply : ℕ)
     (criteria : List Conditions) → (Meets tags replay ply criteria → ⊥)

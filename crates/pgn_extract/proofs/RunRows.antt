@@ -4,31 +4,30 @@ use Rattle.std.proofs.Common.{codes, length, Option, None, Some, IfSome, ap, ref
 use Rattle.std.proofs.Common.{arith, ◌≤◌, drop}
 use Rattle.pgn_extract.specs.declared.output.outcome.RunError.TheVariants.{InputTooLong}
 use Rattle.pgn_text.specs.Public.Complete.{AreCompleteBlocks, AreCompletePieces}
-use Rattle.pgn_text.specs.Public.GameTexts.{GameText, IsGameText, tag_in}
-use Rattle.pgn_game.specs.Public.Starts.{fen_tag}
+use Rattle.pgn_text.specs.Public.GameTexts.{GameText, IsGameText}
 use Rattle.std.specs.Borrow.{Bor}
 use Rattle.std.specs.Io.KnownBytes.{Appends, Keeps}
 use Rattle.std.specs.List.{AllByRecursion}
 use Rattle.pgn_game.specs.Public.Faults.{Fault}
 use Rattle.pgn_game.specs.Public.PackStreams.{HasNoRecord}
 use Rattle.pgn_game.specs.Public.PackedGames.{FitsRecord, PackedGame, IsPacked, record_bytes}
-use Rattle.pgn_game.specs.Public.Replays.{Replay, IsReplay}
+use Rattle.pgn_game.specs.Public.Replays.{Replay}
 use Rattle.pgn_game.specs.declared.exports.style.Style.{Style}
 use Rattle.pgn_game.specs.declared.replays.replayer.Lines.TheVariants.{All, Main}
 use Rattle.pgn_criteria.specs.Public.Meeting.{Heading, heading_of}
 use Rattle.pgn_text.specs.Public.Limits.{largest_offset}
-use Rattle.pgn_text.specs.Public.Marks.{MarkedPiece, TooLongBlock, UnreadableRest, AreMarkedPieces}
+use Rattle.pgn_text.specs.Public.Marks.{MarkedPiece, ReadableGame, TooLongBlock, UnreadableRest}
+use Rattle.pgn_text.specs.Public.Marks.{AreMarkedPieces}
 use Rattle.pgn_text.specs.Public.Parts.{Part}
 use Rattle.pgn_text.specs.Public.Tallies.{Tallied}
 use Rattle.pgn_extract.specs.Public.Aims.{Aim, GameId}
-use Rattle.pgn_extract.specs.Public.Exports.{IsExportOf, IsGameExport, written_lines}
-use Rattle.pgn_extract.specs.Public.Exports.{IsGameRecordOf}
+use Rattle.pgn_extract.specs.Public.Exports.{IsGameExport, IsPieceExport, IsTextOf, written_lines}
 use Rattle.pgn_extract.specs.Public.Exports.IsGameExport.{sound as sound_export}
 use Rattle.pgn_extract.specs.Public.Exports.IsGameExport.{faulty as faulty_export}
 use Rattle.pgn_extract.specs.Public.GameReports.{AreListed, IsFaultOf, IsReplayOf}
 use Rattle.pgn_extract.specs.Public.GivenMarks.{game_id, mark_around}
 use Rattle.pgn_extract.specs.Public.Listing.{AreEntries, Entry, IsMainReplayOf, entries_at_least}
-use Rattle.pgn_extract.specs.Public.Listing.{listing}
+use Rattle.pgn_extract.specs.Public.Listing.{IsGameOf, listing}
 use Rattle.pgn_extract.specs.Public.Outcomes.{AppendsFront, BeginsAll, WritesComplete}
 use Rattle.pgn_extract.specs.Public.Requests.{option_refusals, refusals, text_refusals}
 use Rattle.pgn_extract.specs.Public.Resuming.{WritesRest, IsMarkAmong}
@@ -47,7 +46,7 @@ use Rattle.pgn_extract.specs.Public.Several.{AtPath, FileOf, IsOfPath, IsReport,
 use Rattle.pgn_extract.specs.Public.Several.{NoFile, Order, StopsInFile, Unknown, IsRead}
 use Rattle.pgn_extract.specs.Public.Several.{WritesPaths, WritesRead}
 use Rattle.pgn_extract.specs.Private.SeveralPacks.{SearchesPath, SearchesPaths}
-use Rattle.pgn_extract.specs.Public.Verdicts.{AreVerdicts, FaultyGame, IsGameVerdict, Verdict}
+use Rattle.pgn_extract.specs.Public.Verdicts.{AreVerdicts, IsReplayedGame, Verdict}
 use Rattle.pgn_extract.specs.Public.Verdicts.{fault_lines, output_text}
 use Rattle.pgn_extract.specs.Private.PackStops.{StopsAmongPacks, StopsAtPack, StopsInPack}
 use Rattle.pgn_extract.specs.declared.app.command.Request.{Request}
@@ -64,13 +63,13 @@ use Rattle.pgn_extract.specs.declared.settings.Mode.TheVariants as modes
 
 -- Games and their exports.
 
-no_turns_of_a_main_replay : (parts : List Part) (replay : Replay) → replay.turns ≢ []
-    → IsMainReplayOf parts replay → ⊥
-no_turns_of_a_main_replay parts replay some is = some is.turns
+no_turns_of_a_main_replay : (game : GameText) (replay : Replay) → replay.turns ≢ []
+    → IsMainReplayOf game replay → ⊥
+no_turns_of_a_main_replay game replay some is = some is.turns
 
-no_turns_where_the_main_line_is_asked : (parts : List Part) (replay : Replay) → replay.turns ≢ []
-    → IsReplayOf Main parts replay → ⊥
-no_turns_where_the_main_line_is_asked parts replay some is = some is.turns
+no_turns_where_the_main_line_is_asked : (game : GameText) (replay : Replay) → replay.turns ≢ []
+    → IsReplayOf Main game replay → ⊥
+no_turns_where_the_main_line_is_asked game replay some is = some is.turns
 
 no_entry_of_no_position : (aim : Aim) (id : GameId) (tags : Heading) (entry : Entry)
     → AreListed aim id tags (record { positions = []; played = []; turns = [] })
@@ -86,30 +85,32 @@ all_lines_are_written : (aim : Aim) (style : Style)
     ≡ All
 all_lines_are_written aim style = refl
 
-no_empty_export : (style : Style) (parts : List Part) → IsExportOf style parts [] → ⊥
-no_empty_export style parts (game, sound, shows, is) = none is.head is.movetext is.spells
+no_empty_export : (aim : Aim) (id : GameId) (game : GameText) → IsTextOf Standard aim id game [] → ⊥
+no_empty_export aim id game is = none is.head is.movetext is.spells
   where
     none : (head movetext : List ℕ) → [] ≡ head ++ 10 ∷ (movetext ++ 10 ∷ []) → ⊥
     none [] movetext spells = cc
     none (byte ∷ more) movetext spells = cc
 
-no_export_of_no_game : (aim : Aim) (id : GameId) (parts : List Part) (text : List ℕ)
-    → ((replay : Replay) → IsReplayOf (written_lines aim) parts replay → ⊥)
-    → ((fault : Fault) → IsFaultOf (written_lines aim) parts fault → ⊥)
-    → IsGameExport aim id parts text → ⊥
-no_export_of_no_game aim id parts text unsound faultless is = elim is [
+no_export_of_no_game : (aim : Aim) (id : GameId) (game : GameText) (text : List ℕ)
+    → ((replay : Replay) → IsReplayOf (written_lines aim) game replay → ⊥)
+    → ((fault : Fault) → IsFaultOf (written_lines aim) game fault → ⊥)
+    → IsGameExport aim id game text → ⊥
+no_export_of_no_game aim id game text unsound faultless is = elim is [
   | sound_export replay is_replay written ↦ unsound replay is_replay
   | faulty_export fault is_fault same ↦ faultless fault is_fault
 ]
 
-no_fault_of_a_game_in_the_index : (aim : Aim) (id : GameId) (parts : List Part)
-    (text line note : List ℕ)
-    → IsGameVerdict (record aim {
-      mode =
-          modes.Index;
-    }) id parts (FaultyGame text line note)
+-- of no other game is anything written or reported
+no_export_of_another_game : (aim : Aim) (id : GameId) (parts : List Part) (text : List ℕ)
+    → ((game : GameText) → IsGameOf parts game → ⊥) → IsPieceExport aim id (ReadableGame parts) text
     → ⊥
-no_fault_of_a_game_in_the_index aim id parts text line note is = cc
+no_export_of_another_game aim id parts text none is = none is.0 is.1
+
+no_verdict_on_another_game : (aim : Aim) (id : GameId) (parts : List Part) (verdict : Verdict)
+    → ((game : GameText) → IsGameOf parts game → ⊥)
+    → IsReplayedGame modes.List aim id parts verdict → ⊥
+no_verdict_on_another_game aim id parts verdict none is = none is.0 is.1
 
 -- Runs.
 
@@ -203,11 +204,11 @@ no_report_of_paths_unwritten order known paths out err none writes = none writes
 
 -- Packs.
 
-no_record_of_no_game : (name : Option (List ℕ)) (id : GameId) (parts : List Part)
-    (records : List PackedGame) → ((replay : Replay) → IsReplayOf Main parts replay → ⊥)
-    → ((fault : Fault) → IsFaultOf Main parts fault → ⊥) → AreGameRecords name id parts records → ⊥
-no_record_of_no_game name id parts records unsound faultless are = elim are [
-  | sound_record game replay packed is_game shows is_replay is_packed one ↦ unsound replay is_replay
+no_record_of_no_game : (name : Option (List ℕ)) (id : GameId) (game : GameText)
+    (records : List PackedGame) → ((replay : Replay) → IsReplayOf Main game replay → ⊥)
+    → ((fault : Fault) → IsFaultOf Main game fault → ⊥) → AreGameRecords name id game records → ⊥
+no_record_of_no_game name id game records unsound faultless are = elim are [
+  | sound_record replay packed is_replay is_packed one ↦ unsound replay is_replay
   | faulty_record fault is_fault none ↦ faultless fault is_fault
 ]
 
@@ -443,9 +444,9 @@ no_other_pack_is_named error name aim path whole out other stops = other stops.0
 
 -- What a run leaves as a whole.
 
-no_bytes_of_no_record : (aim : Aim) (id : GameId) (parts : List Part)
-    → IsGameRecordOf aim id parts [] → ⊥
-no_bytes_of_no_record aim id parts (game, sound, shows, is) = none is.packed is.spells
+no_bytes_of_no_record : (aim : Aim) (id : GameId) (game : GameText)
+    → IsTextOf Record aim id game [] → ⊥
+no_bytes_of_no_record aim id game is = none is.packed is.spells
   where
     none : (packed : PackedGame) → [] ≡ record_bytes packed → ⊥
     none packed spells = cc
@@ -516,8 +517,7 @@ no_file_unread order text out err none writes = none writes.0 writes.1 writes.2
 -- What a search of a pack finds is what was packed.
 
 no_other_lines_of_a_record : (aim : Aim) (packed : PackedGame) (text : List ℕ) (game : GameText)
-    (replay : Replay) → IsGameText game
-    → IsReplay Main (tag_in fen_tag game.tags) game.elements replay
+    (replay : Replay) → IsGameText game → IsReplayOf Main game replay
     → IsPacked packed.name packed.number packed.offset game replay packed
     → ((entries : List Entry) → text ≡ listing packed.name entries → ⊥)
     → IsRecordListing aim packed text → ⊥
@@ -525,8 +525,7 @@ no_other_lines_of_a_record aim packed text game replay sound is_replay is_packed
     let lines = is game replay sound is_replay is_packed in none lines.0 lines.2
 
 no_other_entries_of_a_record : (aim : Aim) (packed : PackedGame) (text : List ℕ)
-    (game : GameText) (replay : Replay) → IsGameText game
-    → IsReplay Main (tag_in fen_tag game.tags) game.elements replay
+    (game : GameText) (replay : Replay) → IsGameText game → IsReplayOf Main game replay
     → IsPacked packed.name packed.number packed.offset game replay packed
     → ((entries : List Entry)
     → AreListed aim (game_id packed.number packed.offset) (heading_of game) replay entries → ⊥)

@@ -3,25 +3,27 @@
 -- and each sound one has an export.
 use Rattle.std.proofs.Common.{◌≡◌, ◌⊎◌, ℕ, zero, suc, arith, ◌+◌, ◌<◌, ◌≤◌, ◌==◌, Bool, true, false}
 use Rattle.std.proofs.Common.{List, [], ◌∷◌, ◌++◌, map, length, Option, Some, None, IfSome, refl}
-use Rattle.std.proofs.Common.{sym, ◌∙◌, subst, inl, inr, codes}
+use Rattle.std.proofs.Common.{ap, sym, subst, inl, inr, codes}
 use Rattle.std.proofs.lemmas.Bool.{cases_lt, cases_Bool, both_ways}
-use Rattle.pgn_text.specs.Public.Games.{items_of, first_tag}
 use Rattle.pgn_text.specs.Public.Marks.{PieceKind, ReadableGame, UnreadableRest, TooLongBlock}
 use Rattle.pgn_text.specs.Public.Marks.{MarkedPiece, marked, AreOfBlock, over, within, AreOfBlocks}
 use Rattle.pgn_text.specs.Public.Marks.{AreMarkedPieces}
-use Rattle.pgn_text.specs.Public.GameTexts.{GameText, IsGameText, IsPaired, ShowsGame}
+use Rattle.pgn_text.specs.Public.GameTexts.{GameText, IsGameText, ShowsGame, tag_in}
 use Rattle.pgn_text.specs.Public.Parts.{Part, spelled}
 use Rattle.pgn_text.specs.Public.Pieces.{Piece, Game, Unreadable, ArePieces}
 use Rattle.pgn_text.specs.Public.Strings.{IsContents}
 use Rattle.pgn_text.proofs.ShownGame.{some_game_text}
 use Rattle.pgn_game.proofs.AnAnswer.{game_answer}
+use Rattle.pgn_game.proofs.SomeExport.{some_export}
+use Rattle.pgn_game.proofs.SomeRecord.{a_record}
+use Rattle.pgn_game.specs.Public.Exports.{lines_with}
 use Rattle.pgn_game.specs.Public.Faults.{Fault}
 use Rattle.pgn_game.specs.declared.replays.replayer.Lines.{Lines}
 use Rattle.pgn_game.specs.declared.replays.replayer.Lines.TheVariants.{Main}
 use Rattle.pgn_game.specs.Public.Starts.{fen_tag}
 use Rattle.pgn_extract.specs.Public.Choices.{id_of, IfChosen, is_chosen}
 use Rattle.pgn_extract.specs.Public.Index.{fault_text, mark_line}
-use Rattle.pgn_extract.specs.Public.Listing.{AreFields, listing, heading_in}
+use Rattle.pgn_extract.specs.Public.Listing.{AreFields, IsGameOf, listing}
 use Rattle.pgn_extract.specs.Public.GameReports.{plies_of, cause_text, IsReplayOf, IsFaultOf}
 use Rattle.pgn_game.proofs.GameLineFacts.{some_line}
 use Rattle.pgn_extract.specs.declared.settings.Form.{Form}
@@ -29,11 +31,12 @@ use Rattle.pgn_extract.specs.declared.settings.Form.TheVariants.{Standard, AsItS
 use Rattle.pgn_extract.specs.Public.Exports.{line_with, lines_in, written_lines, HasEntry, IsTextOf}
 use Rattle.pgn_extract.specs.Public.Exports.{IsWritten, selected, unselected, as_it_stands}
 use Rattle.pgn_extract.specs.Public.Exports.{faulty_text}
-use Rattle.pgn_extract.specs.Public.Verdicts.{Verdict, SoundGame, FaultyGame, IsVerdictIn}
+use Rattle.pgn_extract.specs.Public.Verdicts.{Verdict, SoundGame, FaultyGame, AreEntryLines}
+use Rattle.pgn_extract.specs.Public.Verdicts.{IsOutput, IsReplayed, replayed_lines, IsVerdictIn}
 use Rattle.pgn_extract.specs.Public.Verdicts.{IsReportedBy, IsPieceVerdict, AreVerdicts}
 use Rattle.pgn_extract.specs.Public.Verdicts.{IsUnreadableVerdict}
 use Rattle.pgn_game.specs.Public.Replays.{Replay}
-use Rattle.pgn_criteria.specs.Public.Meeting.{Heading}
+use Rattle.pgn_criteria.specs.Public.Meeting.{Heading, heading_of}
 use Rattle.pgn_extract.specs.Public.Aims.{Aim, GameId, IsMet, IsWanted, IsEntry}
 use Rattle.pgn_extract.specs.Public.Laws.{TextHasAReport}
 use Rattle.pgn_extract.proofs.Chosen.{some_chosen}
@@ -41,14 +44,13 @@ use Rattle.pgn_extract.proofs.Decided.{IsDecided, all_decided}
 use Rattle.pgn_extract.proofs.ExactEntries.{within_plies}
 use Rattle.pgn_extract.proofs.Exported.{selected_or_not}
 use Rattle.pgn_extract.proofs.FieldTexts.{some_fields}
-use Rattle.pgn_extract.proofs.GameExport.{some_export_of_parts, some_record_of_parts}
 use Rattle.pgn_extract.proofs.NoteLines.{empty_note, some_stop_note}
 use Rattle.pgn_extract.specs.declared.settings.Mode.{Mode}
 use Rattle.pgn_extract.specs.declared.settings.Mode.TheVariants as modes
 
 -- the parts of a game make one that a reader can be handed
 abbrev IsMade : PieceKind → Type 0
-IsMade (ReadableGame parts) = (game : GameText) × IsGameText game × ShowsGame game game.at parts
+IsMade (ReadableGame parts) = (game : GameText) × IsGameOf parts game
 IsMade (UnreadableRest bytes) = Unit {0}
 IsMade TooLongBlock = Unit {0}
 
@@ -56,27 +58,16 @@ abbrev AreMade : List MarkedPiece → Type 0
 AreMade [] = Unit {0}
 AreMade (piece ∷ more) = IsMade piece.kind × AreMade more
 
-made_of : (parts : List Part) → (game : GameText) × IsGameText game × ShowsGame game 0 parts
+made_of : {parts : List Part} → (game : GameText) × IsGameText game × ShowsGame game 0 parts
     → IsMade (ReadableGame parts)
-made_of parts (game, is_game, shows) = (
-  game,
-  is_game,
-  record {
-    place = refl;
-    text = shows.text;
-    tags = shows.tags;
-    elements =
-        shows.elements;
-    result = shows.result;
-  },
-)
+made_of (game, is, shows) = (game, (is, shows))
 
 pieces_made : (max_depth : ℕ) (file_start : Bool) (before : List ℕ) (pieces : List Piece)
     (text : List ℕ) (offset : ℕ)
     → ArePieces max_depth file_start before pieces text → AreMade (map (marked offset) pieces)
 pieces_made max_depth file_start before [] text offset h = tt
 pieces_made max_depth file_start before (Game at parts ∷ more) text offset h = (
-  made_of parts (some_game_text max_depth file_start (before ++ spelled h.0) parts h.1 0 h.5),
+  made_of (some_game_text max_depth file_start (before ++ spelled h.0) parts h.1 0 h.5),
   pieces_made max_depth file_start ((before ++ spelled h.0) ++ spelled parts) more h.1 offset h.6,
 )
 pieces_made max_depth file_start before (Unreadable at bytes ∷ more) text offset h =
@@ -101,17 +92,16 @@ blocks_made limit max_depth offset (block ∷ more) marks h =
     subst AreMade (sym h.2) (made_append h.0 h.1 first others)
 
 -- so its FEN tag has the contents of a string, and its variations are paired
-module _ (parts : List Part) (made : IsMade (ReadableGame parts)) where
-  has_string : (tag : Option (List ℕ)) → first_tag fen_tag parts ≡ tag → IfSome tag IsContents
-  has_string None is = tt
-  has_string (Some contents) is = made.1.strings fen_tag contents (made.2.tags fen_tag ∙ is)
-
-  answers : (lines : Lines) → ((replay : Replay) × IsReplayOf lines parts replay)
-      ⊎ ((fault : Fault) × IsFaultOf lines parts fault)
-  answers lines =
-      game_answer lines (first_tag fen_tag parts) (items_of parts)
-      (has_string (first_tag fen_tag parts) refl)
-      (λ all. subst (IsPaired 0) made.2.elements made.1.paired)
+answers : (lines : Lines) (game : GameText) → IsGameText game
+    → ((replay : Replay) × IsReplayOf lines game replay)
+    ⊎ ((fault : Fault) × IsFaultOf lines game fault)
+answers lines game is =
+    game_answer lines (tag_in fen_tag game.tags) game.elements
+    (has_string (tag_in fen_tag game.tags) refl) (λ all. is.paired)
+  where
+    has_string : (tag : Option (List ℕ)) → tag_in fen_tag game.tags ≡ tag → IfSome tag IsContents
+    has_string None none = tt
+    has_string (Some contents) some = is.strings fen_tag contents some
 
 -- a ply is wanted or not, where its position is decided
 wanted_or_not : (aim : Aim) (tags : Heading) (replay : Replay) (ply : ℕ)
@@ -184,70 +174,85 @@ entry_or_none aim tags replay (suc count) fits each =
       ]
     ]
 
-module _ (aim : Aim) (decided : IsDecided aim) (id : GameId) (parts : List Part)
-    (made : IsMade (ReadableGame parts)) where
+module _ (aim : Aim) (decided : IsDecided aim) (id : GameId) (game : GameText)
+    (text : IsGameText game) where
   -- a ply of a sound game is listed or not
-  listed_or_not : (lines : Lines) (replay : Replay) → IsReplayOf lines parts replay → (ply : ℕ)
+  listed_or_not : (lines : Lines) (replay : Replay) → IsReplayOf lines game replay → (ply : ℕ)
       → ply < length replay.positions
-      → IsEntry aim (heading_in parts) replay ply ⊎ (IsEntry aim (heading_in parts) replay ply → ⊥)
+      → IsEntry aim (heading_of game) replay ply ⊎ (IsEntry aim (heading_of game) replay ply → ⊥)
   listed_or_not lines replay is ply short =
-      entry_or_not aim (heading_in parts) replay ply (λ n less.
-      decided lines parts replay is n (omega arith))
+      entry_or_not aim (heading_of game) replay ply (λ n less.
+      decided lines game replay is n (omega arith))
 
   -- so a sound game has an entry or none
-  has_or_not : (replay : Replay) → IsReplayOf (written_lines aim) parts replay
-      → HasEntry aim (heading_in parts) replay ⊎ (HasEntry aim (heading_in parts) replay → ⊥)
+  has_or_not : (replay : Replay) → IsReplayOf (written_lines aim) game replay
+      → HasEntry aim (heading_of game) replay ⊎ (HasEntry aim (heading_of game) replay → ⊥)
   has_or_not replay is =
-      elim (entry_or_none aim (heading_in parts) replay (length replay.positions) (omega arith)
+      elim (entry_or_none aim (heading_of game) replay (length replay.positions) (omega arith)
       (listed_or_not (written_lines aim) replay is)) [
         | inl has ↦ inl has
         | inr none ↦ inr (λ has. none has.0 has.1 has.2)
       ]
 
-  some_text : (form : Form) (replay : Replay) → IsReplayOf (lines_in form aim.style) parts replay
-      → (text : List ℕ) × IsTextOf form aim id parts text
-  some_text Standard replay is = some_export_of_parts aim.style parts made.0 made.1 made.2 replay is
-  some_text AsItStands replay is = (as_it_stands (spelled parts), refl)
+  some_text : (form : Form) (replay : Replay) → IsReplayOf (lines_in form aim.style) game replay
+      → (own : List ℕ) × IsTextOf form aim id game own
+  some_text Standard replay is =
+      some_export aim.style game replay text
+      (lines_with aim.style.variations, (λ kept. ap lines_with kept), is)
+  some_text AsItStands replay is = (as_it_stands game.text, refl)
   some_text (Line notation) replay is =
-      let own = some_line notation (first_tag fen_tag parts) (items_of parts) (replay, is) in
+      let own = some_line notation (tag_in fen_tag game.tags) game.elements (replay, is) in
       (line_with aim.name id own.0, (own.0, own.1, refl))
-  some_text Record replay is = some_record_of_parts aim.name id parts made.0 made.1 made.2 replay is
+  some_text Record replay is = a_record aim.name id.number id.offset game (replay, is)
 
-  written : (replay : Replay) → IsReplayOf (written_lines aim) parts replay
-      → (text : List ℕ) × IsWritten aim id parts replay text
+  written : (replay : Replay) → IsReplayOf (written_lines aim) game replay
+      → (own : List ℕ) × IsWritten aim id game replay own
   written replay is =
-      elim (selected_or_not aim.select (HasEntry aim (heading_in parts) replay)
+      elim (selected_or_not aim.select (HasEntry aim (heading_of game) replay)
       (has_or_not replay is)) [
         | inl has ↦ let own = some_text aim.form replay is in (own.0, selected has own.1)
         | inr none ↦ ([], unselected none refl)
       ]
 
-  game_reported : (mode : Mode) → (verdict : Verdict) × IsVerdictIn mode aim id parts verdict
-  game_reported modes.Index = (SoundGame (mark_line aim.name id), refl)
-  game_reported modes.List = elim (answers parts made Main) [
-    | inl sound ↦
-        let all = plies_of 0 sound.0.positions in
-        let some =
-        some_chosen id (IsEntry aim (heading_in parts) sound.0) (AreFields aim.fields sound.0) all
-        (λ ply has. listed_or_not Main sound.0 sound.1 ply (within_plies sound.0.positions ply has))
-        (λ ply has.
-        some_fields aim.fields Main (first_tag fen_tag parts) (items_of parts) sound.0 sound.1
-        ply (within_plies sound.0.positions ply has)) in
-        (SoundGame (listing aim.name some.0), (sound.0, some.0, sound.1, some.1, refl))
+  entries : (replay : Replay) → IsReplayOf Main game replay
+      → (own : List ℕ) × AreEntryLines aim id game replay own
+  entries replay is =
+      let some =
+      some_chosen id (IsEntry aim (heading_of game) replay) (AreFields aim.fields replay)
+      (plies_of 0 replay.positions)
+      (λ ply has. listed_or_not Main replay is ply (within_plies replay.positions ply has))
+      (λ ply has.
+      some_fields aim.fields Main (tag_in fen_tag game.tags) game.elements replay is
+      ply (within_plies replay.positions ply has)) in
+      (listing aim.name some.0, (some.0, some.1, refl))
+
+  some_output : (mode : Mode) (replay : Replay) → IsReplayOf (replayed_lines mode aim) game replay
+      → (own : List ℕ) × IsOutput mode aim id game replay own
+  some_output modes.Index replay is = entries replay is
+  some_output modes.List replay is = entries replay is
+  some_output modes.Export replay is = written replay is
+
+  game_replayed : (mode : Mode) → (verdict : Verdict) × IsReplayed mode aim id game verdict
+  game_replayed mode = elim (answers (replayed_lines mode aim) game text) [
+    | inl sound ↦ let own = some_output mode sound.0 sound.1 in
+        (SoundGame own.0, (sound.0, sound.1, own.1))
     | inr faulty ↦ (
-      FaultyGame [] (fault_text aim.name id (cause_text faulty.0)) [],
+      FaultyGame (faulty_text mode aim.select game.text)
+          (fault_text aim.name id (cause_text faulty.0)) [],
       (faulty.0, faulty.1, refl, empty_note aim.explain, refl),
     )
   ]
-  game_reported modes.Export = elim (answers parts made (written_lines aim)) [
-    | inl sound ↦ let text = written sound.0 sound.1 in
-        (SoundGame text.0, (sound.0, sound.1, text.1))
-    | inr faulty ↦
-        let text = faulty_text modes.Export aim.select (spelled parts) in (
-          FaultyGame text (fault_text aim.name id (cause_text faulty.0)) [],
-          (faulty.0, faulty.1, refl, empty_note aim.explain, refl),
-        )
-  ]
+
+game_reported : (aim : Aim) → IsDecided aim → (id : GameId) (parts : List Part)
+    → IsMade (ReadableGame parts)
+    → (mode : Mode) → (verdict : Verdict) × IsVerdictIn mode aim id parts verdict
+game_reported aim decided id parts made modes.Index = (SoundGame (mark_line aim.name id), refl)
+game_reported aim decided id parts made modes.List =
+    let own = game_replayed aim decided id made.0 made.1.0 modes.List in
+    (own.0, (made.0, made.1, own.1))
+game_reported aim decided id parts made modes.Export =
+    let own = game_replayed aim decided id made.0 made.1.0 modes.Export in
+    (own.0, (made.0, made.1, own.1))
 
 by_line : (aim : Aim) (line : List ℕ) → (verdict : Verdict) × IsReportedBy aim [] line verdict
 by_line aim line = (FaultyGame [] line [], ([], empty_note aim.explain, refl))

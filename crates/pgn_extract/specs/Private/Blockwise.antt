@@ -1,19 +1,15 @@
 -- What the parts of a run do with the bytes dropped, with one block and with the blocks in a row:
 -- the words between the code and
 -- those of `Outcomes`.
-use Rattle.std.specs.Prelude.{◌≡◌, ◌⊎◌, ℕ, zero, suc, ◌+◌, ◌<◌, ◌≤◌, Bool, true, false, List, []}
+use Rattle.std.specs.Prelude.{◌≡◌, ℕ, zero, suc, ◌+◌, ◌<◌, ◌≤◌, Bool, true, false, List, []}
 use Rattle.std.specs.Prelude.{◌∷◌, ◌++◌, length, drop, count_by, Option, None, IfSome, codes}
 use Rattle.std.specs.Prelude.{decimal, if◌then◌else◌, ◌==◌}
 use Rattle.std.specs.Io.KnownBytes.{Appends}
-use Rattle.pgn_text.specs.Public.GameTexts.{GameText, ShowsGame, tag_in}
-use Rattle.pgn_game.specs.Public.Exports.{IsExport}
-use Rattle.pgn_game.specs.Public.Faults.{Fault, IsFault}
-use Rattle.pgn_game.specs.Public.GameLines.{IsGameLine}
-use Rattle.pgn_game.specs.Public.PackedGames.{IsRecordOf}
-use Rattle.pgn_game.specs.Public.Replays.{Replay, IsReplay}
-use Rattle.pgn_game.specs.Public.Starts.{fen_tag}
-use Rattle.pgn_extract.specs.Public.Exports.{HasEntry, IsSelected, as_it_stands, faulty_text}
-use Rattle.pgn_extract.specs.Public.Exports.{line_with, written_lines}
+use Rattle.pgn_text.specs.Public.GameTexts.{GameText, ShowsGame}
+use Rattle.pgn_game.specs.Public.Faults.{Fault}
+use Rattle.pgn_game.specs.Public.Replays.{Replay}
+use Rattle.pgn_game.specs.declared.replays.replayer.Lines.{Lines}
+use Rattle.pgn_extract.specs.Public.Exports.{IsTextOf, IsWritten, faulty_text, written_lines}
 use Rattle.pgn_text.specs.Public.Left.{IsPiece}
 use Rattle.pgn_text.specs.Public.Limits.{depth_limit, largest_offset}
 use Rattle.pgn_text.specs.Public.Marks.{TooLongBlock, MarkedPiece, marked, AreOfBlock}
@@ -32,24 +28,24 @@ use Rattle.pgn_text.specs.declared.io.blocks.ReadError.TheVariants as cause
 use Rattle.pgn_extract.specs.Public.Notes.{IsNote, NamesByte}
 use Rattle.pgn_extract.specs.Public.Outcomes.{AppendsFront, Writes, WritesComplete}
 use Rattle.pgn_extract.specs.Public.Index.{fault_text, mark_line}
-use Rattle.pgn_extract.specs.Public.Verdicts.{Verdict, SoundGame, FaultyGame, IsListed, IsExported}
-use Rattle.pgn_extract.specs.Public.Verdicts.{IsGameVerdict, IsVerdict, AreVerdicts, output_of}
-use Rattle.pgn_extract.specs.Public.Verdicts.{fault_line_of, output_text, fault_lines, is_faulty}
+use Rattle.pgn_extract.specs.Public.Verdicts.{Verdict, SoundGame, FaultyGame, replayed_lines}
+use Rattle.pgn_extract.specs.Public.Verdicts.{IsOutput, IsReplayed, IsVerdictIn, IsVerdict}
+use Rattle.pgn_extract.specs.Public.Verdicts.{AreVerdicts, output_of, fault_line_of, output_text}
+use Rattle.pgn_extract.specs.Public.Verdicts.{fault_lines, is_faulty}
 use Rattle.pgn_extract.specs.declared.engine.report.Report.{Report}
 use Rattle.pgn_extract.specs.declared.output.outcome.RunError.{RunError}
 use Rattle.pgn_extract.specs.declared.output.outcome.RunError.TheVariants.{Read, Write, OutOfMemory}
 use Rattle.pgn_extract.specs.declared.output.outcome.RunError.TheVariants.{InputTooLong}
 use Rattle.pgn_extract.specs.declared.output.outcome.Summary.{Summary}
-use Rattle.pgn_criteria.specs.Public.Meeting.{heading_of, Heading}
+use Rattle.pgn_criteria.specs.Public.Meeting.{Heading}
 use Rattle.pgn_extract.specs.Public.Aims.{Aim, GameId}
 use Rattle.pgn_extract.specs.Public.Choices.{IfChosen, is_chosen}
 use Rattle.pgn_text.specs.Public.LeftMarks.{mark_place}
 use Rattle.pgn_extract.specs.Public.Listing.{Entry, listing}
-use Rattle.pgn_extract.specs.declared.settings.Form.{Form}
-use Rattle.pgn_extract.specs.declared.settings.Form.TheVariants.{Standard, AsItStands, Line, Record}
+use Rattle.pgn_extract.specs.declared.settings.Mode.{Mode}
 use Rattle.pgn_extract.specs.declared.settings.Select.TheVariants.{Matching}
 use Rattle.pgn_extract.specs.Private.Finding.{named_mark}
-use Rattle.pgn_extract.specs.Public.GameReports.{AreListed}
+use Rattle.pgn_extract.specs.Public.GameReports.{AreListed, IsFaultOf, IsReplayOf}
 use Rattle.pgn_extract.specs.Public.GivenMarks.{game_id}
 
 -- the piece at this place of the block that begins there
@@ -79,12 +75,6 @@ pub record AddsVerdict (old new : Report) (verdict : Verdict) (count : ℕ) : Ty
   pub games : new.games ≡ old.games + count
   pub faulty : new.faulty ≡ old.faulty + (if is_faulty verdict then 1 else 0)
 
--- what the listing reports of the game that is given is added; the game isn't counted yet
-abbrev pub AddsListed : Aim → Report → Report → GameId → GameText → Type 0
-AddsListed aim old new id game =
-    (at : ℕ) (parts : List Part) → ShowsGame game at parts
-    → (verdict : Verdict) × IsListed aim verdict id parts × AddsVerdict old new verdict 0
-
 -- where there are no criteria, the ply is listed of a main line with so many plies
 abbrev pub IsPlainEntry : Aim → ℕ → ℕ → Type 0
 IsPlainEntry aim plies ply = (ply ≤ plies) × (aim.min_ply ≤ ply) × (ply ≤ aim.max_ply)
@@ -109,42 +99,35 @@ AddsLines aim marked plies old new =
     (name : Option (List ℕ)) (id : GameId) → marked ≡ named_mark name id
     → AddsPlies (record aim { name = name }) id plies old new
 
--- the text of the game that is given: its export, or the game as it stands, or its line, or its
--- record
-abbrev pub IsGivenText : Form → Aim → GameId → GameText → List ℕ → Type 0
-IsGivenText Standard aim id game text = IsExport aim.style game text
-IsGivenText AsItStands aim id game text = text ≡ as_it_stands game.text
-IsGivenText (Line notation) aim id game text =
-    (own : List ℕ) × IsGameLine notation (tag_in fen_tag game.tags) game.elements own
-    × (text ≡ line_with aim.name id own)
-IsGivenText Record aim id game text = IsRecordOf aim.name id.number id.offset game text
+-- the game, read by itself: its place is the first
+abbrev pub by_itself : GameText → GameText
+by_itself game = record game { at = 0 }
 
--- the sound game that is given is selected
-abbrev pub IsGameSelected : Aim → GameText → Replay → Type 0
-IsGameSelected aim game replay = IsSelected aim.select (HasEntry aim (heading_of game) replay)
+-- the game is sound in these lines, and a text is added that is one of its replay
+abbrev pub AddsSound : Lines → GameText → (Replay → List ℕ → Type 0) → List ℕ → List ℕ → Type 0
+AddsSound lines game IsIt old new =
+    (replay : Replay) × IsReplayOf lines game replay
+    × (text : List ℕ) × IsIt replay text × (new ≡ old ++ text)
 
--- what is written of the game that is given: its text where it is selected, and else nothing
-abbrev pub IsGameWritten : Aim → GameId → GameText → Replay → List ℕ → Type 0
-IsGameWritten aim id game replay text =
-    (IsGameSelected aim game replay × IsGivenText aim.form aim id game text)
-    ⊎ ((IsGameSelected aim game replay → ⊥) × (text ≡ []))
-
--- the lines of the game that are written are sound, and what is written of it is added
-abbrev pub AddsText : Aim → GameId → GameText → List ℕ → List ℕ → Type 0
-AddsText aim id game old new =
-    (replay : Replay) × IsReplay (written_lines aim) (tag_in fen_tag game.tags) game.elements replay
-    × (text : List ℕ) × IsGameWritten aim id game replay text × (new ≡ old ++ text)
-
--- the lines of the game that are written have the fault, and nothing is added
-abbrev pub LeavesText : Aim → GameText → List ℕ → List ℕ → Fault → Type 0
-LeavesText aim game old new fault =
-    IsFault (written_lines aim) (tag_in fen_tag game.tags) game.elements fault × (new ≡ old)
-
--- they are sound, and the text of the game, selected or not, is added
+-- the text of the game, selected or not, is added
 abbrev pub PutsText : Aim → GameId → GameText → List ℕ → List ℕ → Type 0
 PutsText aim id game old new =
-    (replay : Replay) × IsReplay (written_lines aim) (tag_in fen_tag game.tags) game.elements replay
-    × (text : List ℕ) × IsGivenText aim.form aim id game text × (new ≡ old ++ text)
+    AddsSound (written_lines aim) game (λ _. IsTextOf aim.form aim id (by_itself game)) old new
+
+-- what is written of it is added
+abbrev pub AddsText : Aim → GameId → GameText → List ℕ → List ℕ → Type 0
+AddsText aim id game old new =
+    AddsSound (written_lines aim) game (IsWritten aim id (by_itself game)) old new
+
+-- what goes to the output of it in the mode is added
+abbrev pub AddsOutput : Aim → GameId → GameText → List ℕ → List ℕ → Type 0
+AddsOutput aim id game old new =
+    AddsSound (replayed_lines aim.mode aim) game (IsOutput aim.mode aim id (by_itself game)) old new
+
+-- these lines of the game have the fault, and something may be added already
+abbrev pub StopsIn : Lines → GameText → List ℕ → List ℕ → Fault → Type 0
+StopsIn lines game old new fault =
+    IsFaultOf lines game fault × (more : List ℕ) × (new ≡ old ++ more)
 
 -- each sound game is written, whatever its moves
 pub record TakesAll (aim : Aim) : Type 0 where
@@ -152,17 +135,16 @@ pub record TakesAll (aim : Aim) : Type 0 where
   pub from_start : aim.min_ply ≡ 0
   pub select : aim.select ≡ Matching
 
--- the same of what the export reports
-abbrev pub AddsExported : Aim → Report → Report → GameId → GameText → Type 0
-AddsExported aim old new id game =
-    (at : ℕ) (parts : List Part) → ShowsGame game at parts
-    → (verdict : Verdict) × IsExported aim verdict id parts × AddsVerdict old new verdict 0
+-- what the mode reports of the game by its replay is added; the game isn't counted yet
+abbrev pub AddsReplayed : Mode → Aim → Report → Report → GameId → GameText → Type 0
+AddsReplayed mode aim old new id game = (verdict : Verdict)
+    × IsReplayed mode aim id (by_itself game) verdict × AddsVerdict old new verdict 0
 
--- the same of what the mode reports
+-- the same of what the mode reports of whatever parts make the game
 abbrev pub AddsGame : Aim → Report → Report → GameId → GameText → Type 0
 AddsGame aim old new id game =
     (at : ℕ) (parts : List Part) → ShowsGame game at parts
-    → (verdict : Verdict) × IsGameVerdict aim id parts verdict × AddsVerdict old new verdict 0
+    → (verdict : Verdict) × IsVerdictIn aim.mode aim id parts verdict × AddsVerdict old new verdict 0
 
 -- what is reported of the piece in the mode is added, and the piece counted
 abbrev pub AddsMark : Aim → Report → Report → ℕ → MarkedPiece → Type 0

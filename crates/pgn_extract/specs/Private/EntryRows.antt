@@ -1,28 +1,30 @@
 -- The entries of pieces, row by row, as a run gathers them.
 use Rattle.std.specs.Prelude.{◌≡◌, ℕ, ◌+◌, List, [], ◌∷◌, ◌++◌}
+use Rattle.pgn_text.specs.Public.GameTexts.{GameText}
 use Rattle.pgn_text.specs.Public.Marks.{PieceKind, ReadableGame, UnreadableRest, TooLongBlock}
 use Rattle.pgn_text.specs.Public.Marks.{MarkedPiece}
-use Rattle.pgn_text.specs.Public.Parts.{Part}
 use Rattle.pgn_game.specs.Public.Faults.{Fault}
 use Rattle.pgn_game.specs.Public.Replays.{Replay}
 use Rattle.pgn_game.specs.declared.replays.replayer.Lines.TheVariants.{Main}
 use Rattle.pgn_extract.specs.Public.Aims.{Aim, GameId}
 use Rattle.pgn_extract.specs.Public.Choices.{id_of, IfChosen, is_chosen}
 use Rattle.pgn_extract.specs.Public.GameReports.{AreListed, IsReplayOf, IsFaultOf}
-use Rattle.pgn_extract.specs.Public.Listing.{Entry, heading_in}
+use Rattle.pgn_extract.specs.Public.Listing.{Entry, IsGameOf}
+use Rattle.pgn_criteria.specs.Public.Meeting.{heading_of}
 
 -- the entries of a game: those that it lists where it is sound, and none where it is faulty
-pub data AreGameEntries (aim : Aim) (id : GameId) (parts : List Part) (entries : List Entry) : Type
-    0 where
-  sound : (replay : Replay) → IsReplayOf Main parts replay
-      → AreListed aim id (heading_in parts) replay entries
-      → AreGameEntries aim id parts entries
-  faulty : (fault : Fault) → IsFaultOf Main parts fault → entries ≡ []
-      → AreGameEntries aim id parts entries
+pub data AreGameEntries (aim : Aim) (id : GameId) (game : GameText) (entries : List Entry) : Type 0
+  where
+    sound : (replay : Replay) → IsReplayOf Main game replay
+        → AreListed aim id (heading_of game) replay entries
+        → AreGameEntries aim id game entries
+    faulty : (fault : Fault) → IsFaultOf Main game fault → entries ≡ []
+        → AreGameEntries aim id game entries
 
 -- the entries of a piece: only a game that can be read has any
 abbrev pub ArePieceEntries : Aim → PieceKind → GameId → List Entry → Type 0
-ArePieceEntries aim (ReadableGame parts) id entries = AreGameEntries aim id parts entries
+ArePieceEntries aim (ReadableGame parts) id entries =
+    (game : GameText) × IsGameOf parts game × AreGameEntries aim id game entries
 ArePieceEntries aim (UnreadableRest bytes) id entries = entries ≡ []
 ArePieceEntries aim TooLongBlock id entries = entries ≡ []
 

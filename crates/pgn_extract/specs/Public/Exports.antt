@@ -3,27 +3,24 @@
 -- have none, or its faulty pieces; or each game as it stands, on a line of its own, or as the
 -- record of a pack.
 use Rattle.std.specs.Prelude.{◌≡◌, ℕ, ◌+◌, ◌<◌, List, [], ◌∷◌, ◌++◌, length, codes, Option}
-use Rattle.pgn_text.specs.Public.GameTexts.{GameText, IsGameText, ShowsGame}
-use Rattle.pgn_text.specs.Public.Games.{items_of, first_tag}
+use Rattle.pgn_text.specs.Public.GameTexts.{GameText, tag_in}
 use Rattle.pgn_text.specs.Public.Marks.{PieceKind, ReadableGame, UnreadableRest, TooLongBlock}
 use Rattle.pgn_text.specs.Public.Marks.{MarkedPiece}
-use Rattle.pgn_text.specs.Public.Parts.{Part, spelled}
 use Rattle.pgn_game.specs.Public.Exports.{IsExport, lines_with}
 use Rattle.pgn_game.specs.Public.Faults.{Fault}
 use Rattle.pgn_game.specs.Public.GameLines.{IsGameLine}
 use Rattle.pgn_game.specs.Public.PackedGames.{IsRecordOf}
 use Rattle.pgn_game.specs.Public.Replays.{Replay}
 use Rattle.pgn_game.specs.Public.Starts.{fen_tag}
-use Rattle.pgn_game.specs.declared.exports.notation.Notation.{Notation}
 use Rattle.pgn_game.specs.declared.replays.replayer.Lines.{Lines}
 use Rattle.pgn_game.specs.declared.replays.replayer.Lines.TheVariants.{Main}
 use Rattle.pgn_game.specs.declared.exports.style.Style.{Style}
-use Rattle.pgn_criteria.specs.Public.Meeting.{Heading}
+use Rattle.pgn_criteria.specs.Public.Meeting.{Heading, heading_of}
 use Rattle.pgn_extract.specs.Public.Aims.{Aim, GameId, IsEntry}
 use Rattle.pgn_extract.specs.Public.Choices.{id_of, IfChosen, is_chosen}
 use Rattle.pgn_extract.specs.Public.Index.{mark, titled}
-use Rattle.pgn_extract.specs.Public.Listing.{heading_in}
 use Rattle.pgn_extract.specs.Public.GameReports.{IsReplayOf, IsFaultOf}
+use Rattle.pgn_extract.specs.Public.Listing.{IsGameOf}
 use Rattle.pgn_extract.specs.declared.settings.Form.{Form}
 use Rattle.pgn_extract.specs.declared.settings.Form.TheVariants.{Standard, AsItStands, Line, Record}
 use Rattle.pgn_extract.specs.declared.settings.Mode.{Mode}
@@ -45,11 +42,6 @@ written_lines aim = lines_in aim.form aim.style
 abbrev pub HasEntry : Aim → Heading → Replay → Type 0
 HasEntry aim tags replay = (ply : ℕ) × (ply < length replay.positions) × IsEntry aim tags replay ply
 
--- the text is the export of the game that these parts make
-abbrev pub IsExportOf : Style → List Part → List ℕ → Type 0
-IsExportOf style parts text = (game : GameText) × IsGameText game × ShowsGame game game.at parts
-    × IsExport style game text
-
 -- bytes of a text as they stand there, and two line feeds
 abbrev pub as_it_stands : List ℕ → List ℕ
 as_it_stands bytes = bytes ++ 10 ∷ 10 ∷ []
@@ -66,35 +58,25 @@ IsSelected Faulty entry = ⊥
 abbrev pub line_with : Option (List ℕ) → GameId → List ℕ → List ℕ
 line_with name id own = (titled (codes ":") name ++ mark id) ++ 32 ∷ own ++ 10 ∷ []
 
-abbrev pub IsGameLineOf : Notation → Aim → GameId → List Part → List ℕ → Type 0
-IsGameLineOf notation aim id parts text =
-    (own : List ℕ) × IsGameLine notation (first_tag fen_tag parts) (items_of parts) own
-    × (text ≡ line_with aim.name id own)
-
--- the text is the record of the game that these parts make, under the name of its file where lines
--- have one
-abbrev pub IsGameRecordOf : Aim → GameId → List Part → List ℕ → Type 0
-IsGameRecordOf aim id parts text =
-    (game : GameText) × IsGameText game × ShowsGame game game.at parts
-    × IsRecordOf aim.name id.number id.offset game text
-
 -- the text of a game that is selected: its export, or the game as it stands, or its line, or its
 -- record
-abbrev pub IsTextOf : Form → Aim → GameId → List Part → List ℕ → Type 0
-IsTextOf Standard aim id parts text = IsExportOf aim.style parts text
-IsTextOf AsItStands aim id parts text = text ≡ as_it_stands (spelled parts)
-IsTextOf (Line notation) aim id parts text = IsGameLineOf notation aim id parts text
-IsTextOf Record aim id parts text = IsGameRecordOf aim id parts text
+abbrev pub IsTextOf : Form → Aim → GameId → GameText → List ℕ → Type 0
+IsTextOf Standard aim id game text = IsExport aim.style game text
+IsTextOf AsItStands aim id game text = text ≡ as_it_stands game.text
+IsTextOf (Line notation) aim id game text =
+    (own : List ℕ) × IsGameLine notation (tag_in fen_tag game.tags) game.elements own
+    × (text ≡ line_with aim.name id own)
+IsTextOf Record aim id game text = IsRecordOf aim.name id.number id.offset game text
 
 -- what is written of a sound game: its text where it is selected, once however many entries it has,
 -- and else nothing
-pub data IsWritten (aim : Aim) (id : GameId) (parts : List Part) (replay : Replay)
+pub data IsWritten (aim : Aim) (id : GameId) (game : GameText) (replay : Replay)
     (text : List ℕ) : Type 0 where
-  selected : IsSelected aim.select (HasEntry aim (heading_in parts) replay)
-      → IsTextOf aim.form aim id parts text
-      → IsWritten aim id parts replay text
-  unselected : (IsSelected aim.select (HasEntry aim (heading_in parts) replay) → ⊥) → text ≡ []
-      → IsWritten aim id parts replay text
+  selected : IsSelected aim.select (HasEntry aim (heading_of game) replay)
+      → IsTextOf aim.form aim id game text
+      → IsWritten aim id game replay text
+  unselected : (IsSelected aim.select (HasEntry aim (heading_of game) replay) → ⊥) → text ≡ []
+      → IsWritten aim id game replay text
 
 -- what a mode writes of faulty bytes: where the export selects them, the bytes as they stand, and
 -- else nothing
@@ -106,18 +88,19 @@ faulty_text modes.Export Others bytes = []
 faulty_text modes.Export Faulty bytes = as_it_stands bytes
 
 -- what is written of a game, sound or faulty
-pub data IsGameExport (aim : Aim) (id : GameId) (parts : List Part) (text : List ℕ) : Type 0 where
-  sound : (replay : Replay) → IsReplayOf (written_lines aim) parts replay
-      → IsWritten aim id parts replay text
-      → IsGameExport aim id parts text
-  faulty : (fault : Fault) → IsFaultOf (written_lines aim) parts fault
-      → text ≡ faulty_text modes.Export aim.select (spelled parts)
-      → IsGameExport aim id parts text
+pub data IsGameExport (aim : Aim) (id : GameId) (game : GameText) (text : List ℕ) : Type 0 where
+  sound : (replay : Replay) → IsReplayOf (written_lines aim) game replay
+      → IsWritten aim id game replay text
+      → IsGameExport aim id game text
+  faulty : (fault : Fault) → IsFaultOf (written_lines aim) game fault
+      → text ≡ faulty_text modes.Export aim.select game.text
+      → IsGameExport aim id game text
 
 -- what is written of a piece that is chosen: nothing of a block over the limit, whose bytes are not
 -- kept
 abbrev pub IsPieceExport : Aim → GameId → PieceKind → List ℕ → Type 0
-IsPieceExport aim id (ReadableGame parts) text = IsGameExport aim id parts text
+IsPieceExport aim id (ReadableGame parts) text =
+    (game : GameText) × IsGameOf parts game × IsGameExport aim id game text
 IsPieceExport aim id (UnreadableRest bytes) text = text ≡ faulty_text modes.Export aim.select bytes
 IsPieceExport aim id TooLongBlock text = text ≡ []
 

@@ -2,8 +2,7 @@
 -- else its first fault.
 use Rattle.std.specs.Prelude.{ℕ, ◌+◌, List, [], ◌∷◌, ◌++◌, codes, decimal}
 use Rattle.chess.specs.Public.Positions.{State}
-use Rattle.pgn_text.specs.Public.Games.{items_of, first_tag}
-use Rattle.pgn_text.specs.Public.Parts.{Part}
+use Rattle.pgn_text.specs.Public.GameTexts.{GameText, tag_in}
 use Rattle.pgn_game.specs.Public.Faults.{Fault, BadStart, IllegalMove, AmbiguousMove, IsFault}
 use Rattle.pgn_game.specs.Public.Replays.{Replay, IsReplay}
 use Rattle.pgn_game.specs.declared.replays.replayer.Lines.{Lines}
@@ -12,13 +11,13 @@ use Rattle.pgn_criteria.specs.Public.Meeting.{Heading}
 use Rattle.pgn_extract.specs.Public.Aims.{Aim, GameId, IsEntry}
 use Rattle.pgn_extract.specs.Public.Listing.{Entry, AreFields}
 
--- the game of these parts is sound in these lines, and this is their replay
-abbrev pub IsReplayOf : Lines → List Part → Replay → Type 0
-IsReplayOf lines parts replay = IsReplay lines (first_tag fen_tag parts) (items_of parts) replay
+-- the game is sound in these lines, and this is their replay
+abbrev pub IsReplayOf : Lines → GameText → Replay → Type 0
+IsReplayOf lines game replay = IsReplay lines (tag_in fen_tag game.tags) game.elements replay
 
--- the game of these parts is faulty in these lines, and this is their first fault
-abbrev pub IsFaultOf : Lines → List Part → Fault → Type 0
-IsFaultOf lines parts fault = IsFault lines (first_tag fen_tag parts) (items_of parts) fault
+-- the game is faulty in these lines, and this is their first fault
+abbrev pub IsFaultOf : Lines → GameText → Fault → Type 0
+IsFaultOf lines game fault = IsFault lines (tag_in fen_tag game.tags) game.elements fault
 
 -- why a game is faulty, in the words of its line
 abbrev pub cause_text : Fault → List ℕ

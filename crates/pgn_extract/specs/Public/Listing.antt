@@ -8,12 +8,12 @@ use Rattle.chess.specs.Public.Fen.{IsFen}
 use Rattle.chess.specs.Public.Positions.{State}
 use Rattle.chess.specs.Public.San.{IsSan}
 use Rattle.chess.specs.declared.moves.Move.{Move}
-use Rattle.pgn_text.specs.Public.Games.{items_of, first_tag, result_of}
+use Rattle.pgn_text.specs.Public.GameTexts.{GameText, IsGameText, ShowsGame, tag_in}
 use Rattle.pgn_text.specs.Public.Marks.{ReadableGame, MarkedPiece}
 use Rattle.pgn_text.specs.Public.Parts.{Part}
 use Rattle.pgn_game.specs.Public.Replays.{Replay, IsMainReplay}
 use Rattle.pgn_game.specs.Public.Starts.{fen_tag}
-use Rattle.pgn_criteria.specs.Public.Meeting.{Heading}
+use Rattle.pgn_criteria.specs.Public.Meeting.{heading_of}
 use Rattle.pgn_extract.specs.Public.Aims.{Aim, GameId, IsEntry}
 use Rattle.pgn_extract.specs.Public.Choices.{is_chosen}
 use Rattle.pgn_extract.specs.Public.Index.{mark, titled}
@@ -66,14 +66,13 @@ AreFields fields replay ply shown =
     (fen : List ℕ) × (next : List ℕ) × IsFenField fields.fen replay ply fen
     × IsNextField fields.next replay ply next × (shown ≡ fen ++ next)
 
--- the heading of the game that parts make: for a name, the contents of the first tag with it; and
--- the result that they end with
-abbrev pub heading_in : List Part → Heading
-heading_in parts = record { named = λ name. first_tag name parts; result = result_of parts }
+-- the game is the one that these parts make, read by itself
+abbrev pub IsGameOf : List Part → GameText → Type 0
+IsGameOf parts game = IsGameText game × ShowsGame game 0 parts
 
--- the main line of the game that these parts make is sound, and this is its replay
-abbrev pub IsMainReplayOf : List Part → Replay → Type 0
-IsMainReplayOf parts replay = IsMainReplay (first_tag fen_tag parts) (items_of parts) replay
+-- the main line of the game is sound, and this is its replay
+abbrev pub IsMainReplayOf : GameText → Replay → Type 0
+IsMainReplayOf game replay = IsMainReplay (tag_in fen_tag game.tags) game.elements replay
 
 -- the entry names a sound game that is chosen, by its place among the pieces and the offset of its
 -- first byte, and a ply of its main line that is
@@ -82,14 +81,16 @@ pub record IsPlyOfGame (aim : Aim) (number : ℕ) (pieces : List MarkedPiece) (e
   where
     pub place : ℕ
     pub parts : List Part
+    pub game : GameText
     pub replay : Replay
-    pub game : slice_get pieces place
+    pub piece : slice_get pieces place
         ≡ Some (record { offset = entry.id.offset; kind = ReadableGame parts })
     pub numbered : entry.id.number ≡ number + place
     pub chosen : is_chosen aim.chosen entry.id ≡ true
-    pub is_replay : IsMainReplayOf parts replay
+    pub is_game : IsGameOf parts game
+    pub is_replay : IsMainReplayOf game replay
     pub within : entry.ply < length replay.positions
-    pub listed : IsEntry aim (heading_in parts) replay entry.ply
+    pub listed : IsEntry aim (heading_of game) replay entry.ply
     pub shows : AreFields aim.fields replay entry.ply entry.shown
 
 -- the first entry is of an earlier game, or of the same and at a lower ply

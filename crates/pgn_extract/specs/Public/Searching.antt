@@ -4,18 +4,16 @@ use Rattle.std.specs.Prelude.{◌≡◌, ◌≢◌, ℕ, ◌+◌, ◌^◌, ◌<�
 use Rattle.std.specs.Prelude.{None, Some, Result, IfSome, IfOk, IfErr, IsTrue}
 use Rattle.std.specs.Io.KnownBytes.{Appends, Consumes}
 use Rattle.std.specs.List.{AllByRecursion}
-use Rattle.pgn_text.specs.Public.GameTexts.{GameText, IsGameText, ShowsGame, tag_in}
+use Rattle.pgn_text.specs.Public.GameTexts.{GameText, IsGameText}
 use Rattle.pgn_text.specs.Public.Limits.{block_limit, depth_limit, largest_offset}
 use Rattle.pgn_text.specs.Public.Marks.{PieceKind, ReadableGame, UnreadableRest, TooLongBlock}
 use Rattle.pgn_text.specs.Public.Marks.{MarkedPiece, AreMarkedPieces}
-use Rattle.pgn_text.specs.Public.Parts.{Part}
 use Rattle.pgn_game.specs.Public.Faults.{Fault}
 use Rattle.pgn_game.specs.Public.PackedGames.{PackedGame, FitsRecord, IsPacked, record_bytes}
 use Rattle.pgn_game.specs.Public.PackedGames.{pack_bytes}
 use Rattle.pgn_game.specs.Public.PackedGames.{longest_name, is_shown_name}
 use Rattle.pgn_game.specs.Public.PackStreams.{HasNoRecord}
-use Rattle.pgn_game.specs.Public.Replays.{Replay, IsReplay}
-use Rattle.pgn_game.specs.Public.Starts.{fen_tag}
+use Rattle.pgn_game.specs.Public.Replays.{Replay}
 use Rattle.pgn_game.specs.declared.replays.replayer.Lines.TheVariants.{Main}
 use Rattle.pgn_criteria.specs.Public.Meeting.{heading_of}
 use Rattle.pgn_extract.specs.Public.Aims.{Aim, GameId}
@@ -26,7 +24,7 @@ use Rattle.pgn_extract.specs.declared.settings.Mode.{Mode}
 use Rattle.pgn_extract.specs.declared.settings.Mode.TheVariants as modes
 use Rattle.pgn_extract.specs.declared.settings.Select.TheVariants.{Matching}
 use Rattle.pgn_extract.specs.Public.GameReports.{AreListed, IsReplayOf, IsFaultOf}
-use Rattle.pgn_extract.specs.Public.Listing.{Entry, AreEntries, listing}
+use Rattle.pgn_extract.specs.Public.Listing.{Entry, AreEntries, IsGameOf, listing}
 use Rattle.pgn_extract.specs.Public.Outcomes.{AppendsFront}
 use Rattle.pgn_extract.specs.declared.packed.searching.SearchError.{SearchError}
 use Rattle.pgn_extract.specs.declared.packed.searching.SearchError.TheVariants.{Read, Write}
@@ -41,18 +39,18 @@ use Rattle.pgn_extract.specs.Public.Choices.{id_of}
 
 -- the records of a game that can be read: of a sound one what is kept of it, and of a faulty one
 -- none
-pub data AreGameRecords (name : Option (List ℕ)) (id : GameId) (parts : List Part)
+pub data AreGameRecords (name : Option (List ℕ)) (id : GameId) (game : GameText)
     (records : List PackedGame) : Type 0 where
-  sound : (game : GameText) (replay : Replay) (packed : PackedGame) → IsGameText game
-      → ShowsGame game game.at parts → IsReplayOf Main parts replay
+  sound : (replay : Replay) (packed : PackedGame) → IsReplayOf Main game replay
       → IsPacked name id.number id.offset game replay packed → records ≡ packed ∷ []
-      → AreGameRecords name id parts records
-  faulty : (fault : Fault) → IsFaultOf Main parts fault → records ≡ []
-      → AreGameRecords name id parts records
+      → AreGameRecords name id game records
+  faulty : (fault : Fault) → IsFaultOf Main game fault → records ≡ []
+      → AreGameRecords name id game records
 
 -- the records of a piece: only a game that can be read has one
 abbrev pub ArePieceRecords : Option (List ℕ) → PieceKind → GameId → List PackedGame → Type 0
-ArePieceRecords name (ReadableGame parts) id records = AreGameRecords name id parts records
+ArePieceRecords name (ReadableGame parts) id records =
+    (game : GameText) × IsGameOf parts game × AreGameRecords name id game records
 ArePieceRecords name (UnreadableRest bytes) id records = records ≡ []
 ArePieceRecords name TooLongBlock id records = records ≡ []
 
@@ -109,8 +107,7 @@ of_all aim = record aim { chosen = None }
 -- the listing of a record: of whatever game it is kept, the lines of the entries of that game
 abbrev pub IsRecordListing : Aim → PackedGame → List ℕ → Type 0
 IsRecordListing aim packed text =
-    (game : GameText) (replay : Replay) → IsGameText game
-    → IsReplay Main (tag_in fen_tag game.tags) game.elements replay
+    (game : GameText) (replay : Replay) → IsGameText game → IsReplayOf Main game replay
     → IsPacked packed.name packed.number packed.offset game replay packed
     → (entries : List Entry)
     × AreListed aim (game_id packed.number packed.offset) (heading_of game) replay entries
@@ -126,8 +123,7 @@ AreRecordLines modes.Export aim packed text = IsRecordListing aim packed text
 -- no game has the record
 abbrev pub IsOfNoGame : PackedGame → Type 0
 IsOfNoGame packed =
-    (game : GameText) (replay : Replay) → IsGameText game
-    → IsReplay Main (tag_in fen_tag game.tags) game.elements replay
+    (game : GameText) (replay : Replay) → IsGameText game → IsReplayOf Main game replay
     → IsPacked packed.name packed.number packed.offset game replay packed → ⊥
 
 -- in front of the bytes stands the record of no game
@@ -170,7 +166,8 @@ ListsWhatWasPacked aim whole out out' =
 
 -- the piece is a game whose main line is sound
 abbrev pub IsSoundPiece : PieceKind → Type 0
-IsSoundPiece (ReadableGame parts) = (replay : Replay) × IsReplayOf Main parts replay
+IsSoundPiece (ReadableGame parts) =
+    (game : GameText) × IsGameOf parts game × (replay : Replay) × IsReplayOf Main game replay
 IsSoundPiece (UnreadableRest bytes) = ⊥
 IsSoundPiece TooLongBlock = ⊥
 

@@ -2,12 +2,15 @@
 use Rattle.std.specs.Prelude.{◌≡◌, ℕ, ◌+◌, Bool, true, false, List, [], ◌∷◌, ◌++◌, map, codes}
 use Rattle.pgn_text.specs.Public.Marks.{PieceKind, ReadableGame, UnreadableRest, TooLongBlock}
 use Rattle.pgn_text.specs.Public.Marks.{MarkedPiece}
-use Rattle.pgn_text.specs.Public.Parts.{Part, spelled}
+use Rattle.pgn_text.specs.Public.GameTexts.{GameText}
+use Rattle.pgn_text.specs.Public.Parts.{Part}
 use Rattle.pgn_game.specs.Public.Faults.{Fault}
 use Rattle.pgn_game.specs.Public.Replays.{Replay}
+use Rattle.pgn_game.specs.declared.replays.replayer.Lines.{Lines}
 use Rattle.pgn_game.specs.declared.replays.replayer.Lines.TheVariants.{Main}
+use Rattle.pgn_criteria.specs.Public.Meeting.{heading_of}
 use Rattle.pgn_extract.specs.Public.Index.{fault_text, mark_line}
-use Rattle.pgn_extract.specs.Public.Listing.{Entry, listing, heading_in}
+use Rattle.pgn_extract.specs.Public.Listing.{Entry, IsGameOf, listing}
 use Rattle.pgn_extract.specs.Public.GameReports.{AreListed, IsReplayOf, IsFaultOf, cause_text}
 use Rattle.pgn_extract.specs.Public.Aims.{Aim, GameId}
 use Rattle.pgn_extract.specs.Public.Choices.{id_of, IfChosen, is_chosen}
@@ -54,38 +57,47 @@ abbrev pub fault_lines : List Verdict → List ℕ
 fault_lines [] = []
 fault_lines (verdict ∷ more) = fault_line_of verdict ++ fault_lines more
 
--- the game is reported in the listing: where it is sound, by the lines of the entries that it
--- lists, else by the line of its fault
-abbrev pub IsListed : Aim → Verdict → GameId → List Part → Type 0
-IsListed aim (SoundGame text) id parts =
-    (replay : Replay) × (entries : List Entry) × IsReplayOf Main parts replay
-    × AreListed aim id (heading_in parts) replay entries × (text ≡ listing aim.name entries)
-IsListed aim (FaultyGame text line note) id parts =
-    (fault : Fault) × IsFaultOf Main parts fault
-    × (line ≡ fault_text aim.name id (cause_text fault)) × IsNote aim.explain note × (text ≡ [])
+-- the lines of a game that must be sound in a mode: in the export all that are written, else its
+-- main line
+abbrev pub replayed_lines : Mode → Aim → Lines
+replayed_lines modes.Index aim = Main
+replayed_lines modes.List aim = Main
+replayed_lines modes.Export aim = written_lines aim
 
--- the game is reported in the export: where it is sound in the lines that are written, by what is
--- written of it, else by the line of its fault,
--- and by its bytes where the faulty ones are selected
-abbrev pub IsExported : Aim → Verdict → GameId → List Part → Type 0
-IsExported aim (SoundGame text) id parts =
-    (replay : Replay) × IsReplayOf (written_lines aim) parts replay
-    × IsWritten aim id parts replay text
-IsExported aim (FaultyGame text line note) id parts =
-    (fault : Fault) × IsFaultOf (written_lines aim) parts fault
+-- the lines of the entries that a sound game lists
+abbrev pub AreEntryLines : Aim → GameId → GameText → Replay → List ℕ → Type 0
+AreEntryLines aim id game replay text =
+    (entries : List Entry) × AreListed aim id (heading_of game) replay entries
+    × (text ≡ listing aim.name entries)
+
+-- what goes to the output of a sound game in a mode: in the export what is written of it, else the
+-- lines of its entries
+abbrev pub IsOutput : Mode → Aim → GameId → GameText → Replay → List ℕ → Type 0
+IsOutput modes.Index aim id game replay text = AreEntryLines aim id game replay text
+IsOutput modes.List aim id game replay text = AreEntryLines aim id game replay text
+IsOutput modes.Export aim id game replay text = IsWritten aim id game replay text
+
+-- the game is reported by its replay: where it is sound, by what goes to the output of it; else by
+-- the line of its fault, and in the export by its bytes where the faulty ones are selected
+abbrev pub IsReplayed : Mode → Aim → GameId → GameText → Verdict → Type 0
+IsReplayed mode aim id game (SoundGame text) =
+    (replay : Replay) × IsReplayOf (replayed_lines mode aim) game replay
+    × IsOutput mode aim id game replay text
+IsReplayed mode aim id game (FaultyGame text line note) =
+    (fault : Fault) × IsFaultOf (replayed_lines mode aim) game fault
     × (line ≡ fault_text aim.name id (cause_text fault)) × IsNote aim.explain note
-    × (text ≡ faulty_text modes.Export aim.select (spelled parts))
+    × (text ≡ faulty_text mode aim.select game.text)
 
--- a game that can be read is reported so in a mode: in the index by its mark, in the listing and in
--- the export as above
+-- the game of these parts is reported by its replay
+abbrev pub IsReplayedGame : Mode → Aim → GameId → List Part → Verdict → Type 0
+IsReplayedGame mode aim id parts verdict =
+    (game : GameText) × IsGameOf parts game × IsReplayed mode aim id game verdict
+
+-- a game that can be read is reported so in a mode: in the index by its mark, else by its replay
 abbrev pub IsVerdictIn : Mode → Aim → GameId → List Part → Verdict → Type 0
 IsVerdictIn modes.Index aim id parts verdict = verdict ≡ SoundGame (mark_line aim.name id)
-IsVerdictIn modes.List aim id parts verdict = IsListed aim verdict id parts
-IsVerdictIn modes.Export aim id parts verdict = IsExported aim verdict id parts
-
--- a game that can be read is reported so
-abbrev pub IsGameVerdict : Aim → GameId → List Part → Verdict → Type 0
-IsGameVerdict aim id parts verdict = IsVerdictIn aim.mode aim id parts verdict
+IsVerdictIn modes.List aim id parts verdict = IsReplayedGame modes.List aim id parts verdict
+IsVerdictIn modes.Export aim id parts verdict = IsReplayedGame modes.Export aim id parts verdict
 
 -- the piece is faulty: these bytes go to the output, this line to standard error, and a note after
 -- it where explanations are asked for
@@ -105,7 +117,7 @@ IsUnreadableVerdict aim offset bytes line verdict =
 -- a piece that is chosen is reported so, by what it is: what can't be read is reported by the same
 -- line in each mode
 abbrev pub IsPieceVerdict : PieceKind → Aim → GameId → Verdict → Type 0
-IsPieceVerdict (ReadableGame parts) aim id verdict = IsGameVerdict aim id parts verdict
+IsPieceVerdict (ReadableGame parts) aim id verdict = IsVerdictIn aim.mode aim id parts verdict
 IsPieceVerdict (UnreadableRest bytes) aim id verdict =
     IsUnreadableVerdict aim id.offset bytes (fault_text aim.name id (codes "unreadable")) verdict
 IsPieceVerdict TooLongBlock aim id verdict =

@@ -5,17 +5,17 @@ ghost use Rattle.pgn_text.specs.Public.GameTexts.{GameText, tag_in};
 ghost use Rattle.pgn_game.specs.Public.Exports.{lines_with};
 ghost use Rattle.pgn_game.specs.Public.Faults.{IsFault};
 ghost use Rattle.pgn_game.specs.Public.GameLines.{IsGameLine};
+ghost use Rattle.pgn_game.specs.Public.PackedGames.{IsRecordOf};
 ghost use Rattle.pgn_game.specs.Public.Replays.{IsSoundGame, Replay, fault_of};
 ghost use Rattle.pgn_game.specs.Public.Starts.{fen_tag};
 ghost use Rattle.pgn_game.specs.declared.replays.replayer.Lines.TheVariants.{Main};
 ghost use Rattle.pgn_extract.specs.Public.Aims.{aim_of};
-ghost use Rattle.pgn_extract.specs.Private.Blockwise.{AddsText, IsGameSelected, LeavesText};
-ghost use Rattle.pgn_extract.specs.Private.Blockwise.{PutsText, TakesAll};
-ghost use Rattle.pgn_extract.specs.Public.Exports.{HasEntry, as_it_stands, faulty_text, line_with};
-ghost use Rattle.pgn_extract.specs.Public.Exports.{written_lines};
-ghost use Rattle.pgn_extract.specs.Private.Finding.{IsChosen, StopsAtFault};
+ghost use Rattle.pgn_extract.specs.Private.Blockwise.{AddsText, PutsText, StopsIn, TakesAll};
+ghost use Rattle.pgn_extract.specs.Public.Exports.{HasEntry, IsSelected, as_it_stands, faulty_text};
+ghost use Rattle.pgn_extract.specs.Public.Exports.{line_with, written_lines};
+ghost use Rattle.pgn_extract.specs.Private.Finding.{IsChosen};
 ghost use Rattle.pgn_criteria.specs.Public.Meeting.{heading_of};
-ghost use Rattle.pgn_extract.specs.declared.settings.Form.TheVariants.{AsItStands, Line, Record};
+ghost use Rattle.pgn_extract.specs.declared.settings.Form.TheVariants.{AsItStands};
 
 use crate::entries::{GameContext, has_entry};
 use crate::output::texts::push_named_mark;
@@ -79,7 +79,8 @@ pub fn push_faulty(
 fn is_selected(settings: &Settings, has: bool) -> bool
     ensures { (game : GameText) (replay : Replay)
         → (IsTrue has ↔ HasEntry (aim_of settings.now) (heading_of game) replay)
-        → IsTrue result ↔ IsGameSelected (aim_of settings.now) game replay }
+        → IsTrue result
+        ↔ IsSelected settings.now.select (HasEntry (aim_of settings.now) (heading_of game) replay) }
 {
     match settings.select {
         Select::Matching => has,
@@ -152,44 +153,13 @@ fn push_game_line<'a>(
         × (text.new.items ≡ text.old.items
         ++ line_with context.entry.settings.now.name context.entry.own line)) }
     ensures fault { IfErr result (λ fault.
-        IfSome (fault_of fault) (StopsAtFault game.now text.old.items text.new.items)) }
+        IfSome (fault_of fault) (StopsIn Main game.now text.old.items text.new.items)) }
 {
-    let GameContext {
-        alloc,
-        settings,
-        own,
-    } = context;
-    push_named_mark(text, &settings.name, own)?;
+    push_named_mark(text, &context.settings.name, context.own)?;
     text.extend_from_slice(b" ")?;
-    push_line(alloc, game, notation, text)?;
+    push_line(context.alloc, game, notation, text)?;
     text.extend_from_slice(b"\n")?;
     Ok(())
-}
-
-/// Appends the line of a game, with its moves in this notation; or answers the fault of its main
-/// line, and nothing is appended.
-fn put_game_line<'a>(
-    text: &mut Vec<u8>,
-    context: GameContext<'_>,
-    notation: Notation,
-    game: &RawGame<'a>,
-) -> Result<(), GameFault<'a>>
-    requires { context.settings.now.form ≡ Line notation }
-    ensures { MatchResult result
-        (λ _. PutsText (aim_of context.entry.settings.now) context.entry.own game.now text.old.items
-        text.new.items)
-        (λ fault.
-        IfSome (fault_of fault)
-        (LeavesText (aim_of context.entry.settings.now) game.now text.old.items text.new.items)) }
-{
-    let length = text.len();
-    match push_game_line(text, context, notation, game) {
-        Ok(()) => Ok(()),
-        Err(fault) => {
-            text.truncate(length);
-            Err(fault)
-        }
-    }
 }
 
 /// The name that lines begin with, if they have one.
@@ -202,31 +172,23 @@ fn shown_name(settings: &Settings) -> Option<&[u8]>
     }
 }
 
-/// Appends the record of a game; or answers the fault of its main line, and nothing is appended.
-fn put_game_record<'a>(
+/// Appends the record of a game; or answers the fault of its main line.
+fn push_game_record<'a>(
     text: &mut Vec<u8>,
     context: GameContext<'_>,
     game: &RawGame<'a>,
 ) -> Result<(), GameFault<'a>>
-    requires { context.settings.now.form ≡ Record }
     ensures { MatchResult result
-        (λ _. PutsText (aim_of context.entry.settings.now) context.entry.own game.now text.old.items
-        text.new.items)
-        (λ fault.
-        IfSome (fault_of fault)
-        (LeavesText (aim_of context.entry.settings.now) game.now text.old.items text.new.items)) }
+        (λ _. (bytes : List ℕ) × IsRecordOf context.entry.settings.now.name context.entry.own.number
+        context.entry.own.offset game.now bytes × (text.new.items ≡ text.old.items ++ bytes))
+        (λ fault. IfSome (fault_of fault) (StopsIn Main game.now text.old.items text.new.items)) }
 {
-    let GameContext {
-        alloc,
-        settings,
-        own,
-    } = context;
     let origin = GameOrigin {
-        name: shown_name(settings),
-        number: own.number,
-        offset: own.offset,
+        name: shown_name(context.settings),
+        number: context.own.number,
+        offset: context.own.offset,
     };
-    push_record(alloc, &origin, game, text)
+    push_record(context.alloc, &origin, game, text)
 }
 
 /// Appends a game as it stands, if the lines that are written are sound; or answers their first
@@ -241,9 +203,8 @@ fn put_as_is<'a>(
         (λ _. IsSoundGame (written_lines (aim_of settings.now)) (tag_in fen_tag game.now.tags)
         game.now.elements
         × (text.new.items ≡ text.old.items ++ as_it_stands game.now.text))
-        (λ fault.
-        IfSome (fault_of fault)
-        (LeavesText (aim_of settings.now) game.now text.old.items text.new.items)) }
+        (λ fault. IfSome (fault_of fault)
+        (StopsIn (written_lines (aim_of settings.now)) game.now text.old.items text.new.items)) }
 {
     match check_lines(alloc, game, written_lines(settings)) {
         Ok(()) => {
@@ -255,8 +216,8 @@ fn put_as_is<'a>(
 }
 
 /// Appends the text of a game, played while it is written: its export, its line, its record, or the
-/// game as it stands. Where one of the lines that are
-/// written is faulty, the first fault is answered, and nothing is appended.
+/// game as it stands. Where one of the lines that are written is faulty, the first fault is
+/// answered, and some bytes of the text may be appended.
 fn put_text<'a>(
     text: &mut Vec<u8>,
     context: GameContext<'_>,
@@ -265,20 +226,16 @@ fn put_text<'a>(
     ensures { MatchResult result
         (λ _. PutsText (aim_of context.entry.settings.now) context.entry.own game.now text.old.items
         text.new.items)
-        (λ fault.
-        IfSome (fault_of fault)
-        (LeavesText (aim_of context.entry.settings.now) game.now text.old.items text.new.items)) }
+        (λ fault. IfSome (fault_of fault)
+        (StopsIn (written_lines (aim_of context.entry.settings.now)) game.now text.old.items
+        text.new.items)) }
 {
-    let GameContext {
-        alloc,
-        settings,
-        ..
-    } = context;
+    let settings = context.settings;
     match settings.form {
-        Form::Standard => export_played(alloc, game, &settings.style, text),
-        Form::AsItStands => put_as_is(alloc, text, settings, game),
-        Form::Line(notation) => put_game_line(text, context, notation, game),
-        Form::Record => put_game_record(text, context, game),
+        Form::Standard => export_played(context.alloc, game, &settings.style, text),
+        Form::AsItStands => put_as_is(context.alloc, text, settings, game),
+        Form::Line(notation) => push_game_line(text, context, notation, game),
+        Form::Record => push_game_record(text, context, game),
     }
 }
 
@@ -305,20 +262,16 @@ fn put_chosen<'a>(
     ensures { MatchResult result
         (λ _. AddsText (aim_of context.entry.settings.now) context.entry.own game.now text.old.items
         text.new.items)
-        (λ fault.
-        IfSome (fault_of fault)
-        (LeavesText (aim_of context.entry.settings.now) game.now text.old.items text.new.items)) }
+        (λ fault. IfSome (fault_of fault)
+        (StopsIn (written_lines (aim_of context.entry.settings.now)) game.now text.old.items
+        text.new.items)) }
 {
-    let GameContext {
-        alloc,
-        settings,
-        ..
-    } = context;
+    let settings = context.settings;
     if !is_selected(settings, has) {
-        return check_written(alloc, settings, game);
+        return check_written(context.alloc, settings, game);
     }
     if is_as_it_stands(settings) {
-        check_written(alloc, settings, game)?;
+        check_written(context.alloc, settings, game)?;
         push_as_is(text, game.text())?;
         return Ok(());
     }
@@ -335,24 +288,20 @@ fn put_by_entry<'a>(
     ensures { MatchResult result
         (λ _. AddsText (aim_of context.entry.settings.now) context.entry.own game.now text.old.items
         text.new.items)
-        (λ fault.
-        IfSome (fault_of fault)
-        (LeavesText (aim_of context.entry.settings.now) game.now text.old.items text.new.items)) }
+        (λ fault. IfSome (fault_of fault)
+        (StopsIn (written_lines (aim_of context.entry.settings.now)) game.now text.old.items
+        text.new.items)) }
 {
-    let GameContext {
-        alloc,
-        settings,
-        ..
-    } = context;
-    match has_entry(alloc, settings, game) {
+    let settings = context.settings;
+    match has_entry(context.alloc, settings, game) {
         Ok(has) => put_chosen(text, context, game, has),
-        Err(fault) => Err(first_fault(alloc, settings, game, fault)),
+        Err(fault) => Err(first_fault(context.alloc, settings, game, fault)),
     }
 }
 
 /// Appends the text of a game, if the lines that are written are sound and it is selected: its
-/// export, its line, its record, or the game as it stands.
-/// Where one of these lines is faulty, the first fault is answered, and nothing is appended.
+/// export, its line, its record, or the game as it stands. Where one of these lines is faulty, the
+/// first fault is answered, and some bytes of the text may be appended.
 pub fn put_selected<'a>(
     text: &mut Vec<u8>,
     context: GameContext<'a>,
@@ -361,20 +310,16 @@ pub fn put_selected<'a>(
     ensures { MatchResult result
         (λ _. AddsText (aim_of context.entry.settings.now) context.entry.own game.now text.old.items
         text.new.items)
-        (λ fault.
-        IfSome (fault_of fault)
-        (LeavesText (aim_of context.entry.settings.now) game.now text.old.items text.new.items)) }
+        (λ fault. IfSome (fault_of fault)
+        (StopsIn (written_lines (aim_of context.entry.settings.now)) game.now text.old.items
+        text.new.items)) }
 {
-    let GameContext {
-        alloc,
-        settings,
-        ..
-    } = context;
+    let settings = context.settings;
     if takes_all(settings) {
         return put_text(text, context, game);
     }
     match settings.select {
-        Select::Faulty => check_lines(alloc, game, written_lines(settings)),
+        Select::Faulty => check_lines(context.alloc, game, written_lines(settings)),
         Select::Matching | Select::Others => put_by_entry(text, context, game),
     }
 }

@@ -5,14 +5,16 @@ ghost use Rattle.pgn_text.specs.Public.Left.{piece_place};
 ghost use Rattle.pgn_text.specs.Public.LeftMarks.{mark_place};
 ghost use Rattle.pgn_extract.specs.Public.Aims.{aim_of};
 ghost use Rattle.pgn_extract.specs.Public.Choices.{is_chosen};
-ghost use Rattle.pgn_extract.specs.Private.Blockwise.{Reports, AddsVerdict, AddsGame, AddsListed};
-ghost use Rattle.pgn_extract.specs.Private.Blockwise.{AddsExported, AddsPiece, IsBlockVerdict};
-ghost use Rattle.pgn_extract.specs.Private.Blockwise.{IsMarkReport, too_long_piece};
+ghost use Rattle.pgn_extract.specs.Private.Blockwise.{Reports, AddsVerdict, AddsGame, AddsOutput};
+ghost use Rattle.pgn_extract.specs.Private.Blockwise.{AddsPiece, AddsReplayed, IsBlockVerdict};
+ghost use Rattle.pgn_extract.specs.Private.Blockwise.{IsMarkReport, StopsIn, too_long_piece};
+ghost use Rattle.pgn_extract.specs.Private.Finding.{AddsEntries};
 ghost use Rattle.pgn_extract.specs.Public.Index.{fault_text};
 ghost use Rattle.pgn_extract.specs.Public.Listing.{is_plain};
 ghost use Rattle.pgn_extract.specs.Public.GameReports.{cause_text};
 ghost use Rattle.pgn_extract.specs.Public.Notes.{IsNote};
-ghost use Rattle.pgn_extract.specs.Public.Verdicts.{Verdict, FaultyGame};
+ghost use Rattle.pgn_extract.specs.Public.Verdicts.{Verdict, FaultyGame, replayed_lines};
+ghost use Rattle.pgn_game.specs.declared.replays.replayer.Lines.TheVariants.{Main};
 ghost use Rattle.pgn_game.specs.Public.Faults.{Fault};
 ghost use Rattle.pgn_game.specs.Public.Replays.{fault_of};
 
@@ -138,6 +140,68 @@ pub struct BlockContext<'a> {
     pub bytes: &'a [u8],
 }
 
+/// Appends the lines of the plies of a game within the bounds, which are counted; or answers the
+/// fault of its main line.
+fn push_counted<'a>(
+    text: &mut Vec<u8>,
+    context: GameContext<'a>,
+    game: &RawGame<'a>,
+) -> Result<(), GameFault<'a>>
+    requires criteria { context.settings.now.criteria ≡ None }
+    requires plain { is_plain context.settings.now.fields ≡ true }
+    ensures { MatchResult result
+        (λ _. AddsEntries (aim_of context.entry.settings.now) context.entry.own game.now
+        text.old.items text.new.items)
+        (λ fault. IfSome (fault_of fault) (StopsIn Main game.now text.old.items text.new.items)) }
+{
+    match count_plies(context.alloc, game) {
+        Ok(plies) => {
+            push_plies(text, context, plies)?;
+            Ok(())
+        }
+        Err(fault) => Err(fault),
+    }
+}
+
+/// Appends the lines of the entries of a game, or answers the fault of its main line.
+fn push_listed<'a>(
+    text: &mut Vec<u8>,
+    context: GameContext<'a>,
+    game: &RawGame<'a>,
+) -> Result<(), GameFault<'a>>
+    ensures { MatchResult result
+        (λ _. AddsEntries (aim_of context.entry.settings.now) context.entry.own game.now
+        text.old.items text.new.items)
+        (λ fault. IfSome (fault_of fault) (StopsIn Main game.now text.old.items text.new.items)) }
+{
+    if context.settings.fields.is_empty() && context.settings.criteria.is_none() {
+        return push_counted(text, context, game);
+    }
+    push_entries(text, context, game)
+}
+
+/// Appends what goes to the output of a sound game; or answers the first fault of the lines that are
+/// replayed, and some bytes may be appended.
+fn push_sound<'a>(
+    text: &mut Vec<u8>,
+    context: GameContext<'a>,
+    game: &RawGame<'a>,
+) -> Result<(), GameFault<'a>>
+    ensures { MatchResult result
+        (λ _. AddsOutput (aim_of context.entry.settings.now) context.entry.own game.now
+        text.old.items text.new.items)
+        (λ fault. IfSome (fault_of fault)
+        (StopsIn
+        (replayed_lines context.entry.settings.now.mode (aim_of context.entry.settings.now))
+        game.now text.old.items text.new.items)) }
+{
+    match context.settings.mode {
+        Mode::Index => push_listed(text, context, game),
+        Mode::List => push_listed(text, context, game),
+        Mode::Export => put_selected(text, context, game),
+    }
+}
+
 impl Report {
     /// Adds the line of a game that can't be replayed.
     fn add_fault<'a>(
@@ -176,9 +240,9 @@ impl Report {
         push_players(alloc, &mut self.faults, game.text())
     }
 
-    /// Adds what the listing reports of a game whose positions are asked: the lines of its entries,
-    /// or of its fault.
-    fn add_entries<'a>(
+    /// Adds what is reported of a game by its replay: what goes to the output where it is sound, else
+    /// the line of its fault.
+    fn add_replayed<'a>(
         &mut self,
         context: GameContext<'a>,
         site: Site<'a>,
@@ -187,81 +251,17 @@ impl Report {
         requires faulty { self.old.faulty + 1 < 2 ^ 64 }
         requires room { site.origin.offset + length site.block.now < 2 ^ 64 }
         ensures { OnOk result
-            (AddsListed (aim_of context.entry.settings.now) self.old self.new context.entry.own
-            game.now) }
+            (AddsReplayed context.entry.settings.now.mode (aim_of context.entry.settings.now) self.old self.new
+            context.entry.own game.now) }
     {
         let length = self.output.len();
-        match push_entries(&mut self.output, context, game) {
+        match push_sound(&mut self.output, context, game) {
             Ok(()) => Ok(()),
             Err(fault) => {
-                self.output.truncate(length);
-                self.add_fault(context, site, game, fault)
-            }
-        }
-    }
-
-    /// Adds what the listing reports of a game where neither criteria nor fields are given: the
-    /// lines of its plies within the bounds, or of its fault.
-    fn add_plies<'a>(
-        &mut self,
-        context: GameContext<'a>,
-        site: Site<'a>,
-        game: &RawGame<'a>,
-    ) -> Result<(), AllocError>
-        requires faulty { self.old.faulty + 1 < 2 ^ 64 }
-        requires room { site.origin.offset + length site.block.now < 2 ^ 64 }
-        requires criteria { context.settings.now.criteria ≡ None }
-        requires plain { is_plain context.settings.now.fields ≡ true }
-        ensures { OnOk result
-            (AddsListed (aim_of context.entry.settings.now) self.old self.new context.entry.own
-            game.now) }
-    {
-        match count_plies(context.alloc, game) {
-            Ok(plies) => push_plies(&mut self.output, context, plies),
-            Err(fault) => self.add_fault(context, site, game, fault),
-        }
-    }
-
-    /// Adds what the listing reports of a game: the lines of its entries, or of its fault.
-    fn add_listed<'a>(
-        &mut self,
-        context: GameContext<'a>,
-        site: Site<'a>,
-        game: &RawGame<'a>,
-    ) -> Result<(), AllocError>
-        requires faulty { self.old.faulty + 1 < 2 ^ 64 }
-        requires room { site.origin.offset + length site.block.now < 2 ^ 64 }
-        ensures { OnOk result
-            (AddsListed (aim_of context.entry.settings.now) self.old self.new context.entry.own
-            game.now) }
-    {
-        if context.settings.fields.is_empty() && context.settings.criteria.is_none() {
-            return self.add_plies(context, site, game);
-        }
-        self.add_entries(context, site, game)
-    }
-
-    /// Adds what the export reports of a game: its text where it is selected, or the line of its
-    /// fault.
-    fn add_exported<'a>(
-        &mut self,
-        context: GameContext<'a>,
-        site: Site<'a>,
-        game: &RawGame<'a>,
-    ) -> Result<(), AllocError>
-        requires faulty { self.old.faulty + 1 < 2 ^ 64 }
-        requires room { site.origin.offset + length site.block.now < 2 ^ 64 }
-        ensures { OnOk result
-            (AddsExported (aim_of context.entry.settings.now) self.old self.new context.entry.own
-            game.now) }
-    {
-        game.invariant();
-        match put_selected(&mut self.output, context, game) {
-            Ok(()) => Ok(()),
-            Err(fault) => {
+                let GameContext { settings, .. } = context;
                 let text = game.text();
-                let select = context.settings.select;
-                push_faulty(&mut self.output, Mode::Export, select, text)?;
+                self.output.truncate(length);
+                push_faulty(&mut self.output, settings.mode, settings.select, text)?;
                 self.add_fault(context, site, game, fault)
             }
         }
@@ -280,11 +280,12 @@ impl Report {
             (AddsGame (aim_of context.entry.settings.now) self.old self.new context.entry.own
             game.now) }
     {
+        game.invariant();
         let GameContext { settings, own, .. } = context;
         match settings.mode {
             Mode::Index => push_mark_line(&mut self.output, &settings.name, own),
-            Mode::List => self.add_listed(context, site, game),
-            Mode::Export => self.add_exported(context, site, game),
+            Mode::List => self.add_replayed(context, site, game),
+            Mode::Export => self.add_replayed(context, site, game),
         }
     }
 

@@ -1,15 +1,10 @@
-use Rattle.std.proofs.Common.{[], inr, refl, sym, append-nil, subst}
-use Rattle.std.proofs.lemmas.Option.{IfSome_then}
+use Rattle.std.proofs.Common.{[], refl, sym, append-nil, subst}
 use Rattle.std.proofs.lemmas.Result.{MatchResult-weaker}
-use Rattle.pgn_text.specs.Public.GameTexts.{tag_in}
-use Rattle.pgn_game.specs.Public.Faults.{Fault, IsFault}
 use Rattle.pgn_game.specs.Public.Replays.{fault_of}
-use Rattle.pgn_game.specs.Public.Starts.{fen_tag}
 use Rattle.pgn_extract.specs.Public.Aims.{aim_of}
-use Rattle.pgn_extract.specs.Private.Blockwise.{LeavesText}
-use Rattle.pgn_extract.specs.Public.Exports.{HasEntry, IsSelected, written_lines}
+use Rattle.pgn_extract.specs.Public.Exports.{HasEntry, IsSelected, unselected, written_lines}
 use Rattle.pgn_criteria.specs.Public.Meeting.{heading_of}
-use Rattle.pgn_extract.proofs.AllTaken.{all_written}
+use Rattle.pgn_extract.proofs.AllTaken.{all_written, stops_left}
 use Rattle.pgn_extract.proofs.engine.exporting.put_selected.Goals as goal
 
 pub returns-then-takes_all : goal.returns-then-takes_all
@@ -32,9 +27,6 @@ returns-in-Faulty c =
     let aim = aim_of c.args.context.settings.now in
     let game = c.args.game.now in
     let old = c.args.text.now.items in
-    let leaves : (own : Fault)
-    → IsFault (written_lines aim) (tag_in fen_tag game.tags) game.elements own
-    → LeavesText aim game old old own = λ own met. (met, refl) in
     let none : (P : Type 0) → IsSelected c.args.context.settings.now.select P → ⊥ =
     λ P. subst (λ s. IsSelected s P → ⊥) (sym c.in-Faulty.is) (λ never. never) in
     let checked = rw c.written_lines.ensures at c.check_lines.ensures in
@@ -43,7 +35,7 @@ returns-in-Faulty c =
       sound.0,
       sound.1,
       [],
-      inr (none (HasEntry aim (heading_of game) sound.0), refl),
+      unselected (none (HasEntry aim (heading_of game) sound.0)) refl,
       sym (append-nil old),
     ))
-    (λ fault reports. IfSome_then (fault_of fault) reports leaves)
+    (λ fault reports. stops_left (written_lines aim) game old old (fault_of fault) reports refl)

@@ -1,9 +1,13 @@
-use Rattle.std.proofs.lemmas.Option.{IfSome_then}
-use Rattle.std.proofs.lemmas.Result.{MatchResult-weaker}
+use Rattle.std.proofs.Common.{[], refl}
+use Rattle.std.proofs.lemmas.Result.{MatchResult-weaker, on_ok_weaker}
 use Rattle.pgn_game.specs.Public.Replays.{fault_of}
 use Rattle.pgn_extract.specs.Public.Aims.{aim_of}
-use Rattle.pgn_extract.proofs.AllTaken.{put_or_left}
-use Rattle.pgn_extract.proofs.TextPut.{export_put, game_put, style_lines}
+use Rattle.pgn_extract.specs.Public.Exports.{as_it_stands, line_with}
+use Rattle.pgn_extract.specs.declared.settings.Form.TheVariants.{Standard, AsItStands, Line, Record}
+use Rattle.pgn_game.specs.Public.Exports.{lines_with}
+use Rattle.pgn_extract.proofs.AllTaken.{put_as, put_or_left, stops_left}
+use Rattle.pgn_extract.proofs.Finds.{on_result}
+use Rattle.pgn_extract.proofs.GameExport.{own_export, own_record}
 use Rattle.pgn_extract.proofs.engine.exporting.put_text.Goals as goal
 
 pub returns-in-Standard : goal.returns-in-Standard
@@ -12,18 +16,60 @@ returns-in-Standard c =
     let game = c.args.game.now in
     let old = c.args.text.now.items in
     let new = c.export_played.new.out.items in
-    put_or_left c.export_played.result c.export_played.ensures.text c.export_played.ensures.sound
-    c.export_played.ensures.fault c.export_played.ensures.left
-    (λ text sound.
-    export_put aim c.args.context.own game old new c.in-Standard.is text.0 text.1 sound text.2)
-    (λ fault fails left. IfSome_then (fault_of fault) fails
-    (λ own met. (style_lines aim c.args.context.own game old new c.in-Standard.is own met, left)))
+    let put = c.export_played.ensures in
+    put_as aim c.args.context.own game old new c.export_played.result (λ fault. fault_of fault)
+    Standard c.in-Standard.is
+    (put_or_left c.export_played.result put.text put.sound put.fault put.left
+    (λ text sound. (sound.0, sound.1, text.0, own_export aim.style game text.0 text.1, text.2))
+    (λ fault fails left.
+    stops_left (lines_with aim.style.variations) game old new (fault_of fault) fails left))
 
 pub returns-in-AsItStands : goal.returns-in-AsItStands
 returns-in-AsItStands c =
-    MatchResult-weaker c.put_as_is.result c.put_as_is.ensures
-    (λ _ put.
-    game_put (aim_of c.args.context.settings.now) c.args.context.own c.args.game.now
-    c.args.text.now.items c.put_as_is.new.text.items
-    c.in-AsItStands.is put.0 put.1)
-    (λ fault reports. reports)
+    let put = rw c.in-AsItStands.is at c.put_as_is.ensures in
+    put_as (aim_of c.args.context.settings.now) c.args.context.own c.args.game.now
+    c.args.text.now.items c.put_as_is.new.text.items c.put_as_is.result (λ fault. fault_of fault)
+    AsItStands c.in-AsItStands.is
+    (MatchResult-weaker c.put_as_is.result put
+    (λ _ sound. (sound.0.0, sound.0.1, as_it_stands c.args.game.now.text, refl, sound.1))
+    (λ fault stops. stops))
+
+pub returns-in-Line : goal.returns-in-Line
+returns-in-Line c =
+    let aim = aim_of c.args.context.settings.now in
+    let put = c.push_game_line.ensures in
+    put_as aim c.args.context.own c.args.game.now
+    c.args.text.now.items c.push_game_line.new.text.items c.push_game_line.result
+    (λ fault. fault_of fault) (Line c.in-Line.notation) c.in-Line.is
+    (on_result c.push_game_line.result _ _
+    (on_ok_weaker c.push_game_line.result
+    (λ line. (
+      record { positions = line.1.positions; played = line.1.played; turns = [] },
+      record {
+        start = line.1.start;
+        is_start = line.1.is_start;
+        line = line.1.line;
+        turns = refl;
+      },
+      line_with aim.name c.args.context.own line.0,
+      (line.0, line.1, refl),
+      line.2,
+    ))
+    put.text) put.fault)
+
+pub returns-in-Record : goal.returns-in-Record
+returns-in-Record c =
+    let aim = aim_of c.args.context.settings.now in
+    let id = c.args.context.own in
+    put_as aim id c.args.game.now
+    c.args.text.now.items c.push_game_record.new.text.items c.push_game_record.result
+    (λ fault. fault_of fault) Record c.in-Record.is
+    (MatchResult-weaker c.push_game_record.result c.push_game_record.ensures
+    (λ _ put. (
+      put.1.replay,
+      put.1.is_replay,
+      put.0,
+      own_record aim.name id.number id.offset c.args.game.now put.0 put.1,
+      put.2,
+    ))
+    (λ fault stops. stops))

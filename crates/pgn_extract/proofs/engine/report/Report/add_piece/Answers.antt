@@ -1,4 +1,4 @@
-use Rattle.std.proofs.Common.{◌≡◌, ◌+◌, false, sym, ap, subst}
+use Rattle.std.proofs.Common.{◌≡◌, false, sym, ap, subst}
 use Rattle.std.proofs.lemmas.Result.{on_ok_weaker}
 use Rattle.pgn_text.specs.Public.Left.{piece_place}
 use Rattle.pgn_text.specs.declared.game.pieces.Piece.{Piece}
