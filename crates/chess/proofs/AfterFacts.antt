@@ -4,7 +4,7 @@ use Rattle.std.proofs.Common.{None}
 use Rattle.chess.specs.Public.Squares.{Place, IsOnBoard}
 use Rattle.chess.specs.Public.Placements.{Placement, man_at, with_man, AreOnBoard, IsEmpty}
 use Rattle.chess.specs.Public.Positions.{State, rook_of, rook_from, rook_to}
-use Rattle.chess.specs.Public.Moves.{arriving, taken, with_rook, men_after}
+use Rattle.chess.specs.Public.Moves.{arriving, capture_square, with_rook, men_after}
 use Rattle.chess.specs.Shared.CellFacts.{man_at-same, man_at-other}
 use Rattle.chess.specs.declared.board.man.Man.{Man}
 use Rattle.chess.specs.declared.board.man.Side.{Side}
@@ -17,7 +17,7 @@ use Rattle.chess.proofs.PlaceFacts.{cases_place, some_not_none}
 -- the men after the man that moves has left and arrived
 abbrev pub men_moved : State → Move → Placement
 men_moved P m =
-    with_man (with_man (with_man P.men (taken P m) None) m.from None) m.to
+    with_man (with_man (with_man P.men (capture_square P m) None) m.from None) m.to
     (arriving P m.promote m.from)
 
 -- no rook castles from this square or to it
@@ -29,7 +29,7 @@ IsNoRook side castle s = (wing : Wing) → castle ≡ Some wing
 pub record IsApart (P : State) (m : Move) (s : Place) : Type 0 where
   pub from : s ≡ m.from → ⊥
   pub to : s ≡ m.to → ⊥
-  pub captured : s ≡ taken P m → ⊥
+  pub captured : s ≡ capture_square P m → ⊥
   pub rook : IsNoRook P.turn m.castle s
 
 apart_of_rook : (side : Side) (castle : Option Wing) (p : Placement) (s : Place)
@@ -45,25 +45,25 @@ pub after_apart : (P : State) (m : Move) (s : Place) → IsApart P m s
     → man_at (men_after P m) s ≡ man_at P.men s
 after_apart P m s a =
     apart_of_rook P.turn m.castle (men_moved P m) s a.rook
-    ∙ man_at-other (with_man (with_man P.men (taken P m) None) m.from None) m.to s
+    ∙ man_at-other (with_man (with_man P.men (capture_square P m) None) m.from None) m.to s
     (arriving P m.promote m.from) a.to
-    ∙ man_at-other (with_man P.men (taken P m) None) m.from s None a.from
-    ∙ man_at-other P.men (taken P m) s None a.captured
+    ∙ man_at-other (with_man P.men (capture_square P m) None) m.from s None a.from
+    ∙ man_at-other P.men (capture_square P m) s None a.captured
 
 pub after_to : (P : State) (m : Move) → IsNoRook P.turn m.castle m.to
     → man_at (men_after P m) m.to ≡ arriving P m.promote m.from
 after_to P m h =
     apart_of_rook P.turn m.castle (men_moved P m) m.to h
-    ∙ man_at-same (with_man (with_man P.men (taken P m) None) m.from None) m.to
+    ∙ man_at-same (with_man (with_man P.men (capture_square P m) None) m.from None) m.to
     (arriving P m.promote m.from)
 
 pub after_from : (P : State) (m : Move) → IsNoRook P.turn m.castle m.from → (m.from ≡ m.to → ⊥)
     → IsEmpty (men_after P m) m.from
 after_from P m h other =
     apart_of_rook P.turn m.castle (men_moved P m) m.from h
-    ∙ man_at-other (with_man (with_man P.men (taken P m) None) m.from None) m.to m.from
+    ∙ man_at-other (with_man (with_man P.men (capture_square P m) None) m.from None) m.to m.from
     (arriving P m.promote m.from) other
-    ∙ man_at-same (with_man P.men (taken P m) None) m.from None
+    ∙ man_at-same (with_man P.men (capture_square P m) None) m.from None
 
 -- how a man has come to stand on a square after the move: by going there, as the rook that castles,
 -- or by staying
@@ -97,7 +97,7 @@ come_moved : (P : State) (m : Move) (s : Place) (man : Man) → man_at (men_move
     → ((s ≡ m.to) × (arriving P m.promote m.from ≡ Some man))
     ⊎ ((s ≡ m.from → ⊥) × (man_at P.men s ≡ Some man))
 come_moved P m s man here =
-    let cleared = with_man P.men (taken P m) None in
+    let cleared = with_man P.men (capture_square P m) None in
     let left = with_man cleared m.from None in
     elim (cases_place s m.to) [
       | inl e ↦ inl (
@@ -114,12 +114,12 @@ come_moved P m s man here =
             | inr not_from ↦
                 let first : man_at cleared s ≡ Some man =
                 sym (man_at-other cleared m.from s None not_from) ∙ before in
-                elim (cases_place s (taken P m)) [
+                elim (cases_place s (capture_square P m)) [
                   | inl e ↦ absurd (some_not_none (man_at cleared s) man (ap (man_at cleared) e
-                      ∙ man_at-same P.men (taken P m) None) first)
+                      ∙ man_at-same P.men (capture_square P m) None) first)
                   | inr not_taken ↦ inr (
                     not_from,
-                    sym (man_at-other P.men (taken P m) s None not_taken) ∙ first,
+                    sym (man_at-other P.men (capture_square P m) s None not_taken) ∙ first,
                   )
                 ]
           ]
@@ -194,7 +194,7 @@ castled_on_board side (Some wing) p men =
 pub after_on_board : (P : State) (m : Move) → AreOnBoard P.men → IsOnBoard m.to
     → AreOnBoard (men_after P m)
 after_on_board P m men to =
-    let cleared = with_man P.men (taken P m) None in
+    let cleared = with_man P.men (capture_square P m) None in
     castled_on_board P.turn m.castle (men_moved P m)
     (with_on_board (with_man cleared m.from None) m.to (arriving P m.promote m.from)
-    (without_on_board cleared m.from (without_on_board P.men (taken P m) men)) to)
+    (without_on_board cleared m.from (without_on_board P.men (capture_square P m) men)) to)

@@ -6,9 +6,10 @@ use Rattle.chess.specs.Public.Squares.{Place, IsOnBoard, index_of, same_square}
 use Rattle.chess.specs.Public.Attacks.{Reaches}
 use Rattle.chess.specs.Public.Placements.{Placement, IsEmpty, man_at}
 use Rattle.chess.specs.Public.Sets.{Places, is_in, no_places, HoldsExactly}
-use Rattle.chess.specs.Shared.SetWords.{has_bit, HasOnly, IsTakenFirst}
+use Rattle.chess.specs.Shared.SetBitboards.{has_bit, HasOnly, IsTakenFirst}
 use Rattle.chess.specs.Shared.SetFacts.{false_of}
-use Rattle.chess.specs.Private.BitWords.{IsWordOf, IsMan, IsRunner, IsHitStraight, IsHitDiagonal}
+use Rattle.chess.specs.Private.Bitboards.{IsBitboardOf, IsMan, IsRunner, IsAttackedStraight}
+use Rattle.chess.specs.Private.Bitboards.{IsAttackedDiagonal}
 use Rattle.chess.specs.Private.MoveWords.{IsLeft, IsSifted}
 use Rattle.chess.specs.Private.PseudoAttacks.{IsPseudoAttack, StandsBetween, IsUnblocked}
 use Rattle.chess.specs.declared.board.man.Man.{Man}
@@ -18,23 +19,23 @@ use Rattle.chess.specs.declared.board.man.Kind.TheVariants.{Rook, Bishop}
 use Rattle.chess.proofs.PlaceFacts.{true_not_false}
 use Rattle.chess.proofs.FillFacts.{bit_of_both, no_bit}
 use Rattle.chess.proofs.BitFacts.{no_man_or}
-use Rattle.chess.proofs.HitFacts.{common_square, no_common_square}
+use Rattle.chess.proofs.AttackFacts.{common_square, no_common_square}
 use Rattle.chess.proofs.LoopFacts.{left_start, sifted_start, sifted_more, sifted_none, was_left}
 use Rattle.chess.proofs.LoopFacts.{not_in}
 use Rattle.chess.proofs.OpenFacts.{reaches_is}
 
--- no square of the word stands between the two
+-- no square of the bitboard stands between the two
 abbrev pub HasNoneBetween : ℕ → Place → Place → Type 0
-HasNoneBetween word s t = (u : Place) → IsOnBoard u → StandsBetween s t u
-    → has_bit word (index_of u) ≡ false
+HasNoneBetween bitboard s t = (u : Place) → IsOnBoard u → StandsBetween s t u
+    → has_bit bitboard (index_of u) ≡ false
 
-pub none_between : (s t : Place) (a b : ℕ) → IsWordOf (StandsBetween s t) a → bit_and a b ≡ 0
+pub none_between : (s t : Place) (a b : ℕ) → IsBitboardOf (StandsBetween s t) a → bit_and a b ≡ 0
     → HasNoneBetween b s t
 none_between s t a b line none u on h =
     false_of (has_bit b (index_of u)) (λ bit.
     no_common_square a b none (u, on, (line u on).1 h, bit))
 
-pub no_bits_between : (s t : Place) (a b : ℕ) → a < 2 ^ 64 → IsWordOf (StandsBetween s t) a
+pub no_bits_between : (s t : Place) (a b : ℕ) → a < 2 ^ 64 → IsBitboardOf (StandsBetween s t) a
     → HasNoneBetween b s t → (bit_and a b ≡ 0 → ⊥) → ⊥
 no_bits_between s t a b fits line clear_way some =
     let met = common_square a b fits some in
@@ -43,7 +44,7 @@ no_bits_between s t a b fits line clear_way some =
 
 -- ---- the search
 
--- a square of the word from which the way to the target is not occupied
+-- a square of the bitboard from which the way to the target is not occupied
 abbrev pub IsOpenFrom : Place → ℕ → ℕ → Place → Type 0
 IsOpenFrom t seen occupied s = (has_bit seen (index_of s) ≡ true) × HasNoneBetween occupied s t
 
@@ -65,10 +66,10 @@ pub searched_more : (t : Place) (seen occupied : ℕ) (old new set more : Places
     → IsTakenFirst old new (Some s) → IsTrue test ↔ HasNoneBetween occupied s t
     → ((u : Place) → is_in more u ≡ ((test && same_square s u) || is_in set u))
     → IsSearched t seen occupied new more
-searched_more t seen occupied old new set more s test so_far taken tested put = (
-  sifted_more (IsOpenFrom t seen occupied) old new set more s test so_far.0 taken
-      ((λ e. (so_far.1 s taken.0 taken.1, tested.0 e)), (λ h. tested.1 h.1)) put,
-  (λ u on here. so_far.1 u on (was_left old new s u taken here).0),
+searched_more t seen occupied old new set more s test so_far capture_square tested put = (
+  sifted_more (IsOpenFrom t seen occupied) old new set more s test so_far.0 capture_square
+      ((λ e. (so_far.1 s capture_square.0 capture_square.1, tested.0 e)), (λ h. tested.1 h.1)) put,
+  (λ u on here. so_far.1 u on (was_left old new s u capture_square here).0),
 )
 
 pub searched_none : (t : Place) (seen occupied : ℕ) (old new set : Places)
@@ -79,27 +80,28 @@ searched_none t seen occupied old new set so_far none =
 
 -- ---- what it finds
 
-open_word : (p : Placement) (word : ℕ) (s t : Place) → IsWordOf (λ s. ¬ IsEmpty p s) word
-    → HasNoneBetween word s t ↔ IsUnblocked p s t
-open_word p word s t men = (
+open_bitboard : (p : Placement) (bitboard : ℕ) (s t : Place)
+    → IsBitboardOf (λ s. ¬ IsEmpty p s) bitboard
+    → HasNoneBetween bitboard s t ↔ IsUnblocked p s t
+open_bitboard p bitboard s t men = (
   (λ h u on between. elim (no_man_or (man_at p u)) [
     | inl none ↦ none
     | inr some ↦ absurd (true_not_false _ ((men u on).1 some) (h u on between))
   ]),
   (λ clear_way u on between.
-      false_of (has_bit word (index_of u)) (λ bit. (men u on).0 bit (clear_way u on between))),
+      false_of (has_bit bitboard (index_of u)) (λ bit. (men u on).0 bit (clear_way u on between))),
 )
 
-pub attackers_are : (p : Placement) (man : Man) (t : Place) (own line_word occupied : ℕ)
+pub attackers_are : (p : Placement) (man : Man) (t : Place) (own line_bitboard occupied : ℕ)
     (set : Places)
-    → IsWordOf (λ s. IsPseudoAttack man.side man.kind s t) line_word
-    → HoldsExactly (IsOpenFrom t (bit_and own line_word) occupied) set
-    → IsWordOf (λ s. ¬ IsEmpty p s) occupied
+    → IsBitboardOf (λ s. IsPseudoAttack man.side man.kind s t) line_bitboard
+    → HoldsExactly (IsOpenFrom t (bit_and own line_bitboard) occupied) set
+    → IsBitboardOf (λ s. ¬ IsEmpty p s) occupied
     → HoldsExactly (λ s. (has_bit own (index_of s) ≡ true) × Reaches p man.side man.kind s t) set
-attackers_are p man t own line_word occupied set seen found men s =
+attackers_are p man t own line_bitboard occupied set seen found men s =
     let reach = reaches_is p man.side man.kind s t in
-    let clear_way = open_word p occupied s t men in
-    let bits = bit_of_both own line_word (index_of s) in (
+    let clear_way = open_bitboard p occupied s t men in
+    let bits = bit_of_both own line_bitboard (index_of s) in (
       (λ h.
           let parts = (found s).0 h in
           let both = sym bits ∙ parts.1.0 in (
@@ -118,15 +120,15 @@ attackers_are p man t own line_word occupied set seen found men s =
     )
 
 -- the board's own squares of the man, of those among which he is sought
-pub among_own : (p : Placement) (man : Man) (t : Place) (mine word : ℕ) (among set : Places)
-    → IsWordOf (IsMan p man.side man.kind) mine
-    → ((s : Place) → IsOnBoard s → has_bit word (index_of s) ≡ is_in among s)
-    → HoldsExactly (λ s. (has_bit (bit_and mine word) (index_of s) ≡ true)
+pub among_own : (p : Placement) (man : Man) (t : Place) (mine bitboard : ℕ) (among set : Places)
+    → IsBitboardOf (IsMan p man.side man.kind) mine
+    → ((s : Place) → IsOnBoard s → has_bit bitboard (index_of s) ≡ is_in among s)
+    → HoldsExactly (λ s. (has_bit (bit_and mine bitboard) (index_of s) ≡ true)
     × Reaches p man.side man.kind s t) set
     → HoldsExactly (λ s. (is_in among s ≡ true) × (man_at p s ≡ Some man)
     × Reaches p man.side man.kind s t) set
-among_own p man t mine word among set own given found s =
-    let bits = bit_of_both mine word (index_of s) in (
+among_own p man t mine bitboard among set own given found s =
+    let bits = bit_of_both mine bitboard (index_of s) in (
       (λ h.
           let parts = (found s).0 h in
           let both = sym bits ∙ parts.1.0 in (
@@ -149,8 +151,8 @@ among_own p man t mine word among set own given found s =
 abbrev pub IsSeeingRunner : Placement → Side → Kind → Place → Place → Type 0
 IsSeeingRunner p side kind t s = IsRunner p side kind s × IsPseudoAttack side kind s t
 
-pub runners_seen : (A B : Place → Type 0) (a b : ℕ) → IsWordOf A a → IsWordOf B b
-    → IsWordOf (λ s. A s × B s) (bit_and a b)
+pub runners_seen : (A B : Place → Type 0) (a b : ℕ) → IsBitboardOf A a → IsBitboardOf B b
+    → IsBitboardOf (λ s. A s × B s) (bit_and a b)
 runners_seen A B a b in_a in_b s on =
     let bits = bit_of_both a b (index_of s) in (
       (λ e. let both = and_parts _ _ (sym bits ∙ e) in
@@ -159,15 +161,15 @@ runners_seen A B a b in_a in_b s on =
     )
 
 -- a free way from one of them is an attack
-abbrev pub IsHitAlongLine : Placement → Side → Place → Type 0
-IsHitAlongLine p side t = IsHitStraight p side t ⊎ IsHitDiagonal p side t
+abbrev pub IsAttackedAlongLine : Placement → Side → Place → Type 0
+IsAttackedAlongLine p side t = IsAttackedStraight p side t ⊎ IsAttackedDiagonal p side t
 
-pub hit_along_line : (p : Placement) (side : Side) (t : Place) (seen : ℕ) (r : Bool)
-    → IsWordOf (λ s. IsSeeingRunner p side Rook t s ⊎ IsSeeingRunner p side Bishop t s) seen
+pub attack_along_line : (p : Placement) (side : Side) (t : Place) (seen : ℕ) (r : Bool)
+    → IsBitboardOf (λ s. IsSeeingRunner p side Rook t s ⊎ IsSeeingRunner p side Bishop t s) seen
     → IsTrue r
     ↔ ((s : Place) × IsOnBoard s × (has_bit seen (index_of s) ≡ true) × IsUnblocked p s t)
-    → IsTrue r ↔ IsHitAlongLine p side t
-hit_along_line p side t seen r are some = (
+    → IsTrue r ↔ IsAttackedAlongLine p side t
+attack_along_line p side t seen r are some = (
   (λ e.
       let one = some.0 e in
       elim ((are one.0 one.1).0 one.2) [
@@ -216,12 +218,12 @@ pub seek_start : (t : Place) (squares occupied : ℕ) (left : Places)
 seek_start t squares occupied left all =
     left_start _ _ left (λ s on h. (all s).1 (on, h.0)) (λ s on here. ((all s).0 here).1)
 
--- each square of the word from which the way is free is one from which nothing stands between
+-- each square of the bitboard from which the way is free is one from which nothing stands between
 pub found_open : (p : Placement) (t : Place) (squares occupied : ℕ) (s : Place)
-    → IsWordOf (λ s. ¬ IsEmpty p s) occupied
+    → IsBitboardOf (λ s. ¬ IsEmpty p s) occupied
     → IsOpenFrom t squares occupied s ↔ ((has_bit squares (index_of s) ≡ true) × IsUnblocked p s t)
 found_open p t squares occupied s men =
-    let clear_way = open_word p occupied s t men in
+    let clear_way = open_bitboard p occupied s t men in
     ((λ h. (h.0, clear_way.0 h.1)), (λ h. (h.0, clear_way.1 h.1)))
 
 -- ---- the search where one square alone is seen

@@ -14,12 +14,12 @@ use Rattle.std.proofs.lemmas.Bool.Decides.{nat_tests}
 use Rattle.std.proofs.Math.Bool.{or_comm}
 use Rattle.chess.specs.Public.Squares.{Place, IsOnBoard, index_of}
 use Rattle.chess.specs.Public.Placements.{Placement, no_men, man_at, with_man, IsEmpty}
-use Rattle.chess.specs.Shared.SetWords.{has_bit}
+use Rattle.chess.specs.Shared.SetBitboards.{has_bit}
 use Rattle.chess.specs.Shared.SetFacts.{index_of-below, false_of}
 use Rattle.chess.specs.Shared.CellFacts.{man_at-men_of, men_of-put, men_of-none}
-use Rattle.chess.specs.Private.BitWords.{IsWordOf, AreApart, man_below, man_in, words_men, word_at}
-use Rattle.chess.specs.Private.BitWords.{square_word, row_of, man_of_row, is_row, IsCleared}
-use Rattle.chess.specs.Private.BitWords.{IsBitSet, number_of_side, number_of_kind}
+use Rattle.chess.specs.Private.Bitboards.{IsBitboardOf, AreApart, man_below, man_in, words_men}
+use Rattle.chess.specs.Private.Bitboards.{bitboard_at, square_bitboard, row_of, man_of_row, is_row}
+use Rattle.chess.specs.Private.Bitboards.{IsCleared, IsBitSet, number_of_side, number_of_kind}
 use Rattle.chess.specs.declared.board.man.Man.{Man}
 use Rattle.chess.specs.declared.board.man.Side.{Side}
 use Rattle.chess.specs.declared.board.man.Kind.{Kind}
@@ -77,22 +77,23 @@ row_of-below man = let a = side_below man.side in let b = kind_below man.kind in
 -- ---- the man on a square
 
 pub has_man : (words : List ℕ) (n k i : ℕ) → AreApart words → n ≤ 12 → k < n → i < 64
-    → has_bit (word_at words k) i ≡ true
+    → has_bit (bitboard_at words k) i ≡ true
     → man_below words n i ≡ Some (man_of_row k)
 unfolding man_below
 has_man words zero k i apart within less on bit = absurd (omega arith)
 has_man words (suc n) k i apart within less on bit =
-    elim (has_bit (word_at words n) i) as (λ b. has_bit (word_at words n) i ≡ b
+    elim (has_bit (bitboard_at words n) i) as (λ b. has_bit (bitboard_at words n) i ≡ b
     → (if b then Some (man_of_row n) else man_below words n i) ≡ Some (man_of_row k)) [
       | true ↦ λ e. ap (λ m. Some (man_of_row m)) (apart n k i (omega arith) (omega arith) on e bit)
       | false ↦ λ e. elim (cases_eq k n) [
-        | inl same ↦ absurd (true_not_false _ (ap (λ m. has_bit (word_at words m) i) (sym same)
+        | inl same ↦ absurd (true_not_false _ (ap (λ m. has_bit (bitboard_at words m) i) (sym same)
             ∙ bit) e)
         | inr other ↦ has_man words n k i apart (omega arith) (omega arith) on bit
       ]
     ] refl
 
-pub no_man : (words : List ℕ) (n i : ℕ) → ((k : ℕ) → k < n → has_bit (word_at words k) i ≡ false)
+pub no_man : (words : List ℕ) (n i : ℕ)
+    → ((k : ℕ) → k < n → has_bit (bitboard_at words k) i ≡ false)
     → man_below words n i ≡ None
 unfolding man_below
 no_man words zero i none = refl
@@ -101,13 +102,13 @@ no_man words (suc n) i none =
     ∙ no_man words n i (λ k less. none k (omega arith))
 
 pub found_man : (words : List ℕ) (n i : ℕ) (man : Man) → man_below words n i ≡ Some man
-    → (k : ℕ) × (k < n) × (has_bit (word_at words k) i ≡ true) × (man ≡ man_of_row k)
+    → (k : ℕ) × (k < n) × (has_bit (bitboard_at words k) i ≡ true) × (man ≡ man_of_row k)
 unfolding man_below
 found_man words zero i man e = let f : None ≡ Some man = e in absurd (cc)
 found_man words (suc n) i man e =
-    elim (has_bit (word_at words n) i) as (λ b. has_bit (word_at words n) i ≡ b
+    elim (has_bit (bitboard_at words n) i) as (λ b. has_bit (bitboard_at words n) i ≡ b
     → (if b then Some (man_of_row n) else man_below words n i) ≡ Some man
-    → (k : ℕ) × (k < suc n) × (has_bit (word_at words k) i ≡ true) × (man ≡ man_of_row k)) [
+    → (k : ℕ) × (k < suc n) × (has_bit (bitboard_at words k) i ≡ true) × (man ≡ man_of_row k)) [
       | true ↦ λ bit f. (n, omega arith, bit, cc)
       | false ↦ λ bit f. let h = found_man words n i man f in let less = h.1 in
           (h.0, omega arith, h.2, h.3)
@@ -117,17 +118,17 @@ pub man_at-words : (words : List ℕ) (s : Place) → IsOnBoard s
     → man_at (words_men words) s ≡ man_in words (index_of s)
 man_at-words words s on = man_at-men_of (man_in words) s on
 
--- a man's word has the squares on which he stands
-pub word_of_man : (words : List ℕ) (man : Man) → AreApart words
-    → IsWordOf (λ s. man_at (words_men words) s ≡ Some man) (word_at words (row_of man))
-word_of_man words man apart s on =
+-- a man's bitboard has the squares on which he stands
+pub bitboard_of_man : (words : List ℕ) (man : Man) → AreApart words
+    → IsBitboardOf (λ s. man_at (words_men words) s ≡ Some man) (bitboard_at words (row_of man))
+bitboard_of_man words man apart s on =
     let at = man_at-words words s on in (
       (λ e. at
           ∙ has_man words 12 (row_of man) (index_of s) apart (omega arith) (row_of-below man)
           (index_of-below s on) e ∙ ap Some (man_of_row-row_of man)),
       (λ here.
           let f = found_man words 12 (index_of s) man (sym at ∙ here) in
-          subst (λ r. has_bit (word_at words r) (index_of s)
+          subst (λ r. has_bit (bitboard_at words r) (index_of s)
           ≡ true) (sym (ap row_of f.3 ∙ row_of-man_of_row f.0 f.1)) f.2),
     )
 
@@ -136,7 +137,7 @@ word_of_man words man apart s on =
 -- the bits of the first n words
 abbrev pub IsUnion : List ℕ → ℕ → ℕ → Type 0
 IsUnion words n all = (i : ℕ) → (has_bit all i ≡ true)
-    ↔ ((k : ℕ) × (k < n) × (has_bit (word_at words k) i ≡ true))
+    ↔ ((k : ℕ) × (k < n) × (has_bit (bitboard_at words k) i ≡ true))
 
 pub union_none : (words : List ℕ) → IsUnion words 0 0
 union_none words i = (
@@ -145,15 +146,15 @@ union_none words i = (
 )
 
 pub union_more : (words : List ℕ) (n all : ℕ) → IsUnion words n all
-    → IsUnion words (n + 1) (bit_or all (word_at words n))
+    → IsUnion words (n + 1) (bit_or all (bitboard_at words n))
 union_more words n all so_far i =
-    let bit = bit_of_either all (word_at words n) i in (
+    let bit = bit_of_either all (bitboard_at words n) i in (
       (λ e. elim (or_cases _ _ (sym bit ∙ e)) [
         | inl old ↦ let h = (so_far i).0 old in let less = h.1 in (h.0, omega arith, h.2)
         | inr new ↦ (n, omega arith, new)
       ]),
       (λ h. let less = h.1 in bit ∙ elim (cases_eq h.0 n) [
-        | inl same ↦ or_right _ _ (ap (λ k. has_bit (word_at words k) i) (sym same) ∙ h.2)
+        | inl same ↦ or_right _ _ (ap (λ k. has_bit (bitboard_at words k) i) (sym same) ∙ h.2)
         | inr other ↦ or_left _ _ ((so_far i).1 (h.0, omega arith, h.2))
       ]),
     )
@@ -165,9 +166,9 @@ pub no_man_or : (o : Option Man) → (o ≡ None) ⊎ (o ≡ None → ⊥)
 no_man_or None = inl refl
 no_man_or (Some man) = inr (λ e. cc)
 
-pub word_of_men : (words : List ℕ) (all : ℕ) → AreApart words → IsUnion words 12 all
-    → IsWordOf (λ s. ¬ IsEmpty (words_men words) s) all
-word_of_men words all apart union s on =
+pub bitboard_of_men : (words : List ℕ) (all : ℕ) → AreApart words → IsUnion words 12 all
+    → IsBitboardOf (λ s. ¬ IsEmpty (words_men words) s) all
+bitboard_of_men words all apart union s on =
     let at = man_at-words words s on in
     let i = index_of s in (
       (λ one here.
@@ -183,14 +184,15 @@ word_of_men words all apart union s on =
       ]),
     )
 
-pub bit_of_rest : (word i : ℕ) → word < 2 ^ 64 → i < 64
-    → has_bit (bit_not w64 word) i ≡ not (has_bit word i)
-bit_of_rest word i fits on = ap (λ n. nat_eq n 1) (bit_at_not w64 word i fits on)
-    ∙ not_one (bit_at word i) (bit_at-lt word i)
+pub bit_of_rest : (bitboard i : ℕ) → bitboard < 2 ^ 64 → i < 64
+    → has_bit (bit_not w64 bitboard) i ≡ not (has_bit bitboard i)
+bit_of_rest bitboard i fits on = ap (λ n. nat_eq n 1) (bit_at_not w64 bitboard i fits on)
+    ∙ not_one (bit_at bitboard i) (bit_at-lt bitboard i)
 
-pub word_of_empty : (p : Placement) (all : ℕ) → IsWordOf (λ s. ¬ IsEmpty p s) all → all < 2 ^ 64
-    → IsWordOf (IsEmpty p) (bit_not w64 all)
-word_of_empty p all men fits s on =
+pub bitboard_of_empty : (p : Placement) (all : ℕ) → IsBitboardOf (λ s. ¬ IsEmpty p s) all
+    → all < 2 ^ 64
+    → IsBitboardOf (IsEmpty p) (bit_not w64 all)
+bitboard_of_empty p all men fits s on =
     let i = index_of s in
     let bit : has_bit (bit_not w64 all) i ≡ not (has_bit all i) =
     bit_of_rest all i fits (index_of-below s on) in (
@@ -201,17 +203,18 @@ word_of_empty p all men fits s on =
       (λ here. bit ∙ ap not (false_of (has_bit all i) (λ one. (men s on).0 one here))),
     )
 
-pub empty_by_word : (p : Placement) (all word : ℕ) (s : Place) → IsOnBoard s → word ≡ square_word s
-    → IsWordOf (λ s. ¬ IsEmpty p s) all
-    → (nat_eq (bit_and all word) 0 ≡ true) ↔ IsEmpty p s
-empty_by_word p all word s on is men = (
+pub empty_by_bitboard : (p : Placement) (all bitboard : ℕ) (s : Place) → IsOnBoard s
+    → bitboard ≡ square_bitboard s
+    → IsBitboardOf (λ s. ¬ IsEmpty p s) all
+    → (nat_eq (bit_and all bitboard) 0 ≡ true) ↔ IsEmpty p s
+empty_by_bitboard p all bitboard s on is men = (
   (λ e. elim (no_man_or (man_at p s)) [
     | inl none ↦ none
-    | inr some ↦ absurd (common_some all word s is ((men s on).1 some) (eqb-true _ 0 e))
+    | inr some ↦ absurd (common_some all bitboard s is ((men s on).1 some) (eqb-true _ 0 e))
   ]),
   (λ here.
       eq-eqb _ 0
-      (common_none all word s is
+      (common_none all bitboard s is
       (false_of (has_bit all (index_of s)) (λ one. (men s on).0 one here)))),
 )
 
@@ -220,21 +223,21 @@ empty_by_word p all word s on is men = (
 -- the square has the man's bit alone, and all other squares have theirs as before
 abbrev pub IsPut : List ℕ → List ℕ → ℕ → Option Man → Type 0
 IsPut old new at man =
-    (k i : ℕ) → k < 12 → i < 64 → has_bit (word_at new k) i
-    ≡ (if nat_eq i at then is_row man k else has_bit (word_at old k) i)
+    (k i : ℕ) → k < 12 → i < 64 → has_bit (bitboard_at new k) i
+    ≡ (if nat_eq i at then is_row man k else has_bit (bitboard_at old k) i)
 
 put_here : (old new : List ℕ) (at : ℕ) (man : Option Man) → IsPut old new at man → (k i : ℕ)
-    → k < 12 → i < 64 → i ≡ at → has_bit (word_at new k) i ≡ is_row man k
+    → k < 12 → i < 64 → i ≡ at → has_bit (bitboard_at new k) i ≡ is_row man k
 put_here old new at man put k i within on e =
     put k i within on
-    ∙ ap (λ b. if b then is_row man k else has_bit (word_at old k) i) (eq-eqb i at e)
+    ∙ ap (λ b. if b then is_row man k else has_bit (bitboard_at old k) i) (eq-eqb i at e)
 
 put_there : (old new : List ℕ) (at : ℕ) (man : Option Man) → IsPut old new at man → (k i : ℕ)
     → k < 12 → i < 64 → (i ≡ at → ⊥)
-    → has_bit (word_at new k) i ≡ has_bit (word_at old k) i
+    → has_bit (bitboard_at new k) i ≡ has_bit (bitboard_at old k) i
 put_there old new at man put k i within on e =
     put k i within on
-    ∙ ap (λ b. if b then is_row man k else has_bit (word_at old k) i) (ne_eqb i at e)
+    ∙ ap (λ b. if b then is_row man k else has_bit (bitboard_at old k) i) (ne_eqb i at e)
 
 one_row : (man : Option Man) (j k : ℕ) → is_row man j ≡ true → is_row man k ≡ true → j ≡ k
 one_row None j k a b = let f : false ≡ true = a in absurd (cc)
@@ -261,13 +264,13 @@ man_here old new at (Some man) on apart put =
     ∙ ap Some (man_of_row-row_of man)
 
 man_there : (old new : List ℕ) (n i : ℕ)
-    → ((k : ℕ) → k < n → has_bit (word_at new k) i ≡ has_bit (word_at old k) i)
+    → ((k : ℕ) → k < n → has_bit (bitboard_at new k) i ≡ has_bit (bitboard_at old k) i)
     → man_below new n i ≡ man_below old n i
 unfolding man_below
 man_there old new zero i same = refl
 man_there old new (suc n) i same =
     ap (λ b. if b then Some (man_of_row n) else man_below new n i) (same n (omega arith))
-    ∙ ap (λ (m : Option Man). if has_bit (word_at old n) i then Some (man_of_row n)
+    ∙ ap (λ (m : Option Man). if has_bit (bitboard_at old n) i then Some (man_of_row n)
     else m) (man_there old new n i (λ k less. same k (omega arith)))
 
 pub put_men : (old new : List ℕ) (s : Place) (man : Option Man) → IsOnBoard s → AreApart old
@@ -307,70 +310,71 @@ set_put false false false = refl
 
 pub put_none : (old new : List ℕ) (at : ℕ) → IsCleared old new (2 ^ at) → IsPut old new at None
 put_none old new at cleared k i less on =
-    cleared k i less on ∙ ap (λ b. has_bit (word_at old k) i && not b) (square_bit at i)
-    ∙ cleared_put (has_bit (word_at old k) i) (nat_eq i at)
+    cleared k i less on ∙ ap (λ b. has_bit (bitboard_at old k) i && not b) (square_bit at i)
+    ∙ cleared_put (has_bit (bitboard_at old k) i) (nat_eq i at)
 
 pub put_some : (old mid new : List ℕ) (at : ℕ) (man : Man) → IsCleared old mid (2 ^ at)
     → IsBitSet mid new (row_of man) at → IsPut old new at (Some man)
 put_some old mid new at man cleared set k i less on =
     set k i less on ∙ ap (λ b. (nat_eq k (row_of man) && nat_eq i at) || b) (cleared k i less on)
     ∙ ap (λ b. (nat_eq k (row_of man) && nat_eq i at)
-    || (has_bit (word_at old k) i && not b)) (square_bit at i)
-    ∙ set_put (has_bit (word_at old k) i) (nat_eq i at) (nat_eq k (row_of man))
+    || (has_bit (bitboard_at old k) i && not b)) (square_bit at i)
+    ∙ set_put (has_bit (bitboard_at old k) i) (nat_eq i at) (nat_eq k (row_of man))
 
 -- the first n words are cleared
 pub record IsClearedTo (old new : List ℕ) (n squares : ℕ) : Type 0 where
   pub size : length new ≡ 12
   pub before : (k i : ℕ) → k < n → i < 64
-      → has_bit (word_at new k) i ≡ (has_bit (word_at old k) i && not (has_bit squares i))
-  pub after : (k : ℕ) → n ≤ k → word_at new k ≡ word_at old k
+      → has_bit (bitboard_at new k) i ≡ (has_bit (bitboard_at old k) i && not (has_bit squares i))
+  pub after : (k : ℕ) → n ≤ k → bitboard_at new k ≡ bitboard_at old k
 
-pub cleared_bit : (word squares i : ℕ) → squares < 2 ^ 64 → i < 64
-    → has_bit (bit_and word (bit_not w64 squares)) i ≡ (has_bit word i && not (has_bit squares i))
-cleared_bit word squares i fits on = bit_of_both word (bit_not w64 squares) i
-    ∙ ap (λ b. has_bit word i && b) (bit_of_rest squares i fits on)
+pub cleared_bit : (bitboard squares i : ℕ) → squares < 2 ^ 64 → i < 64
+    → has_bit (bit_and bitboard (bit_not w64 squares)) i
+    ≡ (has_bit bitboard i && not (has_bit squares i))
+cleared_bit bitboard squares i fits on = bit_of_both bitboard (bit_not w64 squares) i
+    ∙ ap (λ b. has_bit bitboard i && b) (bit_of_rest squares i fits on)
 
 pub cleared_more : (old new : List ℕ) (n squares : ℕ) → squares < 2 ^ 64 → n < 12
     → IsClearedTo old new n squares
-    → IsClearedTo old (slice_set new n (bit_and (word_at new n) (bit_not w64 squares))) (n
+    → IsClearedTo old (slice_set new n (bit_and (bitboard_at new n) (bit_not w64 squares))) (n
     + 1) squares
 cleared_more old new n squares fits on so_far =
     let size = so_far.size in
-    let word = bit_and (word_at new n) (bit_not w64 squares) in record {
-      size = length-set new n word ∙ size;
-      before = λ k i less in_word. elim (cases_eq k n) [
+    let bitboard = bit_and (bitboard_at new n) (bit_not w64 squares) in record {
+      size = length-set new n bitboard ∙ size;
+      before = λ k i less in_bitboard. elim (cases_eq k n) [
         | inl same ↦
-            ap (λ j. has_bit (word_at (slice_set new n word) j) i) same
-            ∙ ap (λ w. has_bit w i) (get_or-set_same new n word 0 (omega arith))
-            ∙ cleared_bit (word_at new n) squares i fits in_word
+            ap (λ j. has_bit (bitboard_at (slice_set new n bitboard) j) i) same
+            ∙ ap (λ w. has_bit w i) (get_or-set_same new n bitboard 0 (omega arith))
+            ∙ cleared_bit (bitboard_at new n) squares i fits in_bitboard
             ∙ ap (λ w. has_bit w i && not (has_bit squares i)) (so_far.after n (omega arith))
-            ∙ ap (λ j. has_bit (word_at old j) i && not (has_bit squares i)) (sym same)
-        | inr other ↦ ap (λ w. has_bit w i) (get_or-set_other new n k word 0 other)
-            ∙ so_far.before k i (omega arith) in_word
+            ∙ ap (λ j. has_bit (bitboard_at old j) i && not (has_bit squares i)) (sym same)
+        | inr other ↦ ap (λ w. has_bit w i) (get_or-set_other new n k bitboard 0 other)
+            ∙ so_far.before k i (omega arith) in_bitboard
       ];
-      after = λ k more. get_or-set_other new n k word 0 (λ e. omega arith)
+      after = λ k more. get_or-set_other new n k bitboard 0 (λ e. omega arith)
           ∙ so_far.after k (omega arith);
     }
 
 pub set_one : (old : List ℕ) (row at : ℕ) → length old ≡ 12 → row < 12
-    → IsBitSet old (slice_set old row (bit_or (word_at old row) (2 ^ at))) row at
+    → IsBitSet old (slice_set old row (bit_or (bitboard_at old row) (2 ^ at))) row at
 set_one old row at size in_row k i less on =
-    let word = bit_or (word_at old row) (2 ^ at) in elim (cases_eq k row) [
+    let bitboard = bit_or (bitboard_at old row) (2 ^ at) in elim (cases_eq k row) [
       | inl same ↦
-          ap (λ j. has_bit (word_at (slice_set old row word) j) i) same
-          ∙ ap (λ w. has_bit w i) (get_or-set_same old row word 0 (omega arith))
-          ∙ bit_of_either (word_at old row) (2 ^ at) i
-          ∙ or_comm (has_bit (word_at old row) i) (has_bit (2 ^ at) i)
-          ∙ ap (λ b. b || has_bit (word_at old row) i) (square_bit at i)
-          ∙ ap (λ j. nat_eq i at || has_bit (word_at old j) i) (sym same)
-          ∙ sym (ap (λ b. (b && nat_eq i at) || has_bit (word_at old k) i) (eq-eqb k row same))
+          ap (λ j. has_bit (bitboard_at (slice_set old row bitboard) j) i) same
+          ∙ ap (λ w. has_bit w i) (get_or-set_same old row bitboard 0 (omega arith))
+          ∙ bit_of_either (bitboard_at old row) (2 ^ at) i
+          ∙ or_comm (has_bit (bitboard_at old row) i) (has_bit (2 ^ at) i)
+          ∙ ap (λ b. b || has_bit (bitboard_at old row) i) (square_bit at i)
+          ∙ ap (λ j. nat_eq i at || has_bit (bitboard_at old j) i) (sym same)
+          ∙ sym (ap (λ b. (b && nat_eq i at) || has_bit (bitboard_at old k) i) (eq-eqb k row same))
       | inr other ↦
-          ap (λ w. has_bit w i) (get_or-set_other old row k word 0 other)
-          ∙ sym (ap (λ b. (b && nat_eq i at) || has_bit (word_at old k) i) (ne_eqb k row other))
+          ap (λ w. has_bit w i) (get_or-set_other old row k bitboard 0 other)
+          ∙ sym (ap (λ b. (b && nat_eq i at) || has_bit (bitboard_at old k) i) (ne_eqb k row other))
     ]
 
 -- no words hold no men
-no_words : (k i : ℕ) → k < 12 → has_bit (word_at (replicate 12 0) k) i ≡ false
+no_words : (k i : ℕ) → k < 12 → has_bit (bitboard_at (replicate 12 0) k) i ≡ false
 no_words k i less = ap (λ w. has_bit w i) (get_or-replicate 12 k 0 0 less) ∙ no_bit i
 
 pub no_words_apart : AreApart (replicate 12 0)

@@ -8,7 +8,7 @@ use Rattle.chess.specs.Public.Squares.{Place, IsOnBoard, IsStraight, IsAhead, ga
 use Rattle.chess.specs.Public.Squares.{index_of, same_square, place_cmp}
 use Rattle.chess.specs.Public.Placements.{Placement, no_men, man_at, with_man, opposite}
 use Rattle.chess.specs.Public.Placements.{IsOccupiedBy, IsEmpty}
-use Rattle.chess.specs.Public.Attacks.{Reaches, IsOnRay, IsForward, IsNear, IsJump, IsPawnHit}
+use Rattle.chess.specs.Public.Attacks.{Reaches, IsOnRay, IsForward, IsNear, IsJump, IsPawnAttack}
 use Rattle.chess.specs.Public.Attacks.{IsAttackedFrom, IsAttacked}
 use Rattle.chess.specs.Public.Positions.{State, king_of, pawn_of, home_rank, pawn_rank, passed_rank}
 use Rattle.chess.specs.Public.Positions.{has_right, king_from, king_to, rook_from, rook_to}
@@ -16,7 +16,7 @@ use Rattle.chess.specs.Public.Positions.{FitsEnPassant, IsSound}
 use Rattle.chess.specs.Public.Moves.{IsPromotion, Promotes, IsBetween, one_more}
 use Rattle.chess.specs.Public.Moves.{fullmove_number_after, keeps_right}
 use Rattle.chess.specs.Public.Sets.{Places, no_places, is_in, HoldsExactly}
-use Rattle.chess.specs.Shared.SetWords.{IsTakenFirst}
+use Rattle.chess.specs.Shared.SetBitboards.{IsTakenFirst}
 use Rattle.chess.specs.declared.board.man.Man.{Man}
 use Rattle.chess.specs.declared.board.man.Side.TheVariants.{White, Black}
 use Rattle.chess.specs.declared.board.man.Kind.TheVariants.{Queen, Rook, Bishop, Knight}
@@ -165,13 +165,13 @@ knight_jumps = (inl (refl, refl), inr (refl, refl))
 forward : IsForward White 2 3 × IsForward Black 7 6
 forward = (refl, refl)
 
-pawn_not_ahead : IsPawnHit White (at 4 4) (at 4 5) → ⊥
+pawn_not_ahead : IsPawnAttack White (at 4 4) (at 4 5) → ⊥
 pawn_not_ahead h = let e : 0 ≡ 1 = h.0 in omega arith
 
-pawn_not_at_rear : IsPawnHit White (at 4 4) (at 5 3) → ⊥
+pawn_not_at_rear : IsPawnAttack White (at 4 4) (at 5 3) → ⊥
 pawn_not_at_rear h = let e : 3 ≡ 5 = h.1 in omega arith
 
-pawn_not_beside : IsPawnHit Black (at 4 4) (at 5 4) → ⊥
+pawn_not_beside : IsPawnAttack Black (at 4 4) (at 5 4) → ⊥
 pawn_not_beside h = let e : 4 ≡ 5 = h.1 in omega arith
 
 -- on the empty board a rook on a1 attacks a8, a bishop h8, and a queen both
@@ -386,4 +386,4 @@ nothing_taken : IsTakenFirst no_places no_places None
 nothing_taken = (refl, refl)
 
 left_as_it_was : (old new : Places) → IsTakenFirst old new None → new ≡ old
-left_as_it_was old new taken = taken.1
+left_as_it_was old new capture_square = capture_square.1

@@ -13,7 +13,7 @@ use Rattle.chess.specs.Public.San.{Said, HasRival, kind_said}
 use Rattle.chess.specs.Private.SanWords.{IsMoveSaid, IsAsked, ChangesFile, IsCandidate, CanGoSaid}
 use Rattle.chess.specs.Private.SanWords.{man_said, move_from}
 use Rattle.chess.specs.Public.Sets.{Places, is_in, no_places, HoldsExactly, IsAttacker}
-use Rattle.chess.specs.Shared.SetWords.{IsTakenFirst}
+use Rattle.chess.specs.Shared.SetBitboards.{IsTakenFirst}
 use Rattle.chess.specs.declared.board.man.Kind.{Kind}
 use Rattle.chess.specs.declared.board.man.Kind.TheVariants.{King, Queen, Rook, Bishop, Knight, Pawn}
 use Rattle.chess.specs.declared.moves.Move.{Move}
@@ -39,14 +39,14 @@ one_said : (P : State) (said : Said) (old new : Places) (from : Place)
     → HoldsExactly (IsCandidate P said) old → IsTakenFirst old new (Some from)
     → ((s : Place) × IsOnBoard s × (is_in new s ≡ true) → ⊥) → (m : Move) → IsMoveSaid P said m
     → m.from ≡ from
-one_said P said old new from candidates taken alone m named =
+one_said P said old new from candidates capture_square alone m named =
     let on = said_on P said m named in elim (cases_place m.from from) [
       | inl same ↦ same
       | inr other ↦ absurd
           (alone (
             m.from,
             on,
-            still_left old new from m.from taken
+            still_left old new from m.from capture_square
                 ((candidates m.from).1 (on, said_candidate P said m named)) other,
           ))
     ]
@@ -55,8 +55,9 @@ pub not_said : (P : State) (said : Said) (old new : Places) (from : Place)
     → HoldsExactly (IsCandidate P said) old → IsTakenFirst old new (Some from)
     → ((s : Place) × IsOnBoard s × (is_in new s ≡ true) → ⊥) → (CanGoSaid P said from → ⊥)
     → (m : Move) → IsMoveSaid P said m → ⊥
-not_said P said old new from candidates taken alone fails m named =
-    fails (subst (CanGoSaid P said) (one_said P said old new from candidates taken alone m named)
+not_said P said old new from candidates capture_square alone fails m named =
+    fails (subst (CanGoSaid P said)
+    (one_said P said old new from candidates capture_square alone m named)
     (said_legal P said m named))
 
 pub the_said : (P : State) (said : Said) (old new : Places) (from : Place)
@@ -64,10 +65,10 @@ pub the_said : (P : State) (said : Said) (old new : Places) (from : Place)
     → ((s : Place) × IsOnBoard s × (is_in new s ≡ true) → ⊥) → CanGoSaid P said from
     → IsMoveSaid P said (move_from said from)
     × ((n : Move) → IsMoveSaid P said n → n ≡ move_from said from)
-the_said P said old new from candidates taken alone legal = (
-  candidate_said P said from ((candidates from).0 taken.1).1 legal,
+the_said P said old new from candidates capture_square alone legal = (
+  candidate_said P said from ((candidates from).0 capture_square.1).1 legal,
   (λ n named. sym (said_move P said n named.1)
-      ∙ ap (move_from said) (one_said P said old new from candidates taken alone n named)),
+      ∙ ap (move_from said) (one_said P said old new from candidates capture_square alone n named)),
 )
 
 -- ---- pieces
@@ -101,12 +102,12 @@ piece_goes P m Pawn piece plain goes = absurd (piece refl)
 goes_piece : (P : State) (said : Said) (s : Place) (other : Kind) → (other ≡ Pawn → ⊥)
     → said.promote ≡ None
     → Reaches P.men P.turn other s said.target → Goes P (move_from said s) other
-goes_piece P said s King piece plain hits = (plain, hits)
-goes_piece P said s Queen piece plain hits = (refl, plain, hits)
-goes_piece P said s Rook piece plain hits = (refl, plain, hits)
-goes_piece P said s Bishop piece plain hits = (refl, plain, hits)
-goes_piece P said s Knight piece plain hits = (refl, plain, hits)
-goes_piece P said s Pawn piece plain hits = absurd (piece refl)
+goes_piece P said s King piece plain attacks = (plain, attacks)
+goes_piece P said s Queen piece plain attacks = (refl, plain, attacks)
+goes_piece P said s Rook piece plain attacks = (refl, plain, attacks)
+goes_piece P said s Bishop piece plain attacks = (refl, plain, attacks)
+goes_piece P said s Knight piece plain attacks = (refl, plain, attacks)
+goes_piece P said s Pawn piece plain attacks = absurd (piece refl)
 
 pub candidate_pieces : (P : State) (said : Said) (among set : Places)
     → (kind_said said.letter ≡ Pawn → ⊥) → IsOnBoard said.target → said.promote ≡ None
@@ -305,10 +306,10 @@ pub no_rival : (P : State) (said : Said) (old new : Places) (from : Place) → I
     → HoldsExactly (IsCandidate P said) old → IsTakenFirst old new (Some from)
     → ((s : Place) × IsOnBoard s × (is_in new s ≡ true) → ⊥)
     → ¬ HasRival P (move_from said from) (λ s. Unit {0})
-no_rival P said old new from sound piece asked candidates taken alone has =
+no_rival P said old new from sound piece asked candidates capture_square alone has =
     let s = has.0 in
     let rival = has.1 in
-    let own = ((candidates from).0 taken.1).1 in
+    let own = ((candidates from).0 capture_square.1).1 in
     let on = rival_on P (move_from said from) s rival in
     let here : man_at P.men s ≡ Some (man_said P said) = rival.alike ∙ own.here in
     let goes =
@@ -329,4 +330,8 @@ no_rival P said old new from sound piece asked candidates taken alone has =
             (rival_reaches P (move_from said from) (man_said P said) s sound own.here piece rival);
       };
     } in
-    alone (s, on, still_left old new from s taken ((candidates s).1 (on, other)) rival.other)
+    alone (
+      s,
+      on,
+      still_left old new from s capture_square ((candidates s).1 (on, other)) rival.other,
+    )

@@ -6,27 +6,27 @@ use Rattle.std.specs.List.{list_all}
 use Rattle.std.proofs.lemmas.List.{append_assoc, append-nil, reverse-append, reverse-reverse}
 use Rattle.std.proofs.lemmas.Bool.{and_parts, and_from}
 use Rattle.std.proofs.lemmas.Option.{same_Some}
-use Rattle.chess.specs.Public.Letters.{is_check_mark}
+use Rattle.chess.specs.Public.Letters.{is_check_sign}
 use Rattle.chess.specs.Public.San.{castling_text, castling_with_zeros, IsCastlingText}
 use Rattle.chess.specs.Private.SanWords.{unmarked, IsCastlingStem}
 use Rattle.chess.specs.declared.board.man.Wing.{Wing}
 use Rattle.chess.specs.declared.board.man.Wing.TheVariants.{KingSide, QueenSide}
 
-all_and_one : (m : List ℕ) (b : ℕ) → list_all is_check_mark m ≡ true → is_check_mark b ≡ true
-    → list_all is_check_mark (m ++ b ∷ []) ≡ true
-all_and_one [] b all mark = and_from (is_check_mark b) true mark refl
+all_and_one : (m : List ℕ) (b : ℕ) → list_all is_check_sign m ≡ true → is_check_sign b ≡ true
+    → list_all is_check_sign (m ++ b ∷ []) ≡ true
+all_and_one [] b all mark = and_from (is_check_sign b) true mark refl
 all_and_one (a ∷ m) b all mark =
-    and_from (is_check_mark a) (list_all is_check_mark (m ++ b ∷ []))
-    (and_parts (is_check_mark a) (list_all is_check_mark m) all).0
-    (all_and_one m b (and_parts (is_check_mark a) (list_all is_check_mark m) all).1 mark)
+    and_from (is_check_sign a) (list_all is_check_sign (m ++ b ∷ []))
+    (and_parts (is_check_sign a) (list_all is_check_sign m) all).0
+    (all_and_one m b (and_parts (is_check_sign a) (list_all is_check_sign m) all).1 mark)
 
 -- a text is what is left without its marks, and marks
-pub marks_of : (y : List ℕ) → (m : List ℕ) × (list_all is_check_mark m ≡ true)
+pub marks_of : (y : List ℕ) → (m : List ℕ) × (list_all is_check_sign m ≡ true)
     × (reverse y ≡ reverse (unmarked y) ++ m)
 marks_of [] = ([], refl, refl)
 marks_of (b ∷ y) =
-    elim (is_check_mark b) as (λ t. is_check_mark b ≡ t
-    → (m : List ℕ) × (list_all is_check_mark m ≡ true)
+    elim (is_check_sign b) as (λ t. is_check_sign b ≡ t
+    → (m : List ℕ) × (list_all is_check_sign m ≡ true)
     × (reverse (b ∷ y) ≡ reverse (if t then unmarked y else b ∷ y) ++ m)) [
       | true ↦ λ mark. let before = marks_of y in (
         before.0 ++ b ∷ [],
@@ -38,15 +38,15 @@ marks_of (b ∷ y) =
     ] refl
 
 -- marks at the end change nothing
-pub marks_off : (m s : List ℕ) → list_all is_check_mark m ≡ true
+pub marks_off : (m s : List ℕ) → list_all is_check_sign m ≡ true
     → unmarked (reverse (s ++ m)) ≡ unmarked (reverse s)
 marks_off [] s all = ap (λ x. unmarked (reverse x)) (append-nil s)
 marks_off (b ∷ m) s all =
     ap (λ x. unmarked (reverse x)) (sym (append_assoc s (b ∷ []) m))
-    ∙ marks_off m (s ++ b ∷ []) (and_parts (is_check_mark b) (list_all is_check_mark m) all).1
+    ∙ marks_off m (s ++ b ∷ []) (and_parts (is_check_sign b) (list_all is_check_sign m) all).1
     ∙ ap unmarked (reverse-append s (b ∷ []))
     ∙ ap (λ t. if t then unmarked (reverse s)
-    else b ∷ reverse s) (and_parts (is_check_mark b) (list_all is_check_mark m) all).0
+    else b ∷ reverse s) (and_parts (is_check_sign b) (list_all is_check_sign m) all).0
 
 -- the stem of a text
 abbrev pub IsStem : List ℕ → List ℕ → Type 0

@@ -4,7 +4,7 @@ use Rattle.chess.specs.Public.Squares.{Place}
 use Rattle.chess.specs.Public.Placements.{Placement, with_man, opposite}
 use Rattle.chess.specs.Public.Attacks.{IsAttacked}
 use Rattle.chess.specs.Public.Positions.{State, IsOnlyKing, IsCheck}
-use Rattle.chess.specs.Public.Moves.{arriving, taken, with_rook, men_after}
+use Rattle.chess.specs.Public.Moves.{arriving, capture_square, with_rook, men_after}
 use Rattle.chess.specs.declared.board.man.Man.{Man}
 use Rattle.chess.specs.declared.moves.Move.{Move}
 use Rattle.chess.proofs.GoesFacts.{IsTried, has_arrived}
@@ -12,17 +12,17 @@ use Rattle.chess.proofs.GoesFacts.{IsTried, has_arrived}
 -- the men after a move that is no castling
 pub men_plainly : (P : State) (m : Move) (man : Man) (t : Place) (board : Placement)
     → m.castle ≡ None → board ≡ P.men
-    → Some man ≡ arriving P m.promote m.from → t ≡ taken P m
+    → Some man ≡ arriving P m.promote m.from → t ≡ capture_square P m
     → with_man (with_man (with_man board t None) m.from None) m.to (Some man) ≡ men_after P m
 men_plainly P m man t board plain same arrives taken_there =
     (λ i. with_man (with_man (with_man (same i) (taken_there i) None) m.from None) m.to (arrives i))
     ∙ (λ i. with_rook P.turn (sym plain i)
-    (with_man (with_man (with_man P.men (taken P m) None) m.from None) m.to
+    (with_man (with_man (with_man P.men (capture_square P m) None) m.from None) m.to
     (arriving P m.promote m.from)))
 
 pub check_after : (P : State) (m : Move) (x : IsTried P m) (man : Man) (t king : Place)
     (board : Placement) (r : Bool) → m.castle ≡ None → board ≡ P.men
-    → Some man ≡ arriving P m.promote m.from → t ≡ taken P m
+    → Some man ≡ arriving P m.promote m.from → t ≡ capture_square P m
     → IsOnlyKing (men_after P m) P.turn king
     → IsTrue r
     ↔ IsAttacked (with_man (with_man (with_man board t None) m.from None) m.to (Some man))

@@ -6,8 +6,8 @@ use Rattle.chess.specs.Public.Placements.{Placement, man_at}
 use Rattle.chess.specs.Public.Attacks.{Reaches, IsOnRay}
 use Rattle.chess.specs.Public.Positions.{State, king_from, king_to, rook_from, rook_to, IsCheck}
 use Rattle.chess.specs.Public.Moves.{HasMove, IsStalemate}
-use Rattle.chess.specs.Public.San.{Spells, IsCheckMark}
-use Rattle.chess.specs.Public.San.IsCheckMark.{mate, check, quiet}
+use Rattle.chess.specs.Public.San.{Spells, IsCheckSign}
+use Rattle.chess.specs.Public.San.IsCheckSign.{mate, check, quiet}
 use Rattle.chess.specs.Public.Fen.{fields_of, parted_at, is_shortest, number_from}
 use Rattle.chess.specs.declared.board.man.Man.{Man}
 use Rattle.chess.specs.declared.board.man.Side.TheVariants.{White, Black}
@@ -168,13 +168,13 @@ a_count = refl
 
 -- mate is a check without a move, stalemate is neither a check nor a mate; the mark of mate is #,
 -- of another check +, and stalemate has none
-mate_marked : (P : State) → IsCheck P.men P.turn → ¬ HasMove P → IsCheckMark P (codes "#")
+mate_marked : (P : State) → IsCheck P.men P.turn → ¬ HasMove P → IsCheckSign P (codes "#")
 mate_marked P in_check none = mate (in_check, none)
 
-check_marked : (P : State) → IsCheck P.men P.turn → HasMove P → IsCheckMark P (codes "+")
+check_marked : (P : State) → IsCheck P.men P.turn → HasMove P → IsCheckSign P (codes "+")
 check_marked P in_check some = check in_check (λ mated. mated.1 some)
 
-stalemate_unmarked : (P : State) → IsStalemate P → IsCheckMark P []
+stalemate_unmarked : (P : State) → IsStalemate P → IsCheckSign P []
 stalemate_unmarked P stale = quiet stale.0
 
 stalemate_has_no_move : (P : State) → IsStalemate P → HasMove P → ⊥

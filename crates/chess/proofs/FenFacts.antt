@@ -10,7 +10,7 @@ use Rattle.chess.specs.Shared.Codes.{IsKept}
 use Rattle.chess.specs.Public.Fen.{SpellsPosition, HasWrongKings, HasWrongPawns, HasWrongCheck}
 use Rattle.chess.specs.Private.FenWords.{IsEdgePawn}
 use Rattle.chess.specs.Public.Sets.{Places, is_in, IsSquaresOf}
-use Rattle.chess.specs.Shared.SetWords.{IsTakenFirst}
+use Rattle.chess.specs.Shared.SetBitboards.{IsTakenFirst}
 use Rattle.chess.specs.declared.board.man.Side.{Side}
 use Rattle.chess.specs.declared.board.man.Side.TheVariants.{White, Black}
 use Rattle.chess.proofs.PlaceFacts.{cases_place, opposite-opposite, true_not_false}
@@ -101,9 +101,9 @@ spelled_kept x P white black spelled kings pawns quiet = record {
 pub no_king : (p : Placement) (side : Side) (kings rest : Places) (o : Option Place) → AreOnBoard p
     → IsSquaresOf p (king_of side) kings
     → IsTakenFirst kings rest o → o ≡ None → (s : Place) → IsOnlyKing p side s → ⊥
-no_king p side kings rest o men are taken none s king =
+no_king p side kings rest o men are capture_square none s king =
     true_not_false (is_in kings s) ((are s).1 (men s (king_of side) king.here, king.here))
-    (not_in kings s (taken_none kings rest o taken none))
+    (not_in kings s (taken_none kings rest o capture_square none))
 
 none_found : (o : Option Place) (b : Bool) → b ≡ is_some o → b ≡ false → o ≡ None
 none_found None b e f = refl
@@ -114,13 +114,14 @@ pub one_king : (p : Placement) (side : Side) (kings rest more : Places) (t : Pla
     → IsSquaresOf p (king_of side) kings → IsTakenFirst kings rest (Some t)
     → IsTakenFirst rest more o → b ≡ is_some o → b ≡ false
     → IsOnlyKing p side t
-one_king p side kings rest more t o b men are taken next asked none = record {
-  here = ((are t).0 taken.1).1;
+one_king p side kings rest more t o b men are capture_square next asked none = record {
+  here = ((are t).0 capture_square.1).1;
   only = λ s here. elim (cases_place s t) [
     | inl same ↦ same
     | inr other ↦
         let left =
-        still_left kings rest t s taken ((are s).1 (men s (king_of side) here, here)) other in
+        still_left kings rest t s capture_square
+        ((are s).1 (men s (king_of side) here, here)) other in
         absurd (true_not_false (is_in rest s) left
         (not_in rest s (taken_none rest more o next (none_found o b asked none))))
   ];

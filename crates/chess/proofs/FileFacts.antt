@@ -5,7 +5,7 @@ use Rattle.std.proofs.lemmas.Bool.{agree_below, agree_below_at, and_parts, and_f
 use Rattle.std.proofs.lemmas.Bool.{eq-eqb}
 use Rattle.chess.specs.Public.Squares.{Place, IsOnBoard, index_of}
 use Rattle.chess.specs.Public.Sets.{Places, is_in, HoldsExactly}
-use Rattle.chess.specs.Shared.SetWords.{has_bit}
+use Rattle.chess.specs.Shared.SetBitboards.{has_bit}
 use Rattle.chess.specs.Shared.SetFacts.{index_of-below}
 use Rattle.chess.proofs.PlaceFacts.{true_not_false}
 use Rattle.chess.proofs.FillFacts.{bit_of_both, no_bit}
@@ -29,14 +29,15 @@ all_squares set found s = (
 
 -- ---- the squares of a file or a rank, as the two are counted by place
 
-line_squares : (line : Place → ℕ) (part word : ℕ → ℕ)
-    → agree_below (λ n. agree_below (has_bit (word n)) (λ i. nat_eq (part i) n) 64) (λ _. true) 8
+line_squares : (line : Place → ℕ) (part bitboard : ℕ → ℕ)
+    → agree_below (λ n.
+    agree_below (has_bit (bitboard n)) (λ i. nat_eq (part i) n) 64) (λ _. true) 8
     ≡ true
     → ((s : Place) → IsOnBoard s → (1 ≤ line s) × (part (index_of s) ≡ line s - 1))
     → (n : ℕ) (set : Places) → 1 ≤ n → n ≤ 8
-    → HoldsExactly (λ s. has_bit (word (n - 1)) (index_of s) ≡ true) set
+    → HoldsExactly (λ s. has_bit (bitboard (n - 1)) (index_of s) ≡ true) set
     → HoldsExactly (λ s. line s ≡ n) set
-line_squares line part word fits at n set low high found s = (
+line_squares line part bitboard fits at n set low high found s = (
   (λ h.
       let on = ((found s).0 h).0 in
       let same = eqb-true (part (index_of s)) (n - 1) (sym (bit on) ∙ ((found s).0 h).1) in
@@ -48,12 +49,12 @@ line_squares line part word fits at n set low high found s = (
   )),
 )
   where
-    bit : IsOnBoard s → has_bit (word (n - 1)) (index_of s) ≡ nat_eq (part (index_of s)) (n - 1)
+    bit : IsOnBoard s → has_bit (bitboard (n - 1)) (index_of s) ≡ nat_eq (part (index_of s)) (n - 1)
     bit on =
         let row =
-        agree_below_at (λ n. agree_below (has_bit (word n)) (λ i. nat_eq (part i) n) 64) (λ _.
+        agree_below_at (λ n. agree_below (has_bit (bitboard n)) (λ i. nat_eq (part i) n) 64) (λ _.
         true) 8 (n - 1) fits (omega arith) in
-        agree_below_at (has_bit (word (n - 1))) (λ i.
+        agree_below_at (has_bit (bitboard (n - 1))) (λ i.
         nat_eq (part i) (n - 1)) 64 (index_of s) row (index_of-below s on)
 
 -- a number that is no file or no rank has no squares
@@ -68,27 +69,27 @@ no_line line lines n set out found s = (
       absurd (elim out [ inl less ↦ omega arith | inr more ↦ let beyond = more.1 in omega arith ])),
 )
 
-abbrev pub file_word : ℕ → ℕ
-file_word n = 72340172838076673 * 2 ^ n % 2 ^ 64
+abbrev pub file_bitboard : ℕ → ℕ
+file_bitboard n = 72340172838076673 * 2 ^ n % 2 ^ 64
 
 pub file_squares : (file : ℕ) (set : Places) → 1 ≤ file → file ≤ 8
-    → HoldsExactly (λ s. has_bit (file_word (file - 1)) (index_of s) ≡ true) set
+    → HoldsExactly (λ s. has_bit (file_bitboard (file - 1)) (index_of s) ≡ true) set
     → HoldsExactly (λ s. s.file ≡ file) set
 file_squares =
-    line_squares (λ s. s.file) (λ i. i % 8) file_word refl (λ s on. (on.file_low, file_of s on))
+    line_squares (λ s. s.file) (λ i. i % 8) file_bitboard refl (λ s on. (on.file_low, file_of s on))
 
 pub no_file : (file : ℕ) (set : Places) → (file < 1) ⊎ ((1 ≤ file) × (8 < file))
     → HoldsExactly (λ s. has_bit 0 (index_of s) ≡ true) set → HoldsExactly (λ s. s.file ≡ file) set
 no_file = no_line (λ s. s.file) file_within
 
-abbrev pub rank_word : ℕ → ℕ
-rank_word n = 255 * 2 ^ (8 * n) % 2 ^ 64
+abbrev pub rank_bitboard : ℕ → ℕ
+rank_bitboard n = 255 * 2 ^ (8 * n) % 2 ^ 64
 
 pub rank_squares : (rank : ℕ) (set : Places) → 1 ≤ rank → rank ≤ 8
-    → HoldsExactly (λ s. has_bit (rank_word (rank - 1)) (index_of s) ≡ true) set
+    → HoldsExactly (λ s. has_bit (rank_bitboard (rank - 1)) (index_of s) ≡ true) set
     → HoldsExactly (λ s. s.rank ≡ rank) set
 rank_squares =
-    line_squares (λ s. s.rank) (λ i. i / 8) rank_word refl (λ s on. (on.rank_low, rank_of s on))
+    line_squares (λ s. s.rank) (λ i. i / 8) rank_bitboard refl (λ s on. (on.rank_low, rank_of s on))
 
 pub no_rank : (rank : ℕ) (set : Places) → (rank < 1) ⊎ ((1 ≤ rank) × (8 < rank))
     → HoldsExactly (λ s. has_bit 0 (index_of s) ≡ true) set → HoldsExactly (λ s. s.rank ≡ rank) set

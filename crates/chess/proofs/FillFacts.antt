@@ -13,9 +13,9 @@ use Rattle.chess.specs.Public.Squares.{Place, IsOnBoard, IsStraight, IsAhead, in
 use Rattle.chess.specs.Shared.SetFacts.{square_at-index_of}
 use Rattle.chess.specs.Public.Placements.{Placement, IsEmpty}
 use Rattle.chess.specs.Public.Attacks.{IsOnRay, IsClearFor}
-use Rattle.chess.specs.Shared.SetWords.{has_bit}
-use Rattle.chess.specs.Private.BitWords.{IsWordOf, IsNextWord, IsStraightRun, IsDiagonalRun}
-use Rattle.chess.specs.Private.BitWords.{square_word}
+use Rattle.chess.specs.Shared.SetBitboards.{has_bit}
+use Rattle.chess.specs.Private.Bitboards.{IsBitboardOf, IsNextBitboard, IsStraightRun}
+use Rattle.chess.specs.Private.Bitboards.{IsDiagonalRun, square_bitboard}
 use Rattle.chess.specs.declared.board.direction.Direction.{Direction}
 use Rattle.chess.specs.declared.board.direction.Direction.TheVariants.{North, South, East, West}
 use Rattle.chess.specs.declared.board.direction.Direction.TheVariants.{NorthEast, NorthWest}
@@ -25,9 +25,9 @@ use Rattle.chess.proofs.AxisSteps.{seven_steps, straight_or_not}
 
 -- ---- bits
 
--- the word of one square has the bit of that square alone
+-- the bitboard of one square has the bit of that square alone
 pub bit_of_square : (s t : Place) → IsOnBoard s → IsOnBoard t
-    → has_bit (square_word s) (index_of t) ≡ true → t ≡ s
+    → has_bit (square_bitboard s) (index_of t) ≡ true → t ≡ s
 bit_of_square s t on on_t e = elim (cases_eq (index_of t) (index_of s)) [
   | inl same ↦ sym (square_at-index_of t on_t) ∙ ap square_at same ∙ square_at-index_of s on
   | inr other ↦
@@ -35,7 +35,7 @@ bit_of_square s t on on_t e = elim (cases_eq (index_of t) (index_of s)) [
       let one = eqb-true _ _ e in absurd (omega arith)
 ]
 
-pub has_own_bit : (s : Place) → has_bit (square_word s) (index_of s) ≡ true
+pub has_own_bit : (s : Place) → has_bit (square_bitboard s) (index_of s) ≡ true
 has_own_bit s = eq-eqb _ 1 (bit_at-pow_same (index_of s))
 
 -- a bit of two words joined, and of two words' common part
@@ -68,13 +68,13 @@ pub record IsFilled (p : Placement) (way : Direction) (s : Place) (k last seen :
   pub here : Place
   pub inside : IsOnBoard here
   pub ahead : IsAhead way k s here
-  pub last_is : last ≡ square_word here
+  pub last_is : last ≡ square_bitboard here
   pub clear : IsClearFor p way s (k + 1)
-  pub seen_is : IsWordOf (IsWithin way s k) seen
+  pub seen_is : IsBitboardOf (IsWithin way s k) seen
 
-pub filled_start : (p : Placement) (way : Direction) (s : Place) (word : ℕ) → IsOnBoard s
-    → word ≡ square_word s → IsFilled p way s 0 word 0
-filled_start p way s word on is = record {
+pub filled_start : (p : Placement) (way : Direction) (s : Place) (bitboard : ℕ) → IsOnBoard s
+    → bitboard ≡ square_bitboard s → IsFilled p way s 0 bitboard 0
+filled_start p way s bitboard on is = record {
   on_board = on;
   here = s;
   inside = on;
@@ -90,8 +90,9 @@ filled_start p way s word on is = record {
 
 -- one more square
 pub within_more : (way : Direction) (s u : Place) (k seen last : ℕ) → IsOnBoard u
-    → IsAhead way (k + 1) s u → last ≡ square_word u
-    → IsWordOf (IsWithin way s k) seen → IsWordOf (IsWithin way s (k + 1)) (bit_or seen last)
+    → IsAhead way (k + 1) s u → last ≡ square_bitboard u
+    → IsBitboardOf (IsWithin way s k) seen
+    → IsBitboardOf (IsWithin way s (k + 1)) (bit_or seen last)
 within_more way s u k seen last on ahead is so_far t on_t =
     let bit = bit_of_either seen last (index_of t) in (
       (λ e. elim (or_cases _ _ (sym bit ∙ e)) [
@@ -123,29 +124,30 @@ not_zero b n e h z = let one : b ≡ 1 = eqb-true b 1 e in let f : 1 * n ≡ 0 =
 and_zero : (n : ℕ) → bit_and n 0 ≡ 0
 and_zero n = and_mask n 0 ∙ omega arith
 
-pub common_none : (empty word : ℕ) (t : Place) → word ≡ square_word t
-    → has_bit empty (index_of t) ≡ false → bit_and empty word ≡ 0
-common_none empty word t is e =
+pub common_none : (empty bitboard : ℕ) (t : Place) → bitboard ≡ square_bitboard t
+    → has_bit empty (index_of t) ≡ false → bit_and empty bitboard ≡ 0
+common_none empty bitboard t is e =
     ap (bit_and empty) is ∙ and_pow empty (index_of t)
     ∙ zero_times (bit_at empty (index_of t)) (2 ^ index_of t) e (bit_at-lt empty (index_of t))
 
-pub common_some : (empty word : ℕ) (t : Place) → word ≡ square_word t
-    → has_bit empty (index_of t) ≡ true → bit_and empty word ≡ 0 → ⊥
-common_some empty word t is e zero =
+pub common_some : (empty bitboard : ℕ) (t : Place) → bitboard ≡ square_bitboard t
+    → has_bit empty (index_of t) ≡ true → bit_and empty bitboard ≡ 0 → ⊥
+common_some empty bitboard t is e zero =
     not_zero (bit_at empty (index_of t)) (2 ^ index_of t) e (pow_pos (index_of t))
     (sym (ap (bit_and empty) is ∙ and_pow empty (index_of t)) ∙ zero)
 
 -- the next square is empty, and the ray goes on
-pub filled_more : (p : Placement) (way : Direction) (s : Place) (k last seen empty word : ℕ)
+pub filled_more : (p : Placement) (way : Direction) (s : Place) (k last seen empty bitboard : ℕ)
     (h : IsFilled p way s k last seen)
-    → IsWordOf (IsEmpty p) empty → IsNextWord way h.here word → (bit_and empty word ≡ 0 → ⊥)
-    → IsFilled p way s (k + 1) word (bit_or seen word)
-filled_more p way s k last seen empty word h shows (inl next) some =
+    → IsBitboardOf (IsEmpty p) empty → IsNextBitboard way h.here bitboard
+    → (bit_and empty bitboard ≡ 0 → ⊥)
+    → IsFilled p way s (k + 1) bitboard (bit_or seen bitboard)
+filled_more p way s k last seen empty bitboard h shows (inl next) some =
     let t = next.0 in
     let ahead = ahead_more way k 1 s h.here t h.ahead next.2 in
     let bare =
     (shows t next.1).0 (true_from_ne_false (has_bit empty (index_of t)) (λ e.
-    some (common_none empty word t next.3 e))) in record {
+    some (common_none empty bitboard t next.3 e))) in record {
       on_board = h.on_board;
       here = t;
       inside = next.1;
@@ -156,9 +158,9 @@ filled_more p way s k last seen empty word h shows (inl next) some =
             (one_ahead way (k + 1) s t u ahead (subst (λ n. IsAhead way n s u) same there)) bare
         | inr other ↦ h.clear j u on_u far (omega arith) there
       ];
-      seen_is = within_more way s t k seen word next.1 ahead next.3 h.seen_is;
+      seen_is = within_more way s t k seen bitboard next.1 ahead next.3 h.seen_is;
     }
-filled_more p way s k last seen empty word h shows (inr next) some =
+filled_more p way s k last seen empty bitboard h shows (inr next) some =
     absurd (some (ap (bit_and empty) next.1 ∙ and_zero empty))
 
 -- squares within the steps that were taken are on the ray
@@ -175,24 +177,25 @@ on_ray p way s t k clear h =
     }
 
 -- the ray ends at a man, or at the edge of the board
-pub filled_stop : (p : Placement) (way : Direction) (s : Place) (k last seen empty word : ℕ)
+pub filled_stop : (p : Placement) (way : Direction) (s : Place) (k last seen empty bitboard : ℕ)
     (h : IsFilled p way s k last seen)
-    → IsWordOf (IsEmpty p) empty → IsNextWord way h.here word → bit_and empty word ≡ 0
-    → IsWordOf (IsOnRay p way s) (bit_or seen word)
-filled_stop p way s k last seen empty word h shows (inl next) stop t on =
+    → IsBitboardOf (IsEmpty p) empty → IsNextBitboard way h.here bitboard
+    → bit_and empty bitboard ≡ 0
+    → IsBitboardOf (IsOnRay p way s) (bit_or seen bitboard)
+filled_stop p way s k last seen empty bitboard h shows (inl next) stop t on =
     let u = next.0 in
     let ahead = ahead_more way k 1 s h.here u h.ahead next.2 in
-    let within = within_more way s u k seen word next.1 ahead next.3 h.seen_is t on in (
+    let within = within_more way s u k seen bitboard next.1 ahead next.3 h.seen_is t on in (
       (λ e. on_ray p way s t (k + 1) h.clear (within.0 e)),
       (λ ray. elim (cases_lt ray.steps (k + 2)) [
         | inl near ↦ within.1 (ray.steps, ray.far, omega arith, ray.ahead)
         | inr far ↦
             let bare = ray.clear (k + 1) u next.1 (omega arith) (omega arith) ahead in
-            absurd (common_some empty word u next.3 ((shows u next.1).1 bare) stop)
+            absurd (common_some empty bitboard u next.3 ((shows u next.1).1 bare) stop)
       ]),
     )
-filled_stop p way s k last seen empty word h shows (inr next) stop t on =
-    let bit = bit_of_either seen word (index_of t) in (
+filled_stop p way s k last seen empty bitboard h shows (inr next) stop t on =
+    let bit = bit_of_either seen bitboard (index_of t) in (
       (λ e. elim (or_cases _ _ (sym bit ∙ e)) [
         | inl old ↦ let w = (h.seen_is t on).0 old in let low = w.1 in let high = w.2 in
             on_ray p way s t (k + 1) h.clear (w.0, low, omega arith, w.3)
@@ -210,7 +213,7 @@ filled_stop p way s k last seen empty word h shows (inr next) stop t on =
 
 -- seven steps are all
 pub filled_end : (p : Placement) (way : Direction) (s : Place) (k last seen : ℕ)
-    → IsFilled p way s k last seen → 7 ≤ k → IsWordOf (IsOnRay p way s) seen
+    → IsFilled p way s k last seen → 7 ≤ k → IsBitboardOf (IsOnRay p way s) seen
 filled_end p way s k last seen h all t on = (
   (λ e.
       let w = (h.seen_is t on).0 e in let low = w.1 in let high = w.2 in
@@ -221,9 +224,9 @@ filled_end p way s k last seen h all t on = (
 
 -- ---- four ways joined
 
-pub either_word : (A B : Place → Type 0) (a b : ℕ) → IsWordOf A a → IsWordOf B b
-    → IsWordOf (λ t. A t ⊎ B t) (bit_or a b)
-either_word A B a b in_a in_b t on =
+pub either_bitboard : (A B : Place → Type 0) (a b : ℕ) → IsBitboardOf A a → IsBitboardOf B b
+    → IsBitboardOf (λ t. A t ⊎ B t) (bit_or a b)
+either_bitboard A B a b in_a in_b t on =
     let bit = bit_of_either a b (index_of t) in (
       (λ e. elim (or_cases _ _ (sym bit ∙ e))
           [ inl f ↦ inl ((in_a t on).0 f) | inr f ↦ inr ((in_b t on).0 f) ]),
@@ -271,38 +274,39 @@ of_diagonal p s t SouthWest is ray = inr (inr ray)
 of_diagonal p s t way is ray = absurd (is tt)
 
 four_rays : (p : Placement) (s : Place) (a b c d : Direction) (k l m n : ℕ)
-    → IsWordOf (IsOnRay p a s) k → IsWordOf (IsOnRay p b s) l
-    → IsWordOf (IsOnRay p c s) m → IsWordOf (IsOnRay p d s) n
-    → IsWordOf (AreFourRays p a b c d s) (bit_or (bit_or k l) (bit_or m n))
+    → IsBitboardOf (IsOnRay p a s) k → IsBitboardOf (IsOnRay p b s) l
+    → IsBitboardOf (IsOnRay p c s) m → IsBitboardOf (IsOnRay p d s) n
+    → IsBitboardOf (AreFourRays p a b c d s) (bit_or (bit_or k l) (bit_or m n))
 four_rays p s a b c d k l m n in_k in_l in_m in_n =
-    either_word (λ t. IsOnRay p a s t ⊎ IsOnRay p b s t) (λ t. IsOnRay p c s t
+    either_bitboard (λ t. IsOnRay p a s t ⊎ IsOnRay p b s t) (λ t. IsOnRay p c s t
     ⊎ IsOnRay p d s t) (bit_or k l) (bit_or m n)
-    (either_word (IsOnRay p a s) (IsOnRay p b s) k l in_k in_l)
-    (either_word (IsOnRay p c s) (IsOnRay p d s) m n in_m in_n)
+    (either_bitboard (IsOnRay p a s) (IsOnRay p b s) k l in_k in_l)
+    (either_bitboard (IsOnRay p c s) (IsOnRay p d s) m n in_m in_n)
 
-pub straight_joined : (p : Placement) (s : Place) (k l m n : ℕ) → IsWordOf (IsOnRay p North s) k
-    → IsWordOf (IsOnRay p South s) l
-    → IsWordOf (IsOnRay p East s) m → IsWordOf (IsOnRay p West s) n
-    → IsWordOf (IsStraightRun p s) (bit_or (bit_or k l) (bit_or m n))
+pub straight_joined : (p : Placement) (s : Place) (k l m n : ℕ) → IsBitboardOf (IsOnRay p North s) k
+    → IsBitboardOf (IsOnRay p South s) l
+    → IsBitboardOf (IsOnRay p East s) m → IsBitboardOf (IsOnRay p West s) n
+    → IsBitboardOf (IsStraightRun p s) (bit_or (bit_or k l) (bit_or m n))
 straight_joined p s k l m n in_k in_l in_m in_n t on =
     let four = four_rays p s North South East West k l m n in_k in_l in_m in_n t on in
     ((λ e. straight_of p s t (four.0 e)), (λ h. four.1 (of_straight p s t h.0 h.1 h.2)))
 
-pub diagonal_joined : (p : Placement) (s : Place) (k l m n : ℕ) → IsWordOf (IsOnRay p NorthEast s) k
-    → IsWordOf (IsOnRay p NorthWest s) l
-    → IsWordOf (IsOnRay p SouthEast s) m → IsWordOf (IsOnRay p SouthWest s) n
-    → IsWordOf (IsDiagonalRun p s) (bit_or (bit_or k l) (bit_or m n))
+pub diagonal_joined : (p : Placement) (s : Place) (k l m n : ℕ)
+    → IsBitboardOf (IsOnRay p NorthEast s) k
+    → IsBitboardOf (IsOnRay p NorthWest s) l
+    → IsBitboardOf (IsOnRay p SouthEast s) m → IsBitboardOf (IsOnRay p SouthWest s) n
+    → IsBitboardOf (IsDiagonalRun p s) (bit_or (bit_or k l) (bit_or m n))
 diagonal_joined p s k l m n in_k in_l in_m in_n t on =
     let four =
     four_rays p s NorthEast NorthWest SouthEast SouthWest k l m n in_k in_l in_m in_n t on in
     ((λ e. diagonal_of p s t (four.0 e)), (λ h. four.1 (of_diagonal p s t h.0 h.1 h.2)))
 
 -- queens run straight and along diagonals
-pub queen_joined : (p : Placement) (s : Place) (a b : ℕ) → IsWordOf (IsStraightRun p s) a
-    → IsWordOf (IsDiagonalRun p s) b
-    → IsWordOf (λ t. (way : Direction) × IsOnRay p way s t) (bit_or a b)
+pub queen_joined : (p : Placement) (s : Place) (a b : ℕ) → IsBitboardOf (IsStraightRun p s) a
+    → IsBitboardOf (IsDiagonalRun p s) b
+    → IsBitboardOf (λ t. (way : Direction) × IsOnRay p way s t) (bit_or a b)
 queen_joined p s a b in_a in_b t on =
-    let both = either_word (IsStraightRun p s) (IsDiagonalRun p s) a b in_a in_b t on in (
+    let both = either_bitboard (IsStraightRun p s) (IsDiagonalRun p s) a b in_a in_b t on in (
       (λ e. elim (both.0 e) [ inl h ↦ (h.0, h.2) | inr h ↦ (h.0, h.2) ]),
       (λ h. elim (straight_or_not h.0) [
         | inl straight ↦ both.1 (inl (h.0, straight, h.1))

@@ -49,19 +49,19 @@ king_to-empty P m KingSide c =
 king_to-empty P m QueenSide c =
     subst (λ s. IsEmpty P.men s) (sym c.to) (c.empty _ refl (omega arith, omega arith))
 
-king_hits : (P : State) (m : Move) (castle : Option Wing) → IsKingMove P m castle
+king_attacks : (P : State) (m : Move) (castle : Option Wing) → IsKingMove P m castle
     → IsEmpty P.men m.to ⊎ Reaches P.men P.turn King m.from m.to
-king_hits P m None g = inr g
-king_hits P m (Some wing) g = inl (king_to-empty P m wing g)
+king_attacks P m None g = inr g
+king_attacks P m (Some wing) g = inl (king_to-empty P m wing g)
 
-pub goes_hits : (P : State) (m : Move) (other : Kind) → Goes P m other
+pub goes_attacks : (P : State) (m : Move) (other : Kind) → Goes P m other
     → IsEmpty P.men m.to ⊎ Reaches P.men P.turn other m.from m.to
-goes_hits P m King g = king_hits P m m.castle g.1
-goes_hits P m Queen g = inr g.2
-goes_hits P m Rook g = inr g.2
-goes_hits P m Bishop g = inr g.2
-goes_hits P m Knight g = inr g.2
-goes_hits P m Pawn g = elim g.1 [
+goes_attacks P m King g = king_attacks P m m.castle g.1
+goes_attacks P m Queen g = inr g.2
+goes_attacks P m Rook g = inr g.2
+goes_attacks P m Bishop g = inr g.2
+goes_attacks P m Knight g = inr g.2
+goes_attacks P m Pawn g = elim g.1 [
   | inl single ↦ inl single.2
   | inr more ↦ elim more [ inl double ↦ inl double.end_empty | inr capture ↦ inr capture.0 ]
 ]
@@ -71,9 +71,9 @@ pub no_king_taken : (P : State) (m : Move) → IsTried P m
     → man_at P.men m.to ≡ Some (king_of (opposite P.turn)) → ⊥
 no_king_taken P m x king =
     let man = x.rules.man in
-    elim (goes_hits P m man.kind x.rules.goes) [
+    elim (goes_attacks P m man.kind x.rules.goes) [
       | inl empty ↦ some_not_none (man_at P.men m.to) (king_of (opposite P.turn)) empty king
-      | inr hits ↦ x.sound.quiet (
+      | inr attacks ↦ x.sound.quiet (
         m.to,
         king,
         subst (λ side. IsAttacked P.men side m.to) (sym (opposite-opposite P.turn))
@@ -83,7 +83,7 @@ no_king_taken P m x king =
               here = x.rules.here;
               own = x.rules.own;
               reaches =
-                  hits;
+                  attacks;
             }),
       )
     ]

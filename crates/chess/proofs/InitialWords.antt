@@ -4,8 +4,8 @@ use Rattle.std.proofs.Common.{List, [], ◌∷◌, Option, Some, None}
 use Rattle.std.proofs.lemmas.Bool.{agree_below, agree_below_at, eqb-true, eq-eqb, ne_eqb}
 use Rattle.chess.specs.Public.Squares.{square_at}
 use Rattle.chess.specs.Public.Placements.{with_man, first_men}
-use Rattle.chess.specs.Shared.SetWords.{has_bit}
-use Rattle.chess.specs.Private.BitWords.{AreApart, word_at, row_of, man_in, words_men}
+use Rattle.chess.specs.Shared.SetBitboards.{has_bit}
+use Rattle.chess.specs.Private.Bitboards.{AreApart, bitboard_at, row_of, man_in, words_men}
 use Rattle.chess.specs.Public.Start.{initial_man, initial_men}
 use Rattle.chess.specs.declared.board.man.Man.{Man}
 use Rattle.chess.proofs.BitFacts.{has_man, no_man, row_of-below, man_of_row-row_of}
@@ -16,13 +16,13 @@ first_words =
     ∷ 2594073385365405696
     ∷ 4755801206503243776 ∷ 71776119061217280 ∷ []
 
--- the number of a man's word, and of no word
+-- the number of a man's bitboard, and of no bitboard
 abbrev row_there : Option Man → ℕ
 row_there None = 12
 row_there (Some man) = row_of man
 
 abbrev has_square : ℕ → ℕ → Bool
-has_square i j = has_bit (word_at first_words j) i
+has_square i j = has_bit (bitboard_at first_words j) i
 
 abbrev is_there : ℕ → ℕ → Bool
 is_there i j = nat_eq j (row_there (initial_man (square_at i)))
@@ -33,7 +33,7 @@ words_agree i = agree_below (has_square i) (is_there i) 12
 all_agree : agree_below words_agree (λ _. true) 64 ≡ true
 all_agree = refl
 
--- a word has the squares of its man
+-- a bitboard has the squares of its man
 bit_is : (i j : ℕ) → i < 64 → j < 12 → has_square i j ≡ is_there i j
 bit_is i j less in_row =
     agree_below_at (has_square i) (is_there i) 12 j

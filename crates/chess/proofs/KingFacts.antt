@@ -10,7 +10,7 @@ use Rattle.chess.specs.Public.Attacks.{IsForward}
 use Rattle.chess.specs.Public.Positions.{State, king_of, rook_of, pawn_of, king_to, rook_from}
 use Rattle.chess.specs.Public.Positions.{rook_to, IsOnlyKing, FitsEnPassant}
 use Rattle.chess.specs.Shared.Codes.{IsFollowed}
-use Rattle.chess.specs.Public.Moves.{Goes, Castles, arriving, taken, is_pawn, is_square}
+use Rattle.chess.specs.Public.Moves.{Goes, Castles, arriving, capture_square, is_pawn, is_square}
 use Rattle.chess.specs.Public.Moves.{is_en_passant, men_after, IsPawnMove}
 use Rattle.chess.specs.declared.board.man.Man.{Man}
 use Rattle.chess.specs.declared.board.man.Side.{Side}
@@ -85,7 +85,8 @@ passing_pawn P m x e =
 -- the square of the man that is taken is the one that the move goes to, or a pawn of the other side
 -- stands there
 pub taken_cases : (P : State) (m : Move) → IsTried P m
-    → (taken P m ≡ m.to) ⊎ (man_at P.men (taken P m) ≡ Some (pawn_of (opposite P.turn)))
+    → (capture_square P m ≡ m.to)
+    ⊎ (man_at P.men (capture_square P m) ≡ Some (pawn_of (opposite P.turn)))
 taken_cases P m x =
     elim (is_en_passant P m) as (λ b. is_en_passant P m ≡ b
     → ((if b then record { file = m.to.file; rank = m.from.rank } else m.to) ≡ m.to)

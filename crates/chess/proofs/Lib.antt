@@ -7,7 +7,7 @@ pub mod InitialWords
 pub mod PlainTexts
 pub mod OccupiedFacts
 pub mod RightsFacts
-pub mod HitFacts
+pub mod AttackFacts
 pub mod FillFacts
 pub mod LeaperFacts
 pub mod GoesFacts

@@ -10,7 +10,7 @@ use Rattle.chess.specs.Public.Squares.{Place, IsOnBoard, place_cmp, same_square}
 use Rattle.chess.specs.Shared.OrderFacts.{place_total, place_exact}
 use Rattle.chess.specs.Shared.SetFacts.{is_in-empty, tied, ties, false_of}
 use Rattle.chess.specs.Public.Sets.{Places, is_in, no_places, size_of, HoldsExactly}
-use Rattle.chess.specs.Shared.SetWords.{HasOnly, IsTakenFirst}
+use Rattle.chess.specs.Shared.SetBitboards.{HasOnly, IsTakenFirst}
 use Rattle.chess.specs.Private.MoveWords.{HasEach, IsLeft, IsSifted}
 use Rattle.chess.proofs.PlaceFacts.{cases_place, same_square-same, same_square-then, true_not_false}
 use Rattle.chess.proofs.PlaceFacts.{not_true, true_not}
@@ -43,18 +43,18 @@ same_is_tied s t =
 -- the loop goes on for as many squares as there are
 pub fewer : (old new : Places) (t : Place) → IsTakenFirst old new (Some t)
     → size_of new < size_of old
-fewer old new t taken =
+fewer old new t capture_square =
     let is : new ≡ remove old t =
     same_set place_total place_exact new (remove old t)
-    (λ s. taken.3 s ∙ and_comm (is_in old s) (not (same_square s t))
+    (λ s. capture_square.3 s ∙ and_comm (is_in old s) (not (same_square s t))
     ∙ ap (λ b. not b && is_in old s) (same_is_tied s t)
     ∙ sym (contains-remove place_total old t s)) in
     let size : size_of new ≡ size_of old - 1 =
     ap size_of is ∙ len-remove place_total old t
-    ∙ ap (λ b. if b then size_of old - 1 else size_of old) taken.1 in
+    ∙ ap (λ b. if b then size_of old - 1 else size_of old) capture_square.1 in
     elim (cases_eq (size_of old) 0) [
       | inl none ↦ absurd
-          (true_not_false (is_in old t) taken.1 (not_in old t (empty_of_len old none)))
+          (true_not_false (is_in old t) capture_square.1 (not_in old t (empty_of_len old none)))
       | inr some ↦ omega arith
     ]
 
@@ -62,15 +62,15 @@ fewer old new t taken =
 
 pub still_left : (old new : Places) (t s : Place) → IsTakenFirst old new (Some t)
     → is_in old s ≡ true → (s ≡ t → ⊥) → is_in new s ≡ true
-still_left old new t s taken here other =
-    taken.3 s
+still_left old new t s capture_square here other =
+    capture_square.3 s
     ∙ and_from (is_in old s) (not (same_square s t)) here
     (not_true (same_square s t) (λ e. other (same_square-then s t e)))
 
 pub was_left : (old new : Places) (t s : Place) → IsTakenFirst old new (Some t) → is_in new s ≡ true
     → (is_in old s ≡ true) × (s ≡ t → ⊥)
-was_left old new t s taken here =
-    let both = sym (taken.3 s) ∙ here in (
+was_left old new t s capture_square here =
+    let both = sym (capture_square.3 s) ∙ here in (
       (and_parts (is_in old s) (not (same_square s t)) both).0,
       (λ e. true_not (same_square s t) (and_parts (is_in old s) (not (same_square s t)) both).1
           (same_square-same s t e)),
@@ -79,10 +79,10 @@ was_left old new t s taken here =
 pub left_more : (range fact : Place → Type 0) (old new : Places) (t : Place) → IsLeft range fact old
     → IsTakenFirst old new (Some t)
     → (fact t → ⊥) → IsLeft range fact new
-left_more range fact old new t left taken fails = record {
-  each = λ s on holds. still_left old new t s taken (left.each s on holds) (λ e.
+left_more range fact old new t left capture_square fails = record {
+  each = λ s on holds. still_left old new t s capture_square (left.each s on holds) (λ e.
       fails (subst fact e holds));
-  within = λ s on here. left.within s on (was_left old new t s taken here).0;
+  within = λ s on here. left.within s on (was_left old new t s capture_square here).0;
 }
 
 -- ---- those found among them
@@ -104,11 +104,11 @@ pub sifted_more : (fact : Place → Type 0) (old new found more : Places) (t : P
     → IsTakenFirst old new (Some t) → IsTrue test ↔ fact t
     → ((s : Place) → is_in more s ≡ ((test && same_square t s) || is_in found s))
     → IsSifted fact new more
-sifted_more fact old new found more t test so_far taken tested put = record {
+sifted_more fact old new found more t test so_far capture_square tested put = record {
   sound = λ s here. elim (or_cases test (same_square t s) (is_in found s) (sym (put s) ∙ here)) [
     | inl added ↦
         let same = same_square-then t s added.1 in
-        (subst IsOnBoard same taken.0, subst fact same (tested.0 added.0))
+        (subst IsOnBoard same capture_square.0, subst fact same (tested.0 added.0))
     | inr before ↦ so_far.sound s before
   ];
   each = λ s on holds. elim (cases_place s t) [
@@ -118,7 +118,7 @@ sifted_more fact old new found more t test so_far taken tested put = record {
         (and_from test (same_square t s) passes (same_square-same t s (sym same))))
     | inr other ↦ elim (so_far.each s on holds) [
       | inl in_found ↦ inl (put s ∙ or_right (test && same_square t s) (is_in found s) in_found)
-      | inr in_old ↦ inr (still_left old new t s taken in_old other)
+      | inr in_old ↦ inr (still_left old new t s capture_square in_old other)
     ]
   ];
 }
@@ -136,8 +136,8 @@ sifted_none fact old new found so_far none s = (
 -- where none is taken out there was none
 pub taken_none : (old new : Places) (o : Option Place) → IsTakenFirst old new o → o ≡ None
     → old ≡ no_places
-taken_none old new None taken e = taken.0
-taken_none old new (Some t) taken e = absurd (cc)
+taken_none old new None capture_square e = capture_square.0
+taken_none old new (Some t) capture_square e = absurd (cc)
 
 -- ---- a set of one square
 
@@ -145,8 +145,8 @@ taken_none old new (Some t) taken e = absurd (cc)
 pub only_first : (old new : Places) (t : Place) → ((u : Place) → is_in old u ≡ true → IsOnBoard u)
     → IsTakenFirst old new (Some t)
     → ((u : Place) × IsOnBoard u × (is_in new u ≡ true) → ⊥) → HasOnly old t
-only_first old new t on_board taken none = (
-  taken.0,
+only_first old new t on_board capture_square none = (
+  capture_square.0,
   λ u. (
     (λ here. (
       on_board u here,
@@ -156,12 +156,12 @@ only_first old new t on_board taken none = (
             (none (
               u,
               on_board u here,
-              still_left old new t u taken here (λ same.
+              still_left old new t u capture_square here (λ same.
                   true_not_false _ (same_square-same u t same) e),
             ))
       ] refl,
     )),
-    (λ h. ap (is_in old) h.1 ∙ taken.1),
+    (λ h. ap (is_in old) h.1 ∙ capture_square.1),
   ),
 )
 
@@ -169,9 +169,9 @@ only_first old new t on_board taken none = (
 pub not_only : (old new : Places) (t : Place) → IsTakenFirst old new (Some t)
     → (u : Place) × IsOnBoard u × (is_in new u ≡ true)
     → (s : Place) → HasOnly old s → ⊥
-not_only old new t taken left s only =
-    let rest = was_left old new t left.0 taken left.2 in
-    rest.1 (((only.1 left.0).0 rest.0).1 ∙ sym ((only.1 t).0 taken.1).1)
+not_only old new t capture_square left s only =
+    let rest = was_left old new t left.0 capture_square left.2 in
+    rest.1 (((only.1 left.0).0 rest.0).1 ∙ sym ((only.1 t).0 capture_square.1).1)
 
 pub none_only : (old : Places) → old ≡ no_places → (s : Place) → HasOnly old s → ⊥
 none_only old none s only =

@@ -11,8 +11,8 @@ use Rattle.chess.specs.Shared.SetFacts.{and_true}
 use Rattle.chess.specs.Public.Placements.{Placement, man_at}
 use Rattle.chess.specs.Public.Letters.{man_letter}
 use Rattle.chess.specs.Public.Sets.{Places, is_in, IsSquaresOf}
-use Rattle.chess.specs.Shared.SetWords.{IsTakenFirst}
-use Rattle.chess.specs.Private.BitWords.{row_of, man_of_row}
+use Rattle.chess.specs.Shared.SetBitboards.{IsTakenFirst}
+use Rattle.chess.specs.Private.Bitboards.{row_of, man_of_row}
 use Rattle.chess.specs.Private.FenTextWords.{letter_on, letter_at, letter_below, AreLetters}
 use Rattle.chess.specs.Private.FenTextWords.{AreLettersBelow}
 use Rattle.chess.specs.declared.board.man.Man.{Man}
@@ -40,31 +40,32 @@ pub marked_more : (letter : ℕ) (old : List ℕ) (squares left new : Places) (n
     → IsTakenFirst left new (Some t)
     → IsMarked letter old squares left now
     → IsMarked letter old squares new (slice_set now (index_of t) letter)
-marked_more letter old squares left new now t taken so_far =
+marked_more letter old squares left new now t capture_square so_far =
     let then_letters = slice_set now (index_of t) letter in
     let size = so_far.size in
-    let below = index_of-below t taken.0 in record {
+    let below = index_of-below t capture_square.0 in record {
       size = length-set now (index_of t) letter ∙ size;
       each = λ s on. elim (cases_place s t) [
         | inl same ↦
-            let gone : is_in new s ≡ false = taken.3 s
+            let gone : is_in new s ≡ false = capture_square.3 s
             ∙ ap (λ b. is_in left s && not b) (same_square-same s t same)
             ∙ and_false (is_in left s) in
             ap (λ b. if b then letter else letter_at then_letters s) gone
             ∙ ap (letter_at then_letters) same
             ∙ get_or-set_same now (index_of t) letter 0 (omega arith)
-            ∙ sym (ap (λ b. if b then letter else letter_at now s) (ap (is_in left) same ∙ taken.1))
+            ∙ sym (ap (λ b. if b then letter else letter_at now s) (ap (is_in left) same
+            ∙ capture_square.1))
             ∙ so_far.each s on
         | inr other ↦
             let kept : is_in new s ≡ is_in left s =
-            taken.3 s
+            capture_square.3 s
             ∙ ap (λ b. is_in left s && not b) (false_of _ (λ e. other (same_square-then s t e)))
             ∙ and_true (is_in left s) in
             ap (λ b. if b then letter else letter_at then_letters s) kept
             ∙ ap (λ n. if is_in left s then letter
             else n) (get_or-set_other now (index_of t) (index_of s) letter 0
             (λ e. other (sym (square_at-index_of s on) ∙ ap square_at e
-            ∙ square_at-index_of t taken.0)))
+            ∙ square_at-index_of t capture_square.0)))
             ∙ so_far.each s on
       ];
     }

@@ -17,7 +17,7 @@ use Rattle.chess.specs.Private.SanWords.{man_said}
 use Rattle.chess.specs.Private.SanAnswers.{IsAnswer, IsPlayed}
 use Rattle.chess.specs.Public.Refusals.{IsSpokenOf}
 use Rattle.chess.specs.Public.Sets.{Places, is_in, HoldsExactly}
-use Rattle.chess.specs.Shared.SetWords.{IsTakenFirst}
+use Rattle.chess.specs.Shared.SetBitboards.{IsTakenFirst}
 use Rattle.chess.specs.Private.MoveWords.{IsLeft}
 use Rattle.chess.specs.declared.board.man.Man.{Man}
 use Rattle.chess.specs.declared.board.man.Kind.{Kind}
@@ -37,25 +37,26 @@ use Rattle.chess.specs.Shared.SetFacts.{and_false}
 -- the square that was taken out is gone
 gone : (old new : Places) (t s : Place) → IsTakenFirst old new (Some t) → is_in new s ≡ true → s ≡ t
     → ⊥
-gone old new t s taken here e =
+gone old new t s capture_square here e =
     true_not_false (is_in new s) here
-    (taken.3 s ∙ ap (λ b. is_in old s && not b) (same_square-same s t e) ∙ and_false (is_in old s))
+    (capture_square.3 s ∙ ap (λ b. is_in old s && not b) (same_square-same s t e)
+    ∙ and_false (is_in old s))
 
 pub next_found : (fact : Place → Type 0) (squares old new : Places) (t : Place)
     → IsLeft (λ s. is_in squares s ≡ true) (λ s. (is_in squares s ≡ true) × fact s) old
     → IsTakenFirst old new (Some t) → fact t → IsNext fact squares new t
-next_found fact squares old new t left taken fits =
+next_found fact squares old new t left capture_square fits =
     let other : IsLeft (λ s. is_in squares s ≡ true) (λ s. (is_in squares s ≡ true) × fact s
     × (s ≢ t)) old =
     record { each = λ s on holds. left.each s on (holds.0, holds.1); within = left.within } in
     let more =
     left_more (λ s. is_in squares s ≡ true) (λ s. (is_in squares s ≡ true) × fact s
-    × (s ≢ t)) old new t other taken (λ holds. holds.2 refl) in record {
-      on_board = taken.0;
-      here = left.within t taken.0 taken.1;
+    × (s ≢ t)) old new t other capture_square (λ holds. holds.2 refl) in record {
+      on_board = capture_square.0;
+      here = left.within t capture_square.0 capture_square.1;
       fits = fits;
       each = λ s on here holds apart. more.each s on (here, holds, apart);
-      within = λ s on here. (more.within s on here, (λ e. gone old new t s taken here e));
+      within = λ s on here. (more.within s on here, (λ e. gone old new t s capture_square here e));
     }
 
 -- ---- the man and the move that are spoken of

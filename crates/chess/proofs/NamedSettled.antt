@@ -9,7 +9,7 @@ use Rattle.std.proofs.lemmas.Bool.Decides.{nat_tests}
 use Rattle.chess.specs.Public.Squares.{Place, IsOnBoard}
 use Rattle.chess.specs.Public.Placements.{man_at, AreOnBoard}
 use Rattle.chess.specs.Public.Positions.{State}
-use Rattle.chess.specs.Public.Letters.{is_check_mark, is_sign, square_text}
+use Rattle.chess.specs.Public.Letters.{is_check_sign, is_sign, square_text}
 use Rattle.chess.specs.Public.San.{Said, letter_text, file_text, rank_text, promotion_text}
 use Rattle.chess.specs.Public.San.{IsFileOrRank, Spells, castling_text, castling_with_zeros}
 use Rattle.chess.specs.Public.San.{IsCastlingText, kind_said, Agrees, IsNamed}
@@ -113,7 +113,7 @@ said_marked said sign equals marks =
 
 abbrev IsSpelledWith : List ℕ → Said → List ℕ → Bool → Type 0
 IsSpelledWith x said sign equals =
-    (marks : List ℕ) × IsTrue (list_all is_check_mark marks)
+    (marks : List ℕ) × IsTrue (list_all is_check_sign marks)
     × (x ≡ said_text said sign equals ++ marks)
 
 abbrev IsSpelledBy : List ℕ → Said → Type 0
@@ -124,7 +124,7 @@ settled_spelled_by : (x : List ℕ) (said : Said) → Settled (IsSpelledBy x sai
 settled_spelled_by x said =
     search_sign (λ sign. (equals : Bool) × IsSpelledWith x said sign equals)
     (λ sign. search_bool (IsSpelledWith x said sign) (λ equals.
-    settled_front is_check_mark (said_text said sign equals) x))
+    settled_front is_check_sign (said_text said sign equals) x))
 
 settled_given_number : (o : Option ℕ) → Settled (IsGivenNumber o)
 settled_given_number o = settled_if_some o IsFileOrRank settled_file_or_rank
@@ -241,8 +241,8 @@ settled_castling_text : (wing : Wing) (x : List ℕ) → Settled (IsCastlingText
 settled_castling_text wing x =
     settled_like (λ h. elim h [ inl a ↦ (a.0, a.1, inl a.2) | inr a ↦ (a.0, a.1, inr a.2) ])
     (λ h. elim h.2 [ inl e ↦ inl (h.0, h.1, e) | inr e ↦ inr (h.0, h.1, e) ])
-    (settled_either (settled_front is_check_mark (castling_text wing) x)
-    (settled_front is_check_mark (castling_with_zeros wing) x))
+    (settled_either (settled_front is_check_sign (castling_text wing) x)
+    (settled_front is_check_sign (castling_with_zeros wing) x))
 
 settled_castling_named : (x : List ℕ) (m : Move)
     → Settled ((wing : Wing) × IsCastlingText wing x × (m.castle ≡ Some wing))

@@ -3,13 +3,13 @@ use Rattle.std.proofs.Common.{◌≡◌, ◌≢◌, ◌↔◌, ◌⊎◌, ◌∙
 use Rattle.std.proofs.lemmas.Bool.{cases_Bool}
 use Rattle.chess.specs.Public.Squares.{Place, IsOnBoard, index_of}
 use Rattle.chess.specs.Public.Placements.{Placement, IsEmpty, IsOccupiedBy}
-use Rattle.chess.specs.Shared.SetWords.{has_bit}
-use Rattle.chess.specs.Private.BitWords.{IsWordOf, IsMan, square_word}
+use Rattle.chess.specs.Shared.SetBitboards.{has_bit}
+use Rattle.chess.specs.Private.Bitboards.{IsBitboardOf, IsMan, square_bitboard}
 use Rattle.chess.specs.declared.board.man.Side.{Side}
 use Rattle.chess.specs.declared.board.man.Kind.{Kind}
 use Rattle.chess.specs.declared.board.man.Kind.TheVariants.{King, Queen, Rook, Bishop, Knight, Pawn}
 use Rattle.chess.proofs.PlaceFacts.{man_of}
-use Rattle.chess.proofs.FillFacts.{either_word, common_none, common_some}
+use Rattle.chess.proofs.FillFacts.{either_bitboard, common_none, common_some}
 use Rattle.chess.proofs.BitFacts.{}
 
 -- a man of the side is of one of six kinds
@@ -56,30 +56,30 @@ six_occupied p side s h =
     man_of h.0 (record { side = side; kind = h.0.kind }) h.2 refl in
     of_kind p side s h.0.kind (h.1 ∙ ap Some man)
 
-pub word_of_occupied : (p : Placement) (side : Side) (a b c d e f : ℕ)
-    → IsWordOf (IsMan p side King) a → IsWordOf (IsMan p side Queen) b
-    → IsWordOf (IsMan p side Rook) c → IsWordOf (IsMan p side Bishop) d
-    → IsWordOf (IsMan p side Knight) e → IsWordOf (IsMan p side Pawn) f
-    → IsWordOf (IsOccupiedBy p side) (bit_or (bit_or (bit_or (bit_or (bit_or a b) c) d) e) f)
-word_of_occupied p side a b c d e f king queen rook bishop knight pawn s on =
+pub bitboard_of_occupied : (p : Placement) (side : Side) (a b c d e f : ℕ)
+    → IsBitboardOf (IsMan p side King) a → IsBitboardOf (IsMan p side Queen) b
+    → IsBitboardOf (IsMan p side Rook) c → IsBitboardOf (IsMan p side Bishop) d
+    → IsBitboardOf (IsMan p side Knight) e → IsBitboardOf (IsMan p side Pawn) f
+    → IsBitboardOf (IsOccupiedBy p side) (bit_or (bit_or (bit_or (bit_or (bit_or a b) c) d) e) f)
+bitboard_of_occupied p side a b c d e f king queen rook bishop knight pawn s on =
     let six =
-    either_word _ _ (bit_or (bit_or (bit_or (bit_or a b) c) d) e) f
-    (either_word _ _ (bit_or (bit_or (bit_or a b) c) d) e
-    (either_word _ _ (bit_or (bit_or a b) c) d
-    (either_word _ _ (bit_or a b) c
-    (either_word _ _ a b king queen) rook) bishop) knight) pawn s on in
+    either_bitboard _ _ (bit_or (bit_or (bit_or (bit_or a b) c) d) e) f
+    (either_bitboard _ _ (bit_or (bit_or (bit_or a b) c) d) e
+    (either_bitboard _ _ (bit_or (bit_or a b) c) d
+    (either_bitboard _ _ (bit_or a b) c
+    (either_bitboard _ _ a b king queen) rook) bishop) knight) pawn s on in
     ((λ bit. occupied_six p side s (six.0 bit)), (λ held. six.1 (six_occupied p side s held)))
 
--- one square of a word is asked
-pub has_square : (A : Place → Type 0) (all word : ℕ) (s : Place) → IsOnBoard s
-    → word ≡ square_word s → IsWordOf A all
-    → (bit_and all word ≢ 0) ↔ A s
-has_square A all word s on is are = (
+-- one square of a bitboard is asked
+pub has_square : (A : Place → Type 0) (all bitboard : ℕ) (s : Place) → IsOnBoard s
+    → bitboard ≡ square_bitboard s → IsBitboardOf A all
+    → (bit_and all bitboard ≢ 0) ↔ A s
+has_square A all bitboard s on is are = (
   (λ some. elim (cases_Bool (has_bit all (index_of s))) [
     | inl bit ↦ (are s on).0 bit
-    | inr none ↦ absurd (some (common_none all word s is none))
+    | inr none ↦ absurd (some (common_none all bitboard s is none))
   ]),
-  (λ fact zero. common_some all word s is ((are s on).1 fact) zero),
+  (λ fact zero. common_some all bitboard s is ((are s on).1 fact) zero),
 )
 
 -- a square with a man of a side is not empty

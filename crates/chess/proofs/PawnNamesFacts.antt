@@ -7,7 +7,7 @@ use Rattle.chess.specs.Public.Squares.{IsOnBoard}
 use Rattle.chess.specs.Public.Placements.{man_at}
 use Rattle.chess.specs.Public.Positions.{State, pawn_of, IsSound}
 use Rattle.chess.specs.Public.Moves.{IsLegal, IsPromotion, IsPromotionKind, IsPawnMove, Goes}
-use Rattle.chess.specs.Public.Letters.{file_letter, square_text, is_check_mark}
+use Rattle.chess.specs.Public.Letters.{file_letter, square_text, is_check_sign}
 use Rattle.chess.specs.Public.San.{Said, Spells, Agrees, IsOnlyNamed, is_capture, pawn_text}
 use Rattle.chess.specs.Public.San.{promotion_text}
 use Rattle.chess.specs.Private.SanWords.{IsMoveSaid}
@@ -43,7 +43,7 @@ pawn_body capture m = (if capture then file_letter m.from.file ∷ 120 ∷ [] el
 
 pawn_spelled : (capture : Bool) (m : Move) (mark : List ℕ) → IsOnBoard m.from → IsOnBoard m.to
     → IfSome m.promote IsPromotionKind
-    → list_all is_check_mark mark ≡ true
+    → list_all is_check_sign mark ≡ true
     → Spells (pawn_body capture m ++ mark) (pawn_said capture m)
 pawn_spelled true m mark on there becomes marks = record {
   file = (on.file_low, on.file_high);
@@ -113,7 +113,7 @@ gives_none false m e = refl
 
 pub pawn_named : (P : State) (m : Move) (man : Man) (mark : List ℕ) → IsSound P → IsLegal P m
     → m.castle ≡ None
-    → man_at P.men m.from ≡ Some man → man.kind ≡ Pawn → list_all is_check_mark mark ≡ true
+    → man_at P.men m.from ≡ Some man → man.kind ≡ Pawn → list_all is_check_sign mark ≡ true
     → IsOnlyNamed P (pawn_text P m ++ mark) m
 pawn_named P m man mark sound legal castle here pawn marks =
     let capture = is_capture P m in

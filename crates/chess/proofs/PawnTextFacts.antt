@@ -21,20 +21,20 @@ use Rattle.chess.proofs.WayFacts.{same_back}
 
 -- ---- a step stays on its file, a capture does not
 
-hit_leaves : (a b : ℕ) → gap a b ≡ 1 → a ≡ b → ⊥
-hit_leaves a b apart same = omega arith
+attack_leaves : (a b : ℕ) → gap a b ≡ 1 → a ≡ b → ⊥
+attack_leaves a b apart same = omega arith
 
 step_of : (P : State) (m : Move) → IsPawnMove P m.from m.to → m.from.file ≡ m.to.file
     → IsSingleStep P m.from m.to ⊎ IsDoubleStep P m.from m.to
 step_of P m (inl single) same = inl single
 step_of P m (inr (inl double)) same = inr double
-step_of P m (inr (inr capture)) same = absurd (hit_leaves m.from.file m.to.file capture.0.0 same)
+step_of P m (inr (inr capture)) same = absurd (attack_leaves m.from.file m.to.file capture.0.0 same)
 
-hit_of : (P : State) (m : Move) → IsPawnMove P m.from m.to → (m.from.file ≡ m.to.file → ⊥)
+attack_of : (P : State) (m : Move) → IsPawnMove P m.from m.to → (m.from.file ≡ m.to.file → ⊥)
     → IsForward P.turn m.from.rank m.to.rank
-hit_of P m (inl single) other = absurd (other (sym single.0))
-hit_of P m (inr (inl double)) other = absurd (other (sym double.file))
-hit_of P m (inr (inr capture)) other = capture.0.1
+attack_of P m (inl single) other = absurd (other (sym single.0))
+attack_of P m (inr (inl double)) other = absurd (other (sym double.file))
+attack_of P m (inr (inr capture)) other = capture.0.1
 
 -- ---- a pawn takes where it changes its file, and nowhere else
 
@@ -72,8 +72,8 @@ passes : (P : State) (m : Move) → man_at P.men m.from ≡ Some (pawn_of P.turn
     → is_en_passant P m ≡ false → IsOccupiedBy P.men (opposite P.turn) m.to
 passes P m here (inl single) other e = absurd (other (sym single.0))
 passes P m here (inr (inl double)) other e = absurd (other (sym double.file))
-passes P m here (inr (inr (hit, inl held))) other e = held
-passes P m here (inr (inr (hit, inr square))) other e =
+passes P m here (inr (inr (attack, inl held))) other e = held
+passes P m here (inr (inr (attack, inr square))) other e =
     let pawn : is_pawn (man_at P.men m.from) ≡ true = ap is_pawn here in
     let aim : is_square P.en_passant m.to ≡ true =
     ap (λ o. is_square o m.to) square ∙ same_square-same m.to m.to refl in
@@ -107,11 +107,11 @@ pub same_capture : (P : State) (m n : Move) → IsPawnMove P m.from m.to → IsP
     → (m.from.file ≡ m.to.file → ⊥) → n.from ≡ m.from
 same_capture P m n goes others to file other =
     let there : IsForward P.turn n.from.rank n.to.rank =
-    hit_of P n others (λ same. other (sym file ∙ same ∙ ap (λ (s : Place). s.file) to)) in
+    attack_of P n others (λ same. other (sym file ∙ same ∙ ap (λ (s : Place). s.file) to)) in
     place_of n.from m.from file
     (same_back P.turn n.from.rank m.from.rank m.to.rank
     (subst (λ (s : Place). IsForward P.turn n.from.rank s.rank) to there)
-    (hit_of P m goes other))
+    (attack_of P m goes other))
 
 -- the square that a double step passes over is empty
 over_pawn : (P : State) (s t : Place) (own : Man) → man_at P.men s ≡ Some own → t.file ≡ s.file

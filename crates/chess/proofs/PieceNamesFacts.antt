@@ -8,7 +8,7 @@ use Rattle.chess.specs.Public.Squares.{IsOnBoard}
 use Rattle.chess.specs.Public.Placements.{man_at}
 use Rattle.chess.specs.Public.Positions.{State}
 use Rattle.chess.specs.Public.Moves.{IsLegal}
-use Rattle.chess.specs.Public.Letters.{kind_letter, square_text, is_check_mark, is_sign}
+use Rattle.chess.specs.Public.Letters.{kind_letter, square_text, is_check_sign, is_sign}
 use Rattle.chess.specs.Public.San.{Said, Spells, Agrees, IsOnlyNamed, IsRival, IsPieceText}
 use Rattle.chess.specs.Public.San.{is_capture, capture_text, file_text, rank_text}
 use Rattle.chess.specs.Private.SanWords.{IsMoveSaid}
@@ -40,7 +40,7 @@ piece_said m piece file rank =
 
 piece_spelled : (P : State) (m : Move) (piece : Kind) (file rank : Option ℕ) (mark : List ℕ)
     → IsOnBoard m.from → IsOnBoard m.to
-    → IsSaid P m file rank → list_all is_check_mark mark ≡ true
+    → IsSaid P m file rank → list_all is_check_sign mark ≡ true
     → Spells ((kind_letter piece
     ∷ ((file_text file ++ rank_text rank) ++ (capture_text P m ++ square_text m.to)))
     ++ mark) (piece_said m piece file rank)
@@ -90,7 +90,7 @@ plain_piece P m man legal here no_pawn =
 
 pub piece_named : (P : State) (m : Move) (man : Man) (body mark : List ℕ) → IsLegal P m
     → m.castle ≡ None → man_at P.men m.from ≡ Some man
-    → (man.kind ≡ Pawn → ⊥) → IsPieceText P m man.kind body → list_all is_check_mark mark ≡ true
+    → (man.kind ≡ Pawn → ⊥) → IsPieceText P m man.kind body → list_all is_check_sign mark ≡ true
     → IsOnlyNamed P (body ++ mark) m
 piece_named P m man body mark legal castle here no_pawn text marks =
     let own = reports P m text.0 text.1 in

@@ -4,7 +4,7 @@ use Rattle.std.proofs.Common.{Some, None, IfSome, MatchOption, List, [], ◌∷�
 use Rattle.std.proofs.lemmas.Option.{same_Some}
 use Rattle.chess.specs.Public.San.{Said, Spells}
 use Rattle.chess.specs.Private.SanWords.{is_of, said_by, IsReadSaid, SaysPlainly, SaysPawnTakes}
-use Rattle.chess.specs.Private.SanWords.{IsBeforeMarks}
+use Rattle.chess.specs.Private.SanWords.{IsBeforeCheckSigns}
 use Rattle.chess.specs.declared.move_text.read.parse.ByteClass.TheVariants.{Digit, FileLetter}
 use Rattle.chess.specs.declared.move_text.read.parse.ByteClass.TheVariants.{KindLetter, Sign}
 use Rattle.chess.specs.declared.move_text.read.parse.ParsedSan.{ParsedSan}
@@ -74,7 +74,7 @@ four_bytes (a ∷ b ∷ c ∷ d ∷ e ∷ x) least less = absurd (omega arith)
 -- ---- before marks
 
 -- a text of these bytes and marks says just what they say
-bytes_read : (x y : List ℕ) (b : Bytes) (r : ParsedSan) → AreBytes b → IsBeforeMarks x y
+bytes_read : (x y : List ℕ) (b : Bytes) (r : ParsedSan) → AreBytes b → IsBeforeCheckSigns x y
     → y ≡ stem_text b → said_by r ≡ said_of b → IsReadSaid x (Some r)
 bytes_read x y b r are marked e says said =
     let own : Spells x (said_by r) =
@@ -90,20 +90,22 @@ stem_plain None file rank = refl
 stem_plain (Some b) file rank = refl
 
 plainly_marked : (x y : List ℕ) (letter : Option ℕ) (file rank : ℕ) (r : ParsedSan)
-    → IsBeforeMarks x y → y ≡ given letter ++ file ∷ rank ∷ []
+    → IsBeforeCheckSigns x y → y ≡ given letter ++ file ∷ rank ∷ []
     → SaysPlainly letter file rank r → IsReadSaid x (Some r)
 plainly_marked x y letter file rank r marked e says =
     bytes_read x y (plain_bytes letter file rank) r
     (plain_are letter file rank says.0 says.1 says.2) marked (e
     ∙ stem_plain letter file rank) says.3
 
-pub two_marked : (x y : List ℕ) (r : ParsedSan) → IsBeforeMarks x y → 2 ≤ length y → length y < 3
+pub two_marked : (x y : List ℕ) (r : ParsedSan) → IsBeforeCheckSigns x y → 2 ≤ length y
+    → length y < 3
     → SaysPlainly None (get_or y 0 0) (get_or y 1 0) r
     → IsReadSaid x (Some r)
 two_marked x y r marked least less says =
     plainly_marked x y None (get_or y 0 0) (get_or y 1 0) r marked (two_bytes y least less) says
 
-pub three_marked : (x y : List ℕ) (r : ParsedSan) → IsBeforeMarks x y → 3 ≤ length y → length y < 4
+pub three_marked : (x y : List ℕ) (r : ParsedSan) → IsBeforeCheckSigns x y → 3 ≤ length y
+    → length y < 4
     → SaysPlainly (Some (get_or y 0 0)) (get_or y 1 0) (get_or y 2 0) r → IsReadSaid x (Some r)
 three_marked x y r marked least less says =
     plainly_marked x y (Some (get_or y 0 0)) (get_or y 1 0) (get_or y 2 0) r marked
@@ -140,7 +142,8 @@ taking_are letter from sign file rank is_letter is_from is_x is_file is_rank = r
   plain = λ e. refl;
 }
 
-pub piece_takes : (x y : List ℕ) (r : ParsedSan) → IsBeforeMarks x y → 4 ≤ length y → length y < 5
+pub piece_takes : (x y : List ℕ) (r : ParsedSan) → IsBeforeCheckSigns x y → 4 ≤ length y
+    → length y < 5
     → get_or y 1 0 ≡ 120
     → SaysPlainly (Some (get_or y 0 0)) (get_or y 2 0) (get_or y 3 0) r → IsReadSaid x (Some r)
 piece_takes x y r marked least less is_x says =
@@ -149,7 +152,8 @@ piece_takes x y r marked least less is_x says =
     (taking_are (Some (get_or y 0 0)) None (get_or y 1 0) (get_or y 2 0) (get_or y 3 0) says.0 tt
     is_x says.1 says.2) marked (four_bytes y least less) says.3
 
-pub pawn_takes : (x y : List ℕ) (r : ParsedSan) → IsBeforeMarks x y → 4 ≤ length y → length y < 5
+pub pawn_takes : (x y : List ℕ) (r : ParsedSan) → IsBeforeCheckSigns x y → 4 ≤ length y
+    → length y < 5
     → get_or y 1 0 ≡ 120
     → SaysPawnTakes (get_or y 0 0) (get_or y 2 0) (get_or y 3 0) r → IsReadSaid x (Some r)
 pawn_takes x y r marked least less is_x says =

@@ -14,7 +14,7 @@ use Rattle.chess.proofs.AxisSteps.{IsMoving, steps_of, straight_or_not, axis_lev
 use Rattle.chess.specs.declared.board.man.Side.{Side}
 use Rattle.chess.specs.declared.board.man.Kind.{Kind}
 use Rattle.chess.specs.declared.board.man.Kind.TheVariants.{King, Queen, Rook, Bishop, Knight, Pawn}
-use Rattle.chess.proofs.LeaperFacts.{is_near, is_jump, is_pawn_hit, near_is, jump_is, pawn_is}
+use Rattle.chess.proofs.LeaperFacts.{is_near, is_jump, is_pawn_attack, near_is, jump_is, pawn_is}
 
 -- ---- tests of two squares
 abbrev pub on_file : Place → Place → Bool
@@ -41,7 +41,7 @@ sees side Queen s t = straight s t || diagonal s t
 sees side Rook s t = straight s t
 sees side Bishop s t = diagonal s t
 sees side Knight s t = is_jump s t
-sees side Pawn s t = is_pawn_hit side s t
+sees side Pawn s t = is_pawn_attack side s t
 
 -- ---- what they say
 

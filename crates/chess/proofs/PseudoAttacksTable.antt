@@ -1,12 +1,12 @@
 -- The tables of the squares from which men see a square.
 use Rattle.std.proofs.Common.{◌≡◌, true, refl, get_or, []}
-use Rattle.chess.specs.Private.BitWords.{pseudo_attacks_row_of}
+use Rattle.chess.specs.Private.Bitboards.{pseudo_attacks_row_of}
 use Rattle.chess.specs.declared.board.attack_tables.pseudo_attacks_table.TheConstants.{PSEUDO_ATTACKS}
 use Rattle.chess.specs.declared.board.man.Side.{Side}
 use Rattle.chess.specs.declared.board.man.Side.TheVariants.{White, Black}
 use Rattle.chess.specs.declared.board.man.Kind.{Kind}
 use Rattle.chess.specs.declared.board.man.Kind.TheVariants.{King, Queen, Rook, Bishop, Knight, Pawn}
-use Rattle.chess.proofs.LeaperFacts.{is_near, is_jump, is_pawn_hit}
+use Rattle.chess.proofs.LeaperFacts.{is_near, is_jump, is_pawn_attack}
 use Rattle.chess.proofs.PseudoAttackFacts.{sees}
 use Rattle.chess.proofs.TableFacts.{fits_table}
 
@@ -28,25 +28,25 @@ unfolding is_jump
 knights_fit = refl
 
 white_pawns_fit : fits_table (get_or PSEUDO_ATTACKS 5 []) (sees White Pawn) ≡ true
-unfolding is_pawn_hit
+unfolding is_pawn_attack
 white_pawns_fit = refl
 
 black_pawns_fit : fits_table (get_or PSEUDO_ATTACKS 6 []) (sees Black Pawn) ≡ true
-unfolding is_pawn_hit
+unfolding is_pawn_attack
 black_pawns_fit = refl
 
-pub hits_fit : (side : Side) (kind : Kind)
+pub attacks_fit : (side : Side) (kind : Kind)
     → fits_table (get_or PSEUDO_ATTACKS (pseudo_attacks_row_of side kind) []) (sees side kind)
     ≡ true
-hits_fit White King = kings_fit
-hits_fit White Queen = queens_fit
-hits_fit White Rook = rooks_fit
-hits_fit White Bishop = bishops_fit
-hits_fit White Knight = knights_fit
-hits_fit White Pawn = white_pawns_fit
-hits_fit Black King = kings_fit
-hits_fit Black Queen = queens_fit
-hits_fit Black Rook = rooks_fit
-hits_fit Black Bishop = bishops_fit
-hits_fit Black Knight = knights_fit
-hits_fit Black Pawn = black_pawns_fit
+attacks_fit White King = kings_fit
+attacks_fit White Queen = queens_fit
+attacks_fit White Rook = rooks_fit
+attacks_fit White Bishop = bishops_fit
+attacks_fit White Knight = knights_fit
+attacks_fit White Pawn = white_pawns_fit
+attacks_fit Black King = kings_fit
+attacks_fit Black Queen = queens_fit
+attacks_fit Black Rook = rooks_fit
+attacks_fit Black Bishop = bishops_fit
+attacks_fit Black Knight = knights_fit
+attacks_fit Black Pawn = black_pawns_fit

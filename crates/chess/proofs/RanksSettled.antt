@@ -51,7 +51,8 @@ by_letter b x k (man, (is, low, (more, spells, size))) =
 
 by_step : (b : ℕ) (x : List ℕ) (k : ℕ) → ByStep b x k → SpellsMany (b ∷ x) k
 by_step b x k (n, less, (low, is, (more, spells, size))) =
-    let steps = subst (λ c. IsSquares c (replicate n None)) (sym is) (step n low.0 (omega arith)) in (
+    let steps =
+    subst (λ c. IsSquares c (replicate n None)) (sym is) (step n low.0 (omega arith)) in (
       replicate n None ++ more,
       (replicate n None, more, refl, steps, spells),
       (let high = low.1 in

@@ -4,9 +4,9 @@ use Rattle.std.proofs.Common.{List, ◌++◌}
 use Rattle.std.specs.List.{list_all}
 use Rattle.chess.specs.Public.Positions.{State, IsSound}
 use Rattle.chess.specs.Public.Moves.{after, IsLegal}
-use Rattle.chess.specs.Public.Letters.{is_check_mark}
-use Rattle.chess.specs.Public.San.{IsOnlyNamed, IsPieceText, IsBody, IsCheckMark, IsSan, pawn_text}
-use Rattle.chess.specs.Public.San.IsCheckMark.{mate, check, quiet}
+use Rattle.chess.specs.Public.Letters.{is_check_sign}
+use Rattle.chess.specs.Public.San.{IsOnlyNamed, IsPieceText, IsBody, IsCheckSign, IsSan, pawn_text}
+use Rattle.chess.specs.Public.San.IsCheckSign.{mate, check, quiet}
 use Rattle.chess.specs.declared.board.man.Kind.{Kind}
 use Rattle.chess.specs.declared.board.man.Kind.TheVariants.{King, Queen, Rook, Bishop, Knight, Pawn}
 use Rattle.chess.specs.declared.moves.Move.{Move}
@@ -14,7 +14,7 @@ use Rattle.chess.proofs.SaidNamesFacts.{castling_named}
 use Rattle.chess.proofs.PieceNamesFacts.{piece_named}
 use Rattle.chess.proofs.PawnNamesFacts.{pawn_named}
 
-marks_are : (P : State) (mark : List ℕ) → IsCheckMark P mark → list_all is_check_mark mark ≡ true
+marks_are : (P : State) (mark : List ℕ) → IsCheckSign P mark → list_all is_check_sign mark ≡ true
 marks_are P _ (mate mated) = refl
 marks_are P _ (check in_check other) = refl
 marks_are P _ (quiet calm) = refl

@@ -5,9 +5,9 @@ use Rattle.std.proofs.lemmas.Option.{same_Some}
 use Rattle.chess.specs.Public.Positions.{State}
 use Rattle.chess.specs.Public.Moves.{after}
 use Rattle.chess.specs.Public.Letters.{kind_letter, square_text}
-use Rattle.chess.specs.Public.San.{IsDisambiguation, IsBody, IsCheckMark, IsSan, capture_text}
+use Rattle.chess.specs.Public.San.{IsDisambiguation, IsBody, IsCheckSign, IsSan, capture_text}
 use Rattle.chess.specs.Public.San.IsDisambiguation.{alone, by_file, by_rank, by_both}
-use Rattle.chess.specs.Public.San.IsCheckMark.{mate, check, quiet}
+use Rattle.chess.specs.Public.San.IsCheckSign.{mate, check, quiet}
 use Rattle.chess.specs.declared.board.man.Man.{Man}
 use Rattle.chess.specs.declared.board.man.Kind.{Kind}
 use Rattle.chess.specs.declared.board.man.Kind.TheVariants.{King, Queen, Rook, Bishop, Knight, Pawn}
@@ -33,7 +33,7 @@ one_origin P m _ _ (by_both file rank) (by_file some other) = absurd (other file
 one_origin P m _ _ (by_both file rank) (by_rank also other) = absurd (other rank)
 one_origin P m _ _ (by_both file rank) (by_both also too) = refl
 
-one_mark : (P : State) (x y : List ℕ) → IsCheckMark P x → IsCheckMark P y → x ≡ y
+one_mark : (P : State) (x y : List ℕ) → IsCheckSign P x → IsCheckSign P y → x ≡ y
 one_mark P _ _ (mate mated) (mate also) = refl
 one_mark P _ _ (mate mated) (check also other) = absurd (other mated)
 one_mark P _ _ (mate mated) (quiet calm) = absurd (calm mated.0)

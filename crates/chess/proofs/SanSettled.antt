@@ -9,9 +9,9 @@ use Rattle.chess.specs.Public.Positions.{State}
 use Rattle.chess.specs.Public.Moves.{after}
 use Rattle.chess.specs.Public.Letters.{kind_letter, file_letter, rank_digit, square_text}
 use Rattle.chess.specs.Public.San.{IsRival, HasRival, IsDisambiguation, IsPieceText, IsBody}
-use Rattle.chess.specs.Public.San.{IsCheckMark, castling_text, capture_text, pawn_text}
+use Rattle.chess.specs.Public.San.{IsCheckSign, castling_text, capture_text, pawn_text}
 use Rattle.chess.specs.Public.San.IsDisambiguation.{alone, by_file, by_rank, by_both}
-use Rattle.chess.specs.Public.San.IsCheckMark.{mate, check, quiet}
+use Rattle.chess.specs.Public.San.IsCheckSign.{mate, check, quiet}
 use Rattle.chess.specs.Public.Laws.{EachMoveHasAText}
 use Rattle.chess.specs.declared.board.man.Kind.{Kind}
 use Rattle.chess.specs.declared.board.man.Kind.TheVariants.{King, Queen, Rook, Bishop, Knight, Pawn}
@@ -76,7 +76,7 @@ some_body P m None Rook on_board = some_piece P m Rook on_board
 some_body P m None Bishop on_board = some_piece P m Bishop on_board
 some_body P m None Knight on_board = some_piece P m Knight on_board
 
-some_mark : (P : State) → AreOnBoard P.men → (x : List ℕ) × IsCheckMark P x
+some_mark : (P : State) → AreOnBoard P.men → (x : List ℕ) × IsCheckSign P x
 some_mark P on_board = elim (settled_check P.men P.turn on_board) [
   | inr calm ↦ ([], quiet calm)
   | inl in_check ↦ elim (settled_mate P on_board) [

@@ -9,10 +9,10 @@ use Rattle.chess.specs.Public.Positions.{State, IsSound, king_of}
 use Rattle.chess.specs.Public.Moves.{Goes, IsPseudoLegal, after}
 use Rattle.chess.specs.Public.Letters.{file_letter, kind_letter, rank_digit, square_text}
 use Rattle.chess.specs.Public.San.{IsRival, HasRival, IsDisambiguation, IsPieceText, IsBody}
-use Rattle.chess.specs.Public.San.{IsCheckMark, IsSan, capture_text}
+use Rattle.chess.specs.Public.San.{IsCheckSign, IsSan, capture_text}
 use Rattle.chess.specs.Public.San.IsDisambiguation.{alone, by_file, by_rank, by_both}
 use Rattle.chess.specs.Public.Sets.{Places, is_in, no_places, HoldsExactly, IsAttacker}
-use Rattle.chess.specs.Shared.SetWords.{IsTakenFirst}
+use Rattle.chess.specs.Shared.SetBitboards.{IsTakenFirst}
 use Rattle.chess.specs.Private.MoveWords.{HasEach}
 use Rattle.chess.specs.Private.SanTextWords.{Appends, AreOf, HasSquare, AreRivalsSifted}
 use Rattle.chess.specs.declared.board.man.Man.{Man}
@@ -140,9 +140,11 @@ pub rivals_more : (P : State) (m : Move) (man : Man) (old new found more : Place
     → IsTrue test ↔ IsRival P m t
     → ((s : Place) → is_in more s ≡ ((test && same_square t s) || is_in found s))
     → AreRivalsSifted P m man new more
-rivals_more P m man old new found more t test so_far taken tested put = record {
-  sifted = sifted_more (IsRival P m) old new found more t test so_far.sifted taken tested put;
-  alike = left_more (λ s. man_at P.men s ≡ Some man) (λ s. ⊥) old new t so_far.alike taken (λ clash.
+rivals_more P m man old new found more t test so_far capture_square tested put = record {
+  sifted =
+      sifted_more (IsRival P m) old new found more t test so_far.sifted capture_square tested put;
+  alike = left_more (λ s. man_at P.men s ≡ Some man) (λ s.
+      ⊥) old new t so_far.alike capture_square (λ clash.
       clash);
 }
 
@@ -231,13 +233,13 @@ lone_piece P m kind letter old lettered crossed new piece lone is_letter first s
 pub lone_san : (P next : State) (m : Move) (man : Man) (cleared body new : List ℕ) → m.castle ≡ None
     → man_at P.men m.from ≡ Some man → cleared ≡ []
     → Appends (IsBody P m None man.kind) cleared body → next ≡ after P m
-    → Appends (IsCheckMark next) body new → IsSan P m new
+    → Appends (IsCheckSign next) body new → IsSan P m new
 lone_san P next m man cleared body new plain here none appended is_next marked = record {
   man = man;
   here = here;
   body = appended.0;
   body_is = subst (λ castle. IsBody P m castle man.kind appended.0) (sym plain) appended.1;
   mark = marked.0;
-  mark_is = subst (λ S. IsCheckMark S marked.0) is_next marked.1;
+  mark_is = subst (λ S. IsCheckSign S marked.0) is_next marked.1;
   text = marked.2 ∙ ap (λ x. x ++ marked.0) (appended.2 ∙ ap (λ x. x ++ appended.0) none);
 }

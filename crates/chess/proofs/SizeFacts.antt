@@ -1,11 +1,11 @@
--- How many squares a word shows.
+-- How many squares a bitboard shows.
 use Rattle.std.proofs.Common.{◌≡◌, ◌<◌, ◌≤◌, ◌+◌, ◌*◌, ◌/◌, ◌%◌, ◌^◌, ℕ, zero, suc, inl, inr, ap}
 use Rattle.std.proofs.Common.{◌∙◌, arith, bit_and, count_ones}
 use Rattle.std.proofs.lemmas.Bool.{cases_eq}
 use Rattle.std.proofs.lemmas.Nat.{ones_cat, ones_le_self, zero_from_ones, shr-shr}
 use Rattle.std.proofs.lemmas.Nat.Bits.{shr_and_one}
 use Rattle.chess.specs.Public.Sets.{size_of}
-use Rattle.chess.specs.Shared.SetWords.{first_places, places_of, has_bit}
+use Rattle.chess.specs.Shared.SetBitboards.{first_places, places_of, has_bit}
 use Rattle.chess.specs.Shared.SetFacts.{size-no_places, size-next_bit}
 
 ones_low : (b : ℕ) → b < 2 → count_ones b ≡ b
@@ -23,28 +23,30 @@ ones_half n =
     ∙ ap (λ m. count_ones (n / 2) + m) (ones_low (n % 2) (omega arith))
 
 -- the bits below the nth are the first squares, and those from it on are left
-size_ones : (word n : ℕ) → n ≤ 64 → size_of (first_places (has_bit word) n)
-    + count_ones (word / 2 ^ n) ≡ count_ones word
-size_ones word zero h =
-    let none = size-no_places (has_bit word) in
-    let whole : word / 2 ^ 0 ≡ word = omega arith in
-    let same : count_ones (word / 2 ^ 0) ≡ count_ones word = ap count_ones whole in
+size_ones : (bitboard n : ℕ) → n ≤ 64 → size_of (first_places (has_bit bitboard) n)
+    + count_ones (bitboard / 2 ^ n) ≡ count_ones bitboard
+size_ones bitboard zero h =
+    let none = size-no_places (has_bit bitboard) in
+    let whole : bitboard / 2 ^ 0 ≡ bitboard = omega arith in
+    let same : count_ones (bitboard / 2 ^ 0) ≡ count_ones bitboard = ap count_ones whole in
     omega arith
-size_ones word (suc n) h =
-    let before = size_ones word n (omega arith) in
-    let bit = shr_and_one word n in
-    let next : size_of (first_places (has_bit word) (suc n))
-    ≡ size_of (first_places (has_bit word) n) + bit_and (word / 2 ^ n) 1 =
-    ap (λ m. size_of (first_places (has_bit word) m)) (omega arith)
-    ∙ size-next_bit word n (omega arith) in
-    let half = ones_half (word / 2 ^ n) in
-    let left : count_ones (word / 2 ^ n / 2) ≡ count_ones (word / 2 ^ suc n) =
-    ap count_ones (shr-shr word n 1 ∙ ap (λ m. word / 2 ^ m) (omega arith)) in
+size_ones bitboard (suc n) h =
+    let before = size_ones bitboard n (omega arith) in
+    let bit = shr_and_one bitboard n in
+    let next : size_of (first_places (has_bit bitboard) (suc n))
+    ≡ size_of (first_places (has_bit bitboard) n) + bit_and (bitboard / 2 ^ n) 1 =
+    ap (λ m. size_of (first_places (has_bit bitboard) m)) (omega arith)
+    ∙ size-next_bit bitboard n (omega arith) in
+    let half = ones_half (bitboard / 2 ^ n) in
+    let left : count_ones (bitboard / 2 ^ n / 2) ≡ count_ones (bitboard / 2 ^ suc n) =
+    ap count_ones (shr-shr bitboard n 1 ∙ ap (λ m. bitboard / 2 ^ m) (omega arith)) in
     omega arith
 
-pub ones-size : (word : ℕ) → word < 2 ^ 64 → count_ones word ≡ size_of (places_of (has_bit word))
-ones-size word fits =
-    let all = size_ones word 64 (omega arith) in
-    let none : word / 2 ^ 64 ≡ 0 = omega arith in
-    let no_ones : count_ones (word / 2 ^ 64) ≡ 0 = ap count_ones none ∙ ones_low 0 (omega arith) in
+pub ones-size : (bitboard : ℕ) → bitboard < 2 ^ 64
+    → count_ones bitboard ≡ size_of (places_of (has_bit bitboard))
+ones-size bitboard fits =
+    let all = size_ones bitboard 64 (omega arith) in
+    let none : bitboard / 2 ^ 64 ≡ 0 = omega arith in
+    let no_ones : count_ones (bitboard / 2 ^ 64) ≡ 0 =
+    ap count_ones none ∙ ones_low 0 (omega arith) in
     omega arith

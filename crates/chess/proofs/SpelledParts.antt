@@ -6,7 +6,7 @@ use Rattle.std.specs.Prelude.{if◌then◌else◌}
 use Rattle.std.specs.List.{list_all}
 use Rattle.std.proofs.lemmas.List.{append_assoc, append-nil, reverse-reverse}
 use Rattle.std.proofs.lemmas.Bool.Decides.{nat_tests}
-use Rattle.chess.specs.Public.Letters.{is_check_mark, is_sign, kind_letter, file_letter, rank_digit}
+use Rattle.chess.specs.Public.Letters.{is_check_sign, is_sign, kind_letter, file_letter, rank_digit}
 use Rattle.chess.specs.Public.San.{Said, Spells, letter_text, file_text, rank_text, promotion_text}
 use Rattle.chess.specs.Public.San.{IsFileOrRank}
 use Rattle.chess.specs.Public.Moves.{IsPromotionKind}
@@ -95,7 +95,7 @@ found_whole y file rank has_rank has_file rest =
 
 pub found_text : (x : List ℕ) (file rank : ℕ) → last_of Digit (stem (reverse x)) ≡ Some rank
     → last_of FileLetter (after_target_rank (reverse x)) ≡ Some file
-    → after_letter (reverse x) ≡ [] → (marks : List ℕ) × IsTrue (list_all is_check_mark marks)
+    → after_letter (reverse x) ≡ [] → (marks : List ℕ) × IsTrue (list_all is_check_sign marks)
     × (x ≡ stem_text (found_bytes (reverse x) file rank) ++ marks)
 found_text x file rank has_rank has_file rest =
     let b = found_bytes (reverse x) file rank in
@@ -212,7 +212,7 @@ parts_joined : (b : Bytes) (marks : List ℕ) → stem_text b ++ marks
 parts_joined b marks = simp (append_assoc)
 
 pub spelled_parts : (x marks : List ℕ) (b : Bytes) → AreBytes b
-    → IsTrue (list_all is_check_mark marks) → x ≡ stem_text b ++ marks → Spells x (said_of b)
+    → IsTrue (list_all is_check_sign marks) → x ≡ stem_text b ++ marks → Spells x (said_of b)
 spelled_parts x marks b are all e =
     let letter = letter_given b.letter are.letter in
     let file = file_given b.file are.file in
@@ -348,7 +348,7 @@ pub record AreSaidBytes (x : List ℕ) (said : Said) : Type 0 where
   pub bytes : Bytes
   pub marks : List ℕ
   pub are : AreBytes bytes
-  pub all : IsTrue (list_all is_check_mark marks)
+  pub all : IsTrue (list_all is_check_sign marks)
   pub text : x ≡ stem_text bytes ++ marks
   pub back : said ≡ said_of bytes
 

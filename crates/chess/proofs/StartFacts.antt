@@ -211,15 +211,15 @@ ray_ends NorthWest s low ray =
     )
 ray_ends way s low ray = let b = ray.ahead.1 in omega arith
 
-no_hit : (other : Kind) (s : Place) → s.rank ≤ 2
+no_attack : (other : Kind) (s : Place) → s.rank ≤ 2
     → Reaches initial_men White other s (king_from Black) → ⊥
-no_hit King s low h = let a = h.1 in omega arith
-no_hit Queen s low h = ray_ends h.0 s low h.1
-no_hit Rook s low h = ray_ends h.0 s low h.2
-no_hit Bishop s low h = ray_ends h.0 s low h.2
-no_hit Knight s low h =
+no_attack King s low h = let a = h.1 in omega arith
+no_attack Queen s low h = ray_ends h.0 s low h.1
+no_attack Rook s low h = ray_ends h.0 s low h.2
+no_attack Bishop s low h = ray_ends h.0 s low h.2
+no_attack Knight s low h =
     elim h [ inl a ↦ let b = a.1 in omega arith | inr a ↦ let b = a.1 in omega arith ]
-no_hit Pawn s low h = let a = h.1 in omega arith
+no_attack Pawn s low h = let a = h.1 in omega arith
 
 white_low : (s : Place) (man : Man) → man_at initial_men s ≡ Some man → man.side ≡ White
     → s.rank ≤ 2
@@ -234,9 +234,10 @@ white_low s man here own =
 initial_quiet : IsCheck initial_men Black → ⊥
 initial_quiet check =
     let at_e8 : check.0 ≡ king_from Black = black_king.only check.0 check.1 in
-    let hit : IsAttacked initial_men White (king_from Black) =
+    let attack : IsAttacked initial_men White (king_from Black) =
     subst (IsAttacked initial_men White) at_e8 check.2 in
-    no_hit hit.man.kind hit.from (white_low hit.from hit.man hit.here hit.own) hit.reaches
+    no_attack attack.man.kind attack.from (white_low attack.from attack.man attack.here attack.own)
+    attack.reaches
 
 -- ---- rights
 

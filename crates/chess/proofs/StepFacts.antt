@@ -1,10 +1,10 @@
--- One step of a word is the next square on its way, or none: computed for each square and way.
+-- One step of a bitboard is the next square on its way, or none: computed for each square and way.
 use Rattle.std.proofs.Common.{◌≡◌, ◌<◌, ◌-◌, ◌^◌, ◌%◌, ◌/◌, ℕ, Bool, true, false, nat_eq, inl, inr}
 use Rattle.std.proofs.Common.{ap, refl, sym, subst, ◌∙◌, arith, if◌then◌else◌}
 use Rattle.std.proofs.lemmas.Bool.{agree_below, agree_below_at, eqb-true, false≢true}
 use Rattle.chess.specs.Public.Squares.{Place, IsOnBoard, index_of}
 use Rattle.chess.specs.Shared.SetFacts.{index_of-below}
-use Rattle.chess.specs.Private.BitWords.{square_word, step_word, IsNextWord}
+use Rattle.chess.specs.Private.Bitboards.{square_bitboard, step_bitboard, IsNextBitboard}
 use Rattle.chess.specs.declared.board.direction.Direction.{Direction}
 use Rattle.chess.specs.declared.board.direction.Direction.TheVariants.{North}
 use Rattle.chess.proofs.AxisSteps.{has_room, place_to, ahead_at, room_from, room_to, room_at}
@@ -12,7 +12,7 @@ use Rattle.chess.proofs.AxisSteps.{ahead_index}
 
 fits_step : Direction → ℕ → Bool
 fits_step way n =
-    nat_eq (step_word way (2 ^ n)) (if has_room way (n % 8) (n / 8) 1 then 2 ^ ahead_at way n 1
+    nat_eq (step_bitboard way (2 ^ n)) (if has_room way (n % 8) (n / 8) 1 then 2 ^ ahead_at way n 1
     else 0)
 
 steps_fit : (way : Direction) → agree_below (fits_step way) (λ _. true) 64 ≡ true
@@ -21,22 +21,23 @@ steps_fit North = refl
 steps_fit way = refl
 
 step_at : (way : Direction) (n : ℕ) → n < 64
-    → step_word way (2 ^ n) ≡ (if has_room way (n % 8) (n / 8) 1 then 2 ^ ahead_at way n 1 else 0)
+    → step_bitboard way (2 ^ n)
+    ≡ (if has_room way (n % 8) (n / 8) 1 then 2 ^ ahead_at way n 1 else 0)
 unfolding fits_step
 step_at way n h = eqb-true _ _ (agree_below_at (fits_step way) (λ _. true) 64 n (steps_fit way) h)
 
--- a step from the word of a square
+-- a step from the bitboard of a square
 step_square : (way : Direction) (s : Place) → IsOnBoard s
-    → step_word way (square_word s)
+    → step_bitboard way (square_bitboard s)
     ≡ (if has_room way (s.file - 1) (s.rank - 1) 1 then 2 ^ ahead_at way (index_of s) 1 else 0)
 step_square way s h =
     step_at way (index_of s) (index_of-below s h)
     ∙ ap (λ b. if b then 2 ^ ahead_at way (index_of s) 1 else 0) (room_at way 1 s h)
 
-next_word : (way : Direction) (s : Place) → IsOnBoard s → (b : Bool)
+next_bitboard : (way : Direction) (s : Place) → IsOnBoard s → (b : Bool)
     → has_room way (s.file - 1) (s.rank - 1) 1 ≡ b
-    → (w : ℕ) → w ≡ (if b then 2 ^ ahead_at way (index_of s) 1 else 0) → IsNextWord way s w
-next_word way s h true e w is =
+    → (w : ℕ) → w ≡ (if b then 2 ^ ahead_at way (index_of s) 1 else 0) → IsNextBitboard way s w
+next_bitboard way s h true e w is =
     let next = room_to way 1 1 s (omega arith) h e in
     inl (
       place_to way 1 s,
@@ -45,17 +46,20 @@ next_word way s h true e w is =
       is
           ∙ ap (λ n. 2 ^ n) (sym (ahead_index way 1 s (place_to way 1 s) h next.0 next.1)),
     )
-next_word way s h false e w is =
+next_bitboard way s h false e w is =
     inr ((λ t on ahead. false≢true (sym e ∙ room_from way 1 s t h on ahead)), is)
 
-pub step_next : (way : Direction) (word : ℕ) (s : Place) → IsOnBoard s → word ≡ square_word s
-    → IsNextWord way s (step_word way word)
-step_next way word s h e =
-    next_word way s h (has_room way (s.file - 1) (s.rank - 1) 1) refl (step_word way word)
-    (ap (step_word way) e ∙ step_square way s h)
+pub step_next : (way : Direction) (bitboard : ℕ) (s : Place) → IsOnBoard s
+    → bitboard ≡ square_bitboard s
+    → IsNextBitboard way s (step_bitboard way bitboard)
+step_next way bitboard s h e =
+    next_bitboard way s h (has_room way (s.file - 1) (s.rank - 1) 1) refl
+    (step_bitboard way bitboard)
+    (ap (step_bitboard way) e ∙ step_square way s h)
 
 -- the same where the way is known by an equation
-pub step_by : (way other : Direction) (word : ℕ) (s : Place) → way ≡ other → IsOnBoard s
-    → word ≡ square_word s → IsNextWord way s (step_word other word)
-step_by way other word s e h at =
-    subst (λ (d : Direction). IsNextWord way s (step_word d word)) e (step_next way word s h at)
+pub step_by : (way other : Direction) (bitboard : ℕ) (s : Place) → way ≡ other → IsOnBoard s
+    → bitboard ≡ square_bitboard s → IsNextBitboard way s (step_bitboard other bitboard)
+step_by way other bitboard s e h at =
+    subst (λ (d : Direction). IsNextBitboard way s (step_bitboard d bitboard)) e
+    (step_next way bitboard s h at)

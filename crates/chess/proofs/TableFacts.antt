@@ -2,21 +2,21 @@
 use Rattle.std.proofs.Common.{◌≡◌, ℕ, Bool, true, get_or, List, ◌∙◌}
 use Rattle.std.proofs.lemmas.Bool.{agree_below, agree_below_at}
 use Rattle.chess.specs.Public.Squares.{Place, IsOnBoard, square_at, index_of}
-use Rattle.chess.specs.Shared.SetWords.{has_bit}
+use Rattle.chess.specs.Shared.SetBitboards.{has_bit}
 use Rattle.chess.specs.Shared.SetFacts.{square_at-index_of, index_of-below}
-use Rattle.chess.proofs.LeaperFacts.{fits_word}
+use Rattle.chess.proofs.LeaperFacts.{fits_bitboard}
 
 -- each of 64 words of a table has the squares that pass the test with its own square
 abbrev pub fits_table : List ℕ → (Place → Place → Bool) → Bool
 fits_table table test =
-    agree_below (λ t. fits_word (get_or table t 0) (λ s. test s (square_at t))) (λ _. true) 64
+    agree_below (λ t. fits_bitboard (get_or table t 0) (λ s. test s (square_at t))) (λ _. true) 64
 
 pub table_bit : (table : List ℕ) (test : Place → Place → Bool) → fits_table table test ≡ true
     → (s t : Place) → IsOnBoard s → IsOnBoard t
     → has_bit (get_or table (index_of t) 0) (index_of s) ≡ test s t
 table_bit table test fits s t on_s on_t =
     let row =
-    agree_below_at (λ t. fits_word (get_or table t 0) (λ s. test s (square_at t))) (λ _.
+    agree_below_at (λ t. fits_bitboard (get_or table t 0) (λ s. test s (square_at t))) (λ _.
     true) 64 (index_of t) fits (index_of-below t on_t) in
     agree_below_at (has_bit (get_or table (index_of t) 0)) (λ n.
     test (square_at n) (square_at (index_of t))) 64 (index_of s) row (index_of-below s on_s)

@@ -2,7 +2,7 @@
 use Rattle.std.proofs.Common.{◌≡◌, ◌≤◌, ◌+◌, ℕ, true, false, inl, inr, ap, refl, arith, Some, None}
 use Rattle.std.proofs.Common.{List, [], ◌∷◌, length, codes}
 use Rattle.chess.specs.Public.Squares.{Place}
-use Rattle.chess.specs.Public.Letters.{kind_letter, man_letter, square_text, is_sign, is_check_mark}
+use Rattle.chess.specs.Public.Letters.{kind_letter, man_letter, square_text, is_sign, is_check_sign}
 use Rattle.chess.specs.Public.San.{Spells, promotion_text, IsFileOrRank, castling_text}
 use Rattle.chess.specs.Public.San.{castling_with_zeros, IsCastlingText, kind_said}
 use Rattle.chess.specs.Public.Fen.{fields_of, parted_at, is_step, SpellsRank, side_text}
@@ -47,8 +47,8 @@ signs : (is_sign 120 ≡ true) × (is_sign 58 ≡ true) × (is_sign 45 ≡ true)
     × (is_sign 61 ≡ false)
 signs = (refl, refl, refl, refl, refl)
 
-marks : (is_check_mark 43 ≡ true) × (is_check_mark 35 ≡ true) × (is_check_mark 33 ≡ false)
-    × (is_check_mark 45 ≡ false)
+marks : (is_check_sign 43 ≡ true) × (is_check_sign 35 ≡ true) × (is_check_sign 33 ≡ false)
+    × (is_check_sign 45 ≡ false)
 marks = (refl, refl, refl, refl)
 
 -- ---- move texts

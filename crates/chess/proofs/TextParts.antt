@@ -6,7 +6,7 @@ use Rattle.std.specs.Prelude.{if◌then◌else◌}
 use Rattle.std.specs.List.{list_all}
 use Rattle.std.proofs.lemmas.List.{append_assoc, reverse-append}
 use Rattle.std.proofs.lemmas.Bool.Decides.{nat_tests}
-use Rattle.chess.specs.Public.Letters.{is_check_mark}
+use Rattle.chess.specs.Public.Letters.{is_check_sign}
 use Rattle.chess.specs.Private.SanWords.{is_of, last_of, before_last, unmarked, before_equals, stem}
 use Rattle.chess.specs.Private.SanWords.{after_target_rank, after_sign, after_rank, after_file}
 use Rattle.chess.specs.Private.SanWords.{after_letter}
@@ -103,7 +103,7 @@ pub record ReadAs (y : List ℕ) (b : Bytes) : Type 0 where
 
 pub digit_apart : (b : ℕ) → is_of Digit b ≡ true
     → (is_of PromotionLetter b ≡ false) × (is_of Equals b ≡ false) × (is_of Sign b ≡ false)
-    × (is_check_mark b ≡ false)
+    × (is_check_sign b ≡ false)
 digit_apart b e = (
   grind (arith, nat_tests),
   grind (arith, nat_tests),
@@ -116,10 +116,10 @@ pub file_apart : (b : ℕ) → is_of FileLetter b ≡ true
 file_apart b e = (grind (arith, nat_tests), grind (arith, nat_tests))
 
 pub equals_apart : (b : ℕ) → is_of Equals b ≡ true
-    → (is_of PromotionLetter b ≡ false) × (is_check_mark b ≡ false)
+    → (is_of PromotionLetter b ≡ false) × (is_check_sign b ≡ false)
 equals_apart b e = (grind (arith, nat_tests), grind (arith, nat_tests))
 
-pub promotion_apart : (b : ℕ) → is_of PromotionLetter b ≡ true → is_check_mark b ≡ false
+pub promotion_apart : (b : ℕ) → is_of PromotionLetter b ≡ true → is_check_sign b ≡ false
 promotion_apart b e = grind (arith, nat_tests)
 
 pub kind_apart : (b : ℕ) → is_of KindLetter b ≡ true
@@ -145,11 +145,11 @@ taken_alone class (Some b) is =
 
 -- ---- reading from the end
 
-head_stays : (n : ℕ) (y : List ℕ) → is_check_mark n ≡ false → unmarked (n ∷ y) ≡ n ∷ y
+head_stays : (n : ℕ) (y : List ℕ) → is_check_sign n ≡ false → unmarked (n ∷ y) ≡ n ∷ y
 head_stays n y e = ap (λ t. if t then unmarked y else n ∷ y) e
 
 unmarked_parts : (p e : Option ℕ) (n : ℕ) (y : List ℕ) → IsGivenOf PromotionLetter p
-    → IsGivenOf Equals e → is_check_mark n ≡ false
+    → IsGivenOf Equals e → is_check_sign n ≡ false
     → unmarked (given p ++ (given e ++ n ∷ y)) ≡ given p ++ (given e ++ n ∷ y)
 unmarked_parts (Some b) e n y is equals rank =
     head_stays b (given e ++ n ∷ y) (promotion_apart b is)
@@ -253,7 +253,7 @@ read_turned y b are e =
       rest = ap (before_last KindLetter) at_letter ∙ (taken_alone KindLetter b.letter are.letter).1;
     }
 
-pub read_text : (x marks : List ℕ) (b : Bytes) → AreBytes b → IsTrue (list_all is_check_mark marks)
+pub read_text : (x marks : List ℕ) (b : Bytes) → AreBytes b → IsTrue (list_all is_check_sign marks)
     → x ≡ stem_text b ++ marks → ReadAs (reverse x) b
 read_text x marks b are all e =
     read_turned (reverse x) b are

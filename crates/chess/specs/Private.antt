@@ -1,6 +1,6 @@
 -- Private words: what the code equals on the way, and what its loops keep. No public contract cites
 -- them.
-pub mod BitWords
+pub mod Bitboards
 pub mod PseudoAttacks
 pub mod Cells
 pub mod MoveWords

@@ -9,12 +9,12 @@ ghost use Rattle.chess.specs.Public.Sets.{IsReachOf, IsSquaresOf, HoldsExactly, 
 mod attack_tables;
 mod bits;
 mod direction;
-mod fills;
 mod initial;
 mod mailbox;
 mod man;
 mod set;
 mod square;
+mod step_attacks;
 
 pub(crate) use attack_tables::squares_near;
 pub use bits::Bits;
@@ -45,11 +45,11 @@ pub trait Board: Copy {
     fn put(&mut self, square: Square, man: Option<Man>)
         ensures { men self.new ≡ with_man (men self.old) square man };
 
-    /// Takes the men off `taken` and `from`, and puts that man, or none, on `to`. No other square
-    /// changes.
-    fn move_piece(&mut self, man: Option<Man>, from: Square, taken: Square, to: Square)
+    /// Takes the men off `capture_square` and `from`, and puts that man, or none, on `to`. No other
+    /// square changes.
+    fn move_piece(&mut self, man: Option<Man>, from: Square, capture_square: Square, to: Square)
         ensures { men self.new
-            ≡ with_man (with_man (with_man (men self.old) taken None) from None) to man };
+            ≡ with_man (with_man (with_man (men self.old) capture_square None) from None) to man };
 
     /// Whether no man stands on the square.
     fn is_empty(&self, square: Square) -> bool
@@ -70,12 +70,13 @@ pub trait Board: Copy {
         square: Square,
         man: Man,
         from: Square,
-        taken: Square,
+        capture_square: Square,
         to: Square,
     ) -> bool
         ensures { IsTrue result
             ↔ IsAttacked
-            (with_man (with_man (with_man (men self.now) taken None) from None) to (Some man))
+            (with_man (with_man (with_man (men self.now) capture_square None) from None)
+            to (Some man))
             (opposite man.side) square };
 
     /// The squares that the man on the square attacks; the empty set where there is none (Laws 3.2

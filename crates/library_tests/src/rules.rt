@@ -1,9 +1,9 @@
 //! Rows on `chess`, over either board.
 
 mod board;
-mod counts;
 mod fen;
 mod moves;
 mod passes;
+mod perft;
 mod rows;
 mod texts;

@@ -20,7 +20,7 @@ use Rattle.pgn_criteria.specs.Public.ByMarks.{place_of_marks, has_marks, NoneMee
 use Rattle.pgn_criteria.specs.Private.Marks.{AreMarksOf, LacksMarks, Needs}
 use Rattle.pgn_criteria.specs.Public.Conditions.{Conditions}
 use Rattle.pgn_criteria.specs.Public.Meeting.{Heading, SomeHold}
-use Rattle.pgn_criteria.specs.Public.Sieves.{codes_in}
+use Rattle.pgn_criteria.specs.Public.Prefilters.{codes_in}
 use Rattle.pgn_criteria.specs.Private.Stages.{OfSeen, AllSaid, AllOfSeen, AllOfHeading, AreFixed}
 use Rattle.pgn_criteria.specs.Private.Stages.{AreFreeOfMoves}
 use Rattle.pgn_criteria.specs.Public.Walks.{IsSeenOf}

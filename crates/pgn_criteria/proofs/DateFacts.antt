@@ -202,11 +202,13 @@ bare_value (Single b ∷ signs) all =
     ap (λ (y : List ℕ). b ∷ y) (bare_value signs parts.1)
 bare_value (Escaped b ∷ signs) all =
     elim (b == 34 || b == 92) as (λ t. (b == 34 || b == 92) ≡ t
-    → IsTrue (list_all is_bare ((if t then b ∷ [] else 92 ∷ b ∷ []) ++ flat_map value_of_sign signs))
+    → IsTrue (list_all is_bare ((if t then b ∷ [] else 92 ∷ b ∷ [])
+    ++ flat_map value_of_sign signs))
     → 92 ∷ b ∷ flat_map spelled_sign signs
     ≡ (if t then b ∷ [] else 92 ∷ b ∷ []) ++ flat_map value_of_sign signs) [
       | true ↦ λ is bare.
-          let parts : (is_bare b ≡ true) × (list_all is_bare (flat_map value_of_sign signs) ≡ true) =
+          let parts : (is_bare b ≡ true)
+          × (list_all is_bare (flat_map value_of_sign signs) ≡ true) =
           and_parts _ _ bare in
           let own : is_bare b ≡ true = parts.0 in
           absurd (grind (arith, nat_tests))

@@ -31,7 +31,8 @@ search_written n (b ∷ x) F each =
     (λ it. (it.1.0, (let small = it.1.1.0 in omega arith), (it.1.1, (it.0, it.1.2, it.2))))
     (settled_below 10 (λ digit. StandsFor b digit
     × ((number : ℕ) × MayWrite (10 * n + digit) x number × F number))
-    (λ digit small. settled_both (settled_digit b digit) (search_written (10 * n + digit) x F each)))
+    (λ digit small.
+    settled_both (settled_digit b digit) (search_written (10 * n + digit) x F each)))
 
 -- and of these each from 1 to another
 abbrev IsOne : ℕ → List ℕ → ℕ → Type 0

@@ -85,7 +85,10 @@ each_solid (year ∷ month ∷ []) days spells =
     (field_solid 4 year days.year spells.0, (field_solid 2 month days.first_month spells.1.0, tt))
 each_solid (year ∷ month ∷ day ∷ []) days spells = (
   field_solid 4 year days.year spells.0,
-  (field_solid 2 month days.first_month spells.1.0, (field_solid 2 day days.first_day spells.2.0, tt)),
+  (
+    field_solid 2 month days.first_month spells.1.0,
+    (field_solid 2 day days.first_day spells.2.0, tt),
+  ),
 )
 each_solid parts days spells = absurd spells
 

@@ -9,18 +9,18 @@ use Rattle.std.specs.Prelude.{if◌then◌else◌, is_some}
 use Rattle.chess.specs.Public.Squares.{Place}
 use Rattle.chess.specs.Public.Positions.{State}
 use Rattle.chess.specs.Public.Letters.{kind_letter, file_letter, rank_digit, square_text}
-use Rattle.chess.specs.Public.Letters.{is_check_mark}
+use Rattle.chess.specs.Public.Letters.{is_check_sign}
 use Rattle.chess.specs.Public.San.{promotion_text, castling_text, IsDisambiguation, is_capture}
-use Rattle.chess.specs.Public.San.{capture_text, IsPieceText, IsBody, IsCheckMark, IsSan}
+use Rattle.chess.specs.Public.San.{capture_text, IsPieceText, IsBody, IsCheckSign, IsSan}
 use Rattle.chess.specs.Public.San.IsDisambiguation.{alone, by_file, by_rank, by_both}
-use Rattle.chess.specs.Public.San.IsCheckMark.{mate, check, quiet}
+use Rattle.chess.specs.Public.San.IsCheckSign.{mate, check, quiet}
 use Rattle.chess.specs.declared.board.man.Kind.{Kind}
 use Rattle.chess.specs.declared.board.man.Kind.TheVariants.{King, Queen, Rook, Bishop, Knight, Pawn}
 use Rattle.chess.specs.declared.board.man.Wing.{Wing}
 use Rattle.chess.specs.declared.board.man.Wing.TheVariants.{KingSide, QueenSide}
 use Rattle.chess.specs.declared.moves.Move.{Move}
 use Rattle.pgn_game.specs.Public.Replays.{Replay}
-use Rattle.pgn_criteria.specs.Public.MoveTexts.{without_marks, IsLike, GoesOnBy}
+use Rattle.pgn_criteria.specs.Public.MoveTexts.{without_check_signs, IsLike, GoesOnBy}
 use Rattle.pgn_criteria.specs.Private.MoveEnds.{BeginsWith, EndsWith, RulesOut}
 
 -- each byte is above those of the marks
@@ -33,21 +33,21 @@ above_both [] y first other = other
 above_both (b ∷ x) y first other = (first.0, above_both x y first.1 other)
 
 -- a byte above the marks is none
-no_mark : (b : ℕ) → 43 < b → is_check_mark b ≡ false
+no_mark : (b : ℕ) → 43 < b → is_check_sign b ≡ false
 no_mark b above = grind (arith, nat_tests, above)
 
-mark_is_none : (P : State) (mark : List ℕ) → IsCheckMark P mark → without_marks mark ≡ []
+mark_is_none : (P : State) (mark : List ℕ) → IsCheckSign P mark → without_check_signs mark ≡ []
 mark_is_none P _ (mate is) = refl
 mark_is_none P _ (check is never) = refl
 mark_is_none P _ (quiet never) = refl
 
 -- so the body of a text is what it is without its mark
-bare_body : (P : State) (body mark : List ℕ) → AreAbove body → IsCheckMark P mark
-    → without_marks (body ++ mark) ≡ body
+bare_body : (P : State) (body mark : List ℕ) → AreAbove body → IsCheckSign P mark
+    → without_check_signs (body ++ mark) ≡ body
 bare_body P [] mark above is = mark_is_none P mark is
 bare_body P (b ∷ body) mark above is =
-    ap (λ t. if t then without_marks (body ++ mark)
-    else b ∷ without_marks (body ++ mark)) (no_mark b above.0)
+    ap (λ t. if t then without_check_signs (body ++ mark)
+    else b ∷ without_check_signs (body ++ mark)) (no_mark b above.0)
     ∙ ap (λ x. b ∷ x) (bare_body P body mark above.1 is)
 
 above_kind : (piece : Kind) → 43 < kind_letter piece
@@ -113,8 +113,8 @@ above_body P m None Bishop x is = above_piece P m Bishop x is
 above_body P m None Knight x is = above_piece P m Knight x is
 
 pub bare_text : (P : State) (m : Move) (text : List ℕ) (san : IsSan P m text)
-    → without_marks text ≡ san.body
-bare_text P m text san = ap without_marks san.text
+    → without_check_signs text ≡ san.body
+bare_text P m text san = ap without_check_signs san.text
     ∙ bare_body _ san.body san.mark (above_body P m m.castle san.man.kind san.body san.body_is)
     san.mark_is
 
@@ -164,7 +164,7 @@ begins_body P m None Bishop x b is begins = begins_piece P m Bishop x b is begin
 begins_body P m None Knight x b is begins = begins_piece P m Knight x b is begins
 
 pub begins_text : (P : State) (m : Move) (text : List ℕ) (b : ℕ) (san : IsSan P m text)
-    → BeginsWith b (without_marks text) → Begins m m.castle san.man.kind b
+    → BeginsWith b (without_check_signs text) → Begins m m.castle san.man.kind b
 begins_text P m text b san begins =
     begins_body P m m.castle san.man.kind san.body b san.body_is
     (subst (BeginsWith b) (bare_text P m text san) begins)
@@ -247,7 +247,7 @@ ends_body P m None Bishop x b is ends = ends_rank m m.promote b (ends_piece P m 
 ends_body P m None Knight x b is ends = ends_rank m m.promote b (ends_piece P m Knight x b is ends)
 
 pub ends_text : (P : State) (m : Move) (text : List ℕ) (b : ℕ) → IsSan P m text
-    → EndsWith b (without_marks text) → Ends m m.castle m.promote b
+    → EndsWith b (without_check_signs text) → Ends m m.castle m.promote b
 ends_text P m text b san ends =
     ends_body P m m.castle san.man.kind san.body b san.body_is
     (subst (EndsWith b) (bare_text P m text san) ends)

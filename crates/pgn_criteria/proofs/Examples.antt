@@ -19,7 +19,7 @@ use Rattle.pgn_criteria.specs.Public.Materials.{is_man}
 use Rattle.pgn_criteria.specs.Public.Materials as material
 use Rattle.pgn_criteria.specs.Public.Mirrors.{across, beside}
 use Rattle.pgn_game.specs.Public.Replays.{Replay}
-use Rattle.pgn_criteria.specs.Public.MoveTexts.{without_marks, IsLike, GoesOnBy, IsReachedBy}
+use Rattle.pgn_criteria.specs.Public.MoveTexts.{without_check_signs, IsLike, GoesOnBy, IsReachedBy}
 use Rattle.pgn_criteria.specs.Public.Meeting.{IsFirst}
 use Rattle.pgn_criteria.proofs.CompareFacts.{number_missing}
 use Rattle.pgn_criteria.proofs.EndFacts.{ends_in, like_ends}
@@ -176,7 +176,8 @@ pawns_after_an_empty_square =
 each_sign : CanBeSplit (items_of (codes "*?!Aa4*")) (None ∷ black_rook ∷ pawn ∷ black_rook ∷ None
     ∷ None ∷ None ∷ None ∷ [])
 each_sign =
-    let four : IsSquares 52 (None ∷ None ∷ None ∷ None ∷ []) = step 4 (omega arith) (omega arith) in (
+    let four : IsSquares 52 (None ∷ None ∷ None ∷ None ∷ []) =
+    step 4 (omega arith) (omega arith) in (
       [],
       None ∷ black_rook ∷ pawn ∷ black_rook ∷ None ∷ None ∷ None ∷ None ∷ [],
       refl,
@@ -275,10 +276,10 @@ not_three_of_at_most_two : material.Allows (AtMost 2) 3 → ⊥
 not_three_of_at_most_two within = absurd (omega arith)
 
 -- a text without its marks
-check_left_out : without_marks (codes "Nf3+") ≡ codes "Nf3"
+check_left_out : without_check_signs (codes "Nf3+") ≡ codes "Nf3"
 check_left_out = refl
 
-mate_left_out : without_marks (codes "Qxf7#") ≡ codes "Qxf7"
+mate_left_out : without_check_signs (codes "Qxf7#") ≡ codes "Qxf7"
 mate_left_out = refl
 
 -- * stands for any bytes, also for none, and each other byte for itself

@@ -303,8 +303,8 @@ not_no_byte is = let some : 1 ≤ 0 = is.0 in absurd (omega arith)
 not_eight_bytes : IsMoveLike (codes "********") → ⊥
 not_eight_bytes is = let few : 8 ≤ 7 = is.1 in absurd (omega arith)
 
-not_check_mark : IsMoveLike (codes "Nf3+") → ⊥
-not_check_mark is = let each : false ≡ true = is.2 in cc
+not_check_sign : IsMoveLike (codes "Nf3+") → ⊥
+not_check_sign is = let each : false ≡ true = is.2 in cc
 
 -- two words are none
 not_two_words : IsMoveLike (codes "e4 e5") → ⊥

@@ -18,13 +18,13 @@ use Rattle.pgn_criteria.specs.Public.Conditions.{Conditions}
 use Rattle.chess.specs.declared.board.man.Side.{Side}
 use Rattle.pgn_game.specs.Public.PlyCodes.{PlyCode, code_of, moved}
 use Rattle.pgn_game.proofs.Cells.{no_cell, same_first}
-use Rattle.pgn_criteria.specs.Public.Sieves.{MeetsSeen, NowhereSeen, codes_in}
+use Rattle.pgn_criteria.specs.Public.Prefilters.{MeetsSeen, NowhereSeen, codes_in}
 use Rattle.pgn_criteria.specs.Private.Marks.{FitsSeen, IsMarked, NeedMark, LacksMarks}
 use Rattle.pgn_criteria.specs.Private.Marks.{SaysOfNumbers, asks_mark}
 use Rattle.pgn_criteria.specs.Public.Meeting.{is_turned, Holds, EachHold, PositionsHold}
 use Rattle.pgn_criteria.specs.Public.Mirrors.{mirror, can_be_mirrored}
 use Rattle.pgn_criteria.specs.Private.Stages.{SaysOfSeen, on_positions}
-use Rattle.pgn_criteria.specs.Private.Tracks.{FitsPlaced, Nowhere}
+use Rattle.pgn_criteria.specs.Private.PrefilterTests.{FitsPlaced, Nowhere}
 use Rattle.pgn_criteria.specs.declared.condition.PositionCondition.{PositionCondition}
 use Rattle.pgn_criteria.specs.declared.condition.PositionClaim.{PositionClaim}
 use Rattle.pgn_criteria.specs.declared.condition.PositionClaim.TheVariants.{Fen, Flip, Material}

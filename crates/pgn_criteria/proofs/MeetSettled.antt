@@ -26,8 +26,8 @@ use Rattle.pgn_criteria.specs.Public.Meeting.{IsSoOfMoves, IsSoAt, Taken, AllTak
 use Rattle.pgn_criteria.specs.Public.Meeting.{HoldsThere, AreAll, SpanHolds, SpansHold, IsMetBy}
 use Rattle.pgn_criteria.specs.Public.Meeting.{SomeHold, Meets, is_turned, EachHold}
 use Rattle.pgn_criteria.specs.Public.Mirrors.{flipped_men, mirror}
-use Rattle.pgn_criteria.specs.Public.MoveTexts.{without_marks, FitsWord, FitsMove, FitMoves, IsLike}
-use Rattle.pgn_criteria.specs.Public.MoveTexts.{GoesOnBy, IsReachedBy}
+use Rattle.pgn_criteria.specs.Public.MoveTexts.{without_check_signs, FitsWord, FitsMove, FitMoves}
+use Rattle.pgn_criteria.specs.Public.MoveTexts.{IsLike, GoesOnBy, IsReachedBy}
 use Rattle.pgn_criteria.specs.Private.Stages.{AreLegal}
 use Rattle.pgn_criteria.specs.Public.Words.{words_of}
 use Rattle.pgn_criteria.specs.Public.Comparing.{Compares}
@@ -83,8 +83,8 @@ settled_word P m word on_board legal =
     let text = some_san P m on_board legal in
     settled_either (cases_bytes word (codes "*"))
     (settled_like (λ same. (text.0, text.1, same)) (λ h. h.2
-    ∙ ap without_marks (one_san P m h.0 text.0 h.1 text.1))
-    (cases_bytes word (without_marks text.0)))
+    ∙ ap without_check_signs (one_san P m h.0 text.0 h.1 text.1))
+    (cases_bytes word (without_check_signs text.0)))
 
 -- the men stand on the board in each position of a replay
 abbrev pub AllOnBoard : Replay → Type 0
@@ -155,7 +155,7 @@ settled_on replay plies word on_board legal =
                 let text = some_san P m (on_board plies P here) (legal plies P m here played) in
                 settled_by (λ r reports.
                 by_like replay plies word text.0 P m r one_san here played text.1 reports)
-                (settled_alike word (without_marks text.0))
+                (settled_alike word (without_check_signs text.0))
           ] refl
     ] refl
 

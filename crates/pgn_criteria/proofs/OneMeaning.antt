@@ -186,16 +186,16 @@ one_fen text pattern other spells has =
     sym (fen_read text pattern spells).1 ∙ (fen_read text other has).1
 
 -- of which form a claim on the game is, and that its key word tells it
-abbrev form : GameClaim (List ℕ) → ℕ
-form (Tag names value) = 1
-form (Moves words) = 2
-form (Plies comparison count) = 3
-form (Result result) = 4
+abbrev planned : GameClaim (List ℕ) → ℕ
+planned (Tag names value) = 1
+planned (Moves words) = 2
+planned (Plies comparison count) = 3
+planned (Result result) = 4
 
 abbrev form_at : ℕ → ℕ
 form_at n = if n == 554 then 2 else if n == 541 then 3 else if n == 671 then 4 else 1
 
-form_back : (claim : GameClaim (List ℕ)) → form_at (total (game_key claim)) ≡ form claim
+form_back : (claim : GameClaim (List ℕ)) → form_at (total (game_key claim)) ≡ planned claim
 form_back (Tag names (Text relation contents)) = refl
 form_back (Tag names (Number comparison number)) = refl
 form_back (Tag names (Date comparison days)) = refl
@@ -223,7 +223,7 @@ one_game text (Result result) (Result other) spells has =
     ap Result (sym (result_read text result spells).1 ∙ (result_read text other has).1)
 one_game text c d spells has =
     let keys = same_key SpellsGame games_are text false false c d spells has in
-    let e : form c ≡ form d =
+    let e : planned c ≡ planned d =
     sym (form_back c) ∙ ap (λ x. form_at (total x)) keys ∙ form_back d in absurd (omega arith)
 
 one_position : (text : List ℕ) (c d : PositionClaim (List ℕ)) → SpellsPosition text c

@@ -6,7 +6,7 @@ use Rattle.chess.specs.Public.Positions.{State, IsCheck}
 use Rattle.pgn_game.specs.Public.PlyCodes.{PlyCode}
 use Rattle.pgn_criteria.specs.Public.Mirrors.{mirrored_men}
 use Rattle.pgn_criteria.specs.Private.Stages.{AllOfPatterns, AllSaid, AreFixed, AreMirrored}
-use Rattle.pgn_criteria.specs.Private.Tracks.{FitsPlaced, Nowhere}
+use Rattle.pgn_criteria.specs.Private.PrefilterTests.{FitsPlaced, Nowhere}
 use Rattle.pgn_criteria.specs.declared.condition.PositionCondition.{PositionCondition}
 use Rattle.pgn_criteria.proofs.EitherFacts.{each_plain, fixed_each, mirrored_said}
 use Rattle.pgn_criteria.proofs.SeenFacts.{all_position, stages_parted, patterns_said}

@@ -7,8 +7,8 @@ use Rattle.chess.specs.Shared.SetFacts.{is_in-empty}
 use Rattle.chess.specs.Public.Sets.{Places, is_in, no_places, IsSquaresOf}
 use Rattle.chess.specs.declared.board.man.Man.{Man}
 use Rattle.pgn_game.specs.Public.PlyCodes.{PlyCode, code_of, moved}
-use Rattle.pgn_criteria.specs.Public.Sieves.{codes_in}
-use Rattle.pgn_criteria.specs.Private.Tracks.{AreTaken, Nowhere}
+use Rattle.pgn_criteria.specs.Public.Prefilters.{codes_in}
+use Rattle.pgn_criteria.specs.Private.PrefilterTests.{AreTaken, Nowhere}
 
 -- no square is known to be taken
 pub none_taken : (men : Placement) (taken : Places) → taken ≡ no_places → AreTaken men taken

@@ -8,7 +8,7 @@ pub mod Numbers
 pub mod DateEnds
 pub mod Stages
 pub mod Reading
-pub mod Tracks
+pub mod PrefilterTests
 pub mod Marks
 pub mod Turning
 pub mod MoveEnds

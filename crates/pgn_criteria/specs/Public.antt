@@ -10,6 +10,6 @@ pub mod Conditions
 pub mod Mirrors
 pub mod Meeting
 pub mod Walks
-pub mod Sieves
+pub mod Prefilters
 pub mod ByMarks
 pub mod Laws

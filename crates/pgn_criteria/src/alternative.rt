@@ -9,9 +9,9 @@ ghost use Rattle.pgn_criteria.specs.Private.Stages.{AllSaid, AllOfSeen, AreFixed
 ghost use Rattle.pgn_criteria.specs.Private.Stages.{OfPattern, AllOfPatterns, AllOfStage};
 ghost use Rattle.pgn_criteria.specs.Private.Stages.{AllOfRest, AreNoCounts, SpansStand};
 ghost use Rattle.pgn_criteria.specs.Private.Stages.{position_seen, seen, stage_of};
-ghost use Rattle.pgn_criteria.specs.Public.Sieves.{NowhereSeen, codes_in};
+ghost use Rattle.pgn_criteria.specs.Public.Prefilters.{NowhereSeen, codes_in};
 ghost use Rattle.pgn_criteria.specs.Private.Marks.{AreMarksOf, FitsSeen};
-ghost use Rattle.pgn_criteria.specs.Private.Tracks.{Nowhere};
+ghost use Rattle.pgn_criteria.specs.Private.PrefilterTests.{Nowhere};
 ghost use Rattle.pgn_criteria.specs.declared.meets.Stage.TheVariants.{Squares};
 
 use crate::by_marks::marks_of_all;
@@ -26,8 +26,8 @@ use crate::meets::{
 use crate::mirror::{all_mirrored, are_fixed};
 use crate::numbers::numbers_are_shown;
 use crate::plan::Plan;
+use crate::prefilter::Prefilter;
 use crate::seen::Seen;
-use crate::sieve::Sieve;
 use crate::spans::{are_no_counts, spans_stand};
 use chess::SquareSet;
 use pgn_game::Replayed;
@@ -37,7 +37,7 @@ use std::marker::Model;
 /// Conditions as they are tried at a position, whether they have `either` or not. Contracts see the
 /// conditions.
 #[derive(Drop)]
-pub(crate) struct Form {
+pub(crate) struct PlannedConditions {
     pub(crate) conditions: Vec<PositionCondition<Vec<u8>>>,
     /// What the patterns among them ask of squares, and where men may stand then.
     plan: Plan,
@@ -46,16 +46,16 @@ pub(crate) struct Form {
     is_planned: bool,
     /// Whether the others say nothing of positions.
     is_bare: bool,
-    /// Whether the sieve is asked of a position before the plan. It takes fewer steps where
+    /// Whether the prefilter is asked of a position before the plan. It takes fewer steps where
     /// patterns are asked either way.
-    is_sifted: bool,
+    is_prefiltered: bool,
     /// A man who has to stand on known squares, or may not, if the patterns say so of one.
-    sieve: Option<Sieve>,
+    prefilter: Option<Prefilter>,
 }
 
-impl Model for Form {
+impl Model for PlannedConditions {
     ghost use Rattle.std.specs.Prelude.{ℕ, List, IfSome, IsTrue, map};
-    ghost use Rattle.pgn_criteria.specs.Private.Tracks.{Sifts};
+    ghost use Rattle.pgn_criteria.specs.Private.PrefilterTests.{IsPrefilterOf};
     ghost use Rattle.pgn_criteria.specs.declared.condition.PositionCondition.{PositionCondition};
     ghost use Rattle.pgn_criteria.specs.Private.Layouts.{IsRest};
     ghost use Rattle.pgn_criteria.specs.Private.Planning.{IsSoundPlan, IsPlanned};
@@ -70,7 +70,7 @@ impl Model for Form {
       rest : IsRest a.plan.layout.empty a.free;
       planned : IsPlanned (map (seen (λ text. text.items)) a.conditions.items) a.plan a.is_planned;
       bare : IsTrue a.is_bare → ArePatterns (map (seen (λ text. text.items)) a.conditions.items);
-      sieved : IfSome a.sieve (Sifts a.plan);
+      prefiltered : IfSome a.prefilter (IsPrefilterOf a.plan);
     } };
 }
 
@@ -81,10 +81,10 @@ pub struct Alternative {
     moves: Vec<Stated<MoveClaim<Vec<u8>>>>,
     pub(crate) spans: Vec<SpanClaim>,
     /// The conditions on positions as they stand.
-    pub(crate) plain: Form,
+    pub(crate) plain: PlannedConditions,
     /// Where some have `either`, the conditions that hold at a position where those hold at its
     /// mirror, and the others at the position.
-    mirrored: Option<Form>,
+    mirrored: Option<PlannedConditions>,
 }
 
 impl Model for Alternative {
@@ -102,7 +102,8 @@ impl Model for Alternative {
       spans = a.spans.items;
     } };
 
-    ghost invariant = { λ a. MatchOption a.mirrored (AreFixed a.plain) (λ form. AreMirrored form a.plain) };
+    ghost invariant = { λ a.
+        MatchOption a.mirrored (AreFixed a.plain) (λ planned. AreMirrored planned a.plain) };
 }
 
 /// Plans what a condition asks of squares, if it is a pattern. Answers whether that is all that it
@@ -114,7 +115,8 @@ fn plan_one(
 ) -> Result<bool, AllocError>
     ensures { IfOk result
         (Plans (λ p. stage_of (position_seen (λ text. text.items) condition.now.claim) ≡ Squares
-        → OfPattern p (seen (λ text. text.items) condition.now)) (λ p. Unit {0}) plan.old plan.new) }
+        → OfPattern p (seen (λ text. text.items) condition.now)) (λ p. Unit {0})
+        plan.old plan.new) }
 {
     if stage_of(&condition.claim) != Stage::Squares {
         return Ok(true);
@@ -156,8 +158,8 @@ fn plan_all(
     Ok(is_all)
 }
 
-impl Form {
-    /// The form with these conditions.
+impl PlannedConditions {
+    /// What is planned for these conditions.
     fn new(alloc: Global, conditions: Vec<PositionCondition<Vec<u8>>>) -> Result<Self, AllocError>
         ensures { IfOk result (λ own. own ≡ map (seen (λ text. text.items)) conditions.items) }
     {
@@ -165,16 +167,16 @@ impl Form {
         let is_planned = plan_all(alloc, &mut plan, &conditions)?;
         let is_bare = are_patterns(&conditions);
         let free = plan.free();
-        let sieve = plan.sieve();
-        let is_sifted = sieve.is_some() && !plan.is_flat();
-        Ok(Form {
+        let prefilter = plan.prefilter();
+        let is_prefiltered = prefilter.is_some() && !plan.is_flat();
+        Ok(PlannedConditions {
             conditions,
             plan,
             free,
             is_planned,
             is_bare,
-            is_sifted,
-            sieve,
+            is_prefiltered,
+            prefilter,
         })
     }
 
@@ -185,8 +187,8 @@ impl Form {
         ensures { result ≡ false
             → Nowhere (λ men. AllOfPatterns men self.now) (S.men start.now) (codes_in plies.now) }
     {
-        match &self.sieve {
-            Some(sieve) => sieve.lets_through(start, plies),
+        match &self.prefilter {
+            Some(prefilter) => prefilter.lets_through(start, plies),
             None => true,
         }
     }
@@ -230,8 +232,8 @@ impl Form {
     fn may_stand<S: Seen>(&self, position: &S) -> bool
         ensures { result ≡ false → AllOfPatterns (S.men position.now) self.now → ⊥ }
     {
-        match &self.sieve {
-            Some(sieve) => sieve.may_be_met(position),
+        match &self.prefilter {
+            Some(prefilter) => prefilter.may_be_met(position),
             None => true,
         }
     }
@@ -244,7 +246,7 @@ impl Form {
             ↔ AllSaid (S.men position.now) (S.turn position.now) (S.checked position.now)
             (S.stuck position.now) self.now }
     {
-        if self.is_sifted && !self.may_stand(position) {
+        if self.is_prefiltered && !self.may_stand(position) {
             return false;
         }
         self.plan.is_met(&self.free, position)
@@ -254,19 +256,19 @@ impl Form {
 }
 
 /// What is tried at the mirror of a position, if one of the conditions has `either`.
-fn mirrored_form(
+fn mirrored_conditions(
     alloc: Global,
     conditions: &[PositionCondition<Vec<u8>>],
-) -> Result<Option<Form>, AllocError>
+) -> Result<Option<PlannedConditions>, AllocError>
     ensures { IfOk result (λ found.
         MatchOption found (AreFixed (map (seen (λ text. text.items)) conditions.now))
-        (λ form. AreMirrored form (map (seen (λ text. text.items)) conditions.now))) }
+        (λ planned. AreMirrored planned (map (seen (λ text. text.items)) conditions.now))) }
 {
     if are_fixed(conditions) {
         return Ok(None);
     }
     let mirrored = all_mirrored(alloc, conditions)?;
-    Ok(Some(Form::new(alloc, mirrored)?))
+    Ok(Some(PlannedConditions::new(alloc, mirrored)?))
 }
 
 impl Alternative {
@@ -274,8 +276,8 @@ impl Alternative {
     pub(crate) fn new(alloc: Global, conditions: Conditions) -> Result<Self, AllocError>
         ensures { IfOk result (λ own. own ≡ conditions) }
     {
-        let mirrored = mirrored_form(alloc, &conditions.positions)?;
-        let plain = Form::new(alloc, conditions.positions)?;
+        let mirrored = mirrored_conditions(alloc, &conditions.positions)?;
+        let plain = PlannedConditions::new(alloc, conditions.positions)?;
         Ok(Alternative {
             games: conditions.games,
             moves: conditions.moves,
@@ -382,7 +384,7 @@ impl Alternative {
             return true;
         }
         match &self.mirrored {
-            Some(form) => form.is_met(position),
+            Some(planned) => planned.is_met(position),
             None => false,
         }
     }
@@ -401,7 +403,7 @@ impl Alternative {
             return true;
         }
         match &self.mirrored {
-            Some(form) => form.may_be_met(start, plies),
+            Some(planned) => planned.may_be_met(start, plies),
             None => false,
         }
     }

@@ -11,7 +11,7 @@ ghost use Rattle.pgn_criteria.specs.Public.ByMarks.{first_place, has_marks, AreM
 ghost use Rattle.pgn_criteria.specs.Public.ByMarks.{NoneMeets, IsNextMet};
 ghost use Rattle.pgn_criteria.specs.Private.Marks.{AreMarksOf, Needs};
 ghost use Rattle.pgn_criteria.specs.Public.Meeting.{heading_of};
-ghost use Rattle.pgn_criteria.specs.Public.Sieves.{codes_in};
+ghost use Rattle.pgn_criteria.specs.Public.Prefilters.{codes_in};
 ghost use Rattle.pgn_criteria.specs.Private.Stages.{AllSaid, SaysOfSeen, position_seen, seen};
 
 use crate::condition::{PositionClaim, PositionCondition};
@@ -24,9 +24,9 @@ use pgn_game::pack::RawRecord;
 /// The marks with which positions meet criteria.
 #[derive(Clone, Copy)]
 pub struct MarkSet {
-    /// Four bits for White to move and then four for Black: with neither mark, in check, with no
+    /// Four flags for White to move and then four for Black: with neither mark, in check, with no
     /// move, mated.
-    pub bits: u8,
+    pub flags: u8,
 }
 
 /// The first of the four places of marks of a side to move.
@@ -86,37 +86,38 @@ impl MarkSet {
     /// Whether it has the marks of a position: the side to move, whether it is in check, and
     /// whether it has no move.
     pub fn has(self, turn: Side, check: bool, stuck: bool) -> bool
-        ensures { result ≡ has_marks self.bits turn check stuck }
+        ensures { result ≡ has_marks self.flags turn check stuck }
     {
         let place = place_of(turn) + u8::from(check) + 2 * u8::from(stuck);
-        (self.bits >> place) & 1 == 1
+        (self.flags >> place) & 1 == 1
     }
 
     /// Whether it has the marks that the first byte of a ply tells, after which that side is to
     /// move.
     #[inline(always)]
     fn has_told(self, turn: Side, a: u8) -> bool
-        ensures { result ≡ has_marks self.bits turn (a / 64 % 2 == 1) (a / 128 == 1) }
+        ensures { result ≡ has_marks self.flags turn (a / 64 % 2 == 1) (a / 128 == 1) }
     {
-        (self.bits >> (place_of(turn) + a / 64)) & 1 == 1
+        (self.flags >> (place_of(turn) + a / 64)) & 1 == 1
     }
 
     /// Whether it has marks only of positions in check, and whether it has marks only of those with
     /// no move.
     #[inline(always)]
     fn needs(self) -> (bool, bool)
-        ensures { Needs result.0 result.1 self.bits }
+        ensures { Needs result.0 result.1 self.flags }
     {
-        (self.bits & 85 == 0, self.bits & 51 == 0)
+        (self.flags & 85 == 0, self.flags & 51 == 0)
     }
 
     /// The first ply after which it has the marks: the side to move then, and the plies that are
     /// left. Before all of them `turn` is to move.
     pub fn next<'p>(self, turn: Side, plies: &'p [u8]) -> Option<(Side, &'p [u8])>
-        ensures { MatchOption result (NoneMeets self.bits turn (codes_in plies.now))
-            (λ found. IsNextMet self.bits turn (codes_in plies.now) found.0 (codes_in found.1.now)) }
+        ensures { MatchOption result (NoneMeets self.flags turn (codes_in plies.now))
+            (λ found.
+            IsNextMet self.flags turn (codes_in plies.now) found.0 (codes_in found.1.now)) }
     {
-        if self.bits == 0 {
+        if self.flags == 0 {
             return None;
         }
         let (check, stuck) = self.needs();
@@ -138,18 +139,18 @@ impl Criteria {
     /// alternative speaks of men or of moves.
     fn marks_of_heading<'a, H: Headed<'a>>(&'a self, game: &H) -> Option<MarkSet>
         requires { H.valid game.now }
-        ensures { IfSome result (λ marks. AreMetByMarks marks.bits (H.heading game.now) self.now) }
+        ensures { IfSome result (λ marks. AreMetByMarks marks.flags (H.heading game.now) self.now) }
     {
-        let mut bits = 0;
+        let mut flags = 0;
         for alternative in &self.alternatives {
             let Some(own) = alternative.marks() else {
                 return None;
             };
             if alternative.is_of_heading(game) {
-                bits |= own;
+                flags |= own;
             }
         }
-        Some(MarkSet { bits })
+        Some(MarkSet { flags })
     }
 
     /// The marks with which positions of a packed game meet the criteria. Conditions on its tags
@@ -160,7 +161,7 @@ impl Criteria {
         ensures { IfSome result (λ marks. (game : GameText) (replay : Replay) (packed : PackedGame)
             → IsPacked packed.name packed.number packed.offset game replay packed
             → FitsRecord packed → raw_of packed ≡ record.now
-            → AreMetByMarks marks.bits (heading_of game) self.now) }
+            → AreMetByMarks marks.flags (heading_of game) self.now) }
     {
         self.marks_of_heading(record)
     }

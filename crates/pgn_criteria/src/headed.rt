@@ -22,7 +22,8 @@ pub trait Headed<'a> {
     fn tag(&self, name: &'a [u8]) -> Option<&'a [u8]>
         requires { valid self.now }
         ensures { MatchOption result
-            ((contents : List ℕ) → (heading self.now).named name.now ≡ Some contents → IsContents contents → ⊥)
+            ((contents : List ℕ) → (heading self.now).named name.now ≡ Some contents
+            → IsContents contents → ⊥)
             (λ contents. ((heading self.now).named name.now ≡ Some contents.now)
             × IsContents contents.now) };
 

@@ -146,7 +146,8 @@ impl Layout {
     /// Adds a square on which no man of these kinds must stand.
     fn bar_kinds(&mut self, side: Side, kinds: Kinds, square: Square) -> Result<(), AllocError>
         ensures { OnOk result
-            (Lays (λ p. NoneOf side kinds (man_at p square)) (λ p. Unit {0}) self.old self.new true) }
+            (Lays (λ p. NoneOf side kinds (man_at p square)) (λ p.
+            Unit {0}) self.old self.new true) }
     {
         self.bar(
             kinds.pawn,
@@ -202,7 +203,8 @@ impl Layout {
     /// Adds a square on which none of the men must stand.
     fn bar_men(&mut self, men: Men, square: Square) -> Result<(), AllocError>
         ensures { OnOk result
-            (Lays (λ p. IsOf (Other men) (man_at p square)) (λ p. Unit {0}) self.old self.new true) }
+            (Lays (λ p. IsOf (Other men) (man_at p square)) (λ p.
+            Unit {0}) self.old self.new true) }
     {
         self.bar_kinds(Side::White, men.white, square)?;
         self.bar_kinds(Side::Black, men.black, square)?;

@@ -5,7 +5,7 @@ ghost use Rattle.std.specs.List.{AllByRecursion};
 ghost use Rattle.chess.specs.declared.board.man.Side.{Side};
 ghost use Rattle.pgn_game.specs.Public.PlyCodes.{PlyCode};
 ghost use Rattle.pgn_criteria.specs.Public.ByMarks.{NoneMeets, IsNextMet};
-ghost use Rattle.pgn_criteria.specs.Public.Sieves.{NowhereSeen, codes_in};
+ghost use Rattle.pgn_criteria.specs.Public.Prefilters.{NowhereSeen, codes_in};
 ghost use Rattle.pgn_criteria.specs.Private.Marks.{NeedMark, LacksMarks, Needs, FitsSeen};
 ghost use Rattle.pgn_criteria.specs.Private.Marks.{asks_mark};
 ghost use Rattle.pgn_criteria.specs.Private.Stages.{position_seen, seen};

@@ -79,7 +79,8 @@ impl Criteria {
         game: &RawGame<'a>,
         replayed: &Replayed,
     ) -> Result<Vec<bool>, AllocError>
-        requires of_game { IsSomeReplay (tag_in fen_tag game.now.tags) game.now.elements replayed.now }
+        requires of_game { IsSomeReplay (tag_in fen_tag game.now.tags) game.now.elements
+            replayed.now }
         ensures { IfOk result (λ met.
             AreMet (heading_of game.now) replayed.now self.now met.items) }
     {

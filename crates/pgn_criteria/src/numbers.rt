@@ -4,16 +4,16 @@
 ghost use Rattle.std.specs.Prelude.{◌≡◌, false, map, IfSome};
 ghost use Rattle.chess.specs.Public.Placements.{Placement};
 ghost use Rattle.pgn_criteria.specs.Private.Counting.{FitsKind};
-ghost use Rattle.pgn_criteria.specs.Public.Sieves.{NowhereSeen, codes_in};
+ghost use Rattle.pgn_criteria.specs.Public.Prefilters.{NowhereSeen, codes_in};
 ghost use Rattle.pgn_criteria.specs.Private.Marks.{FitsSeen, IsMost, SaysOfNumbers};
 ghost use Rattle.pgn_criteria.specs.Public.Materials.{FitsSide, FitsMaterial};
 ghost use Rattle.pgn_criteria.specs.Private.Stages.{position_seen, seen};
-ghost use Rattle.pgn_criteria.specs.Private.Tracks.{AreFew, Nowhere};
+ghost use Rattle.pgn_criteria.specs.Private.PrefilterTests.{AreFew, Nowhere};
 
 use crate::condition::{PositionClaim, PositionCondition};
 use crate::material::{Limit, Limits};
+use crate::prefilter_test::{PrefilterTest, is_met_somewhere};
 use crate::seen::Seen;
-use crate::track::{StandTest, is_met_somewhere};
 use chess::{Kind, Man, Side, SquareSet};
 
 /// The largest number that the limit allows, if there is one.
@@ -33,7 +33,7 @@ struct Few {
     most: u8,
 }
 
-impl StandTest for Few {
+impl PrefilterTest for Few {
     ghost stands = { AreFew };
 
     #[inline(always)]

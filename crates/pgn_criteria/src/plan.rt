@@ -7,11 +7,11 @@ ghost use Rattle.pgn_criteria.specs.Private.Planning.{AreSound, AreSoundWays, Is
 ghost use Rattle.pgn_criteria.specs.Private.Planning.{AllEither, NoneLaid, Planned, Plans};
 ghost use Rattle.pgn_criteria.specs.Public.Mirrors.{FitsEitherWay};
 ghost use Rattle.pgn_criteria.specs.Public.Patterns.{FitsPattern};
-ghost use Rattle.pgn_criteria.specs.Private.Tracks.{FitsSieve, Sifts};
+ghost use Rattle.pgn_criteria.specs.Private.PrefilterTests.{FitsPrefilter, IsPrefilterOf};
 
 use crate::layout::{Layout, Look};
+use crate::prefilter::{Prefilter, prefilter_of};
 use crate::seen::Seen;
-use crate::sieve::{Sieve, sieve_of};
 use chess::SquareSet;
 use std::alloc::{AllocError, Global};
 
@@ -109,12 +109,12 @@ impl Plan {
     }
 
     /// A man who has to stand on known squares, or may not, where the men stand as is planned.
-    pub(crate) fn sieve(&self) -> Option<Sieve>
-        ensures { IfSome result (Sifts self.now) }
+    pub(crate) fn prefilter(&self) -> Option<Prefilter>
+        ensures { IfSome result (IsPrefilterOf self.now) }
     {
-        match sieve_of(&self.layout, None) {
-            Some(sieve) => Some(sieve),
-            None => sieve_of_ways(&self.ways),
+        match prefilter_of(&self.layout, None) {
+            Some(prefilter) => Some(prefilter),
+            None => prefilter_of_ways(&self.ways),
         }
     }
 
@@ -158,13 +158,13 @@ impl Plan {
 
 /// A man who has to stand on known squares, or may not. The men stand the one way or the other, of
 /// each of these.
-fn sieve_of_ways(all: &[Ways]) -> Option<Sieve>
-    ensures { IfSome result (λ sieve. (men : Placement) → AllEither men all.now
-        → FitsSieve sieve men) }
+fn prefilter_of_ways(all: &[Ways]) -> Option<Prefilter>
+    ensures { IfSome result (λ prefilter. (men : Placement) → AllEither men all.now
+        → FitsPrefilter prefilter men) }
 {
     for ways in all {
-        if let Some(sieve) = sieve_of(ways.straight.layout(), Some(ways.turned.layout())) {
-            return Some(sieve);
+        if let Some(prefilter) = prefilter_of(ways.straight.layout(), Some(ways.turned.layout())) {
+            return Some(prefilter);
         }
     }
     None

@@ -9,7 +9,7 @@ ghost use Rattle.pgn_game.specs.Public.PackedGames.{PackedGame, IsPacked, FitsRe
 ghost use Rattle.pgn_game.specs.Public.PackReading.{IsRawOfGame, raw_of};
 ghost use Rattle.pgn_game.specs.Public.Starts.{fen_tag};
 ghost use Rattle.pgn_game.specs.declared.replays.replayer.Lines.TheVariants.{Main};
-ghost use Rattle.pgn_criteria.specs.Public.Sieves.{MeetsSeen, NowhereSeen, codes_in};
+ghost use Rattle.pgn_criteria.specs.Public.Prefilters.{MeetsSeen, NowhereSeen, codes_in};
 ghost use Rattle.pgn_criteria.specs.Public.Meeting.{Heading, heading_of, SomeHold, Meets};
 ghost use Rattle.pgn_criteria.specs.Private.Stages.{AllGood, AreLegal, EachAsksWithin};
 ghost use Rattle.pgn_criteria.specs.Public.Walks.{IsSeenOf};

@@ -28,7 +28,8 @@ impl<B: Board> Model for Walk<B> {
 
     ghost coded = { coded_sight };
 
-    ghost view = { λ w. record { men = B.men w.board; turn = w.turn; check = w.check; stuck = w.stuck } };
+    ghost view = { λ w.
+        record { men = B.men w.board; turn = w.turn; check = w.check; stuck = w.stuck } };
 }
 
 /// The corner of the rook of that wing.

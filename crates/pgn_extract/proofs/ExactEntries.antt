@@ -237,7 +237,8 @@ ascend_own : (aim : Aim) (kind : PieceKind) (id : GameId) (own : List Entry)
 ascend_own aim (ReadableGame parts) id own (game, made, sound replay is these) =
     chosen_ascend id (IsEntry aim (heading_of game) replay) (AreFields aim.fields replay)
     (plies_of 0 replay.positions) own these (plies_rise 0 replay.positions)
-ascend_own aim (ReadableGame parts) id own (game, made, faulty fault is none) = subst Ascend (sym none) tt
+ascend_own aim (ReadableGame parts) id own (game, made, faulty fault is none) =
+    subst Ascend (sym none) tt
 ascend_own aim (UnreadableRest bytes) id own none = subst Ascend (sym none) tt
 ascend_own aim TooLongBlock id own none = subst Ascend (sym none) tt
 

@@ -17,7 +17,8 @@ use Rattle.pgn_text.specs.declared.game.pieces.PieceStart.TheVariants as marks
 use Rattle.pgn_text.specs.declared.game.pieces.Piece.{Piece}
 use Rattle.pgn_text.specs.declared.game.pieces.Piece.TheVariants as given
 use Rattle.pgn_extract.specs.Public.Choices.{is_chosen}
-use Rattle.pgn_extract.specs.Private.Blockwise.{id_at, by_itself, AddsVerdict, AddsReplayed, AddsGame}
+use Rattle.pgn_extract.specs.Private.Blockwise.{id_at, by_itself, AddsVerdict, AddsReplayed}
+use Rattle.pgn_extract.specs.Private.Blockwise.{AddsGame}
 use Rattle.pgn_extract.specs.Private.Blockwise.{AddsMark}
 use Rattle.pgn_extract.specs.Private.Blockwise.{IsPieceOf, AddsPiece, NamesBlockStop}
 use Rattle.pgn_extract.specs.Private.Blockwise.{IsBlockVerdict, IsMarkReport, IsMarkVerdict}

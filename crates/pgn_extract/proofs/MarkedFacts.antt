@@ -18,7 +18,7 @@ use Rattle.pgn_game.specs.declared.replays.replayer.Lines.TheVariants.{Main}
 use Rattle.pgn_game.proofs.HeadFacts.{head_shows}
 use Rattle.pgn_criteria.specs.Public.ByMarks.{has_marks, NoneMeets, IsNextMet}
 use Rattle.pgn_criteria.specs.Public.Meeting.{heading_of}
-use Rattle.pgn_criteria.specs.Public.Sieves.{codes_in}
+use Rattle.pgn_criteria.specs.Public.Prefilters.{codes_in}
 use Rattle.pgn_criteria.specs.Public.Walks.{Sight, IsSightOf, stepped}
 use Rattle.pgn_extract.specs.Public.Aims.{Aim, GameId, IsMet}
 use Rattle.pgn_extract.specs.Private.Finding.{GoesOnAt}

@@ -349,9 +349,9 @@ each_style : (request : Request)
     × ((asked false (record (plain request) { width = Some 40 }) None None).style.width ≡ 40)
 each_style request = (refl, refl, refl, refl, refl, refl)
 
-without_marks : (request : Request) → (begin_of (plain request) ≡ Some (game_id 1 0))
+without_check_signs : (request : Request) → (begin_of (plain request) ≡ Some (game_id 1 0))
     × (end_of (plain request) ≡ Some (2 ^ 64 - 1))
-without_marks request = (refl, refl)
+without_check_signs request = (refl, refl)
 
 with_marks : (request : Request) (text : Bor (List ℕ)) → text.now ≡ codes "2@22"
     → (begin_of (record (plain request) { from = Some text }) ≡ Some (game_id 2 22))

@@ -13,7 +13,7 @@ use Rattle.pgn_game.specs.Public.PlyCodes.{PlyCode, FitsCode, AreCodes, code_byt
 use Rattle.pgn_game.specs.Public.Replays.{Replay}
 use Rattle.pgn_game.specs.declared.replays.replayer.Lines.TheVariants.{Main}
 use Rattle.pgn_game.proofs.PlyCodeFacts.{code_again}
-use Rattle.pgn_criteria.specs.Public.Sieves.{MeetsSeen, NowhereSeen, codes_in}
+use Rattle.pgn_criteria.specs.Public.Prefilters.{MeetsSeen, NowhereSeen, codes_in}
 use Rattle.pgn_criteria.specs.Public.Meeting.{heading_of, Heading, SomeHold}
 use Rattle.pgn_criteria.specs.Public.Walks.{Sight, IsSightOf, stepped}
 use Rattle.pgn_criteria.specs.Public.Conditions.{Conditions}

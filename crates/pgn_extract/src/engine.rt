@@ -102,7 +102,8 @@ pub fn run<R: Read, O: Write, E: Write>(
 ) -> Result<Summary, RunError>
     requires { IsReady (job_of settings.now) input.old out.old err.old }
     ensures { IsRun (job_of settings.now)
-        (io_of R.remaining O.contents E.contents input.old input.new out.old out.new err.old err.new) result }
+        (io_of R.remaining O.contents E.contents input.old input.new out.old out.new err.old
+        err.new) result }
 {
     match drop_first(input, settings.offset) {
         Ok(()) => run_blocks(alloc, input, out, err, settings),
@@ -121,7 +122,8 @@ pub fn run_skipping<R: Skip, O: Write, E: Write>(
 ) -> Result<Summary, RunError>
     requires { IsReady (job_of settings.now) input.old out.old err.old }
     ensures { IsRun (job_of settings.now)
-        (io_of R.remaining O.contents E.contents input.old input.new out.old out.new err.old err.new) result }
+        (io_of R.remaining O.contents E.contents input.old input.new out.old out.new err.old
+        err.new) result }
 {
     match skip_first(input, settings.offset) {
         Ok(()) => run_blocks(alloc, input, out, err, settings),

@@ -12,7 +12,7 @@ ghost use Rattle.pgn_extract.specs.Public.Index.{mark_line, titled};
 ghost use Rattle.pgn_extract.specs.Public.Listing.{is_plain};
 ghost use Rattle.pgn_criteria.specs.Public.ByMarks.{has_marks, NoneMeets};
 ghost use Rattle.pgn_criteria.specs.Public.Meeting.{heading_of};
-ghost use Rattle.pgn_criteria.specs.Public.Sieves.{codes_in};
+ghost use Rattle.pgn_criteria.specs.Public.Prefilters.{codes_in};
 ghost use Rattle.pgn_extract.specs.Private.MarkedPacked.{StartsWith, AreMetWith};
 ghost use Rattle.pgn_extract.specs.Private.Packed.{raw_id, PutsRecord, LeavesRecord, EachOfRecord};
 ghost use Rattle.pgn_extract.specs.Private.Packed.{HasNoText, record_aim, Grows, ShowsInitial};
@@ -217,8 +217,8 @@ fn side_at_start(alloc: Global, record: &RawRecord<'_>) -> Result<Side, PackedFa
 /// position after a ply.
 fn has_some(marks: MarkSet, turn: Side, record: &RawRecord<'_>) -> bool
     ensures { result ≡ false
-        → (has_marks marks.bits turn (record.now.head % 2 == 1) (record.now.head / 2 % 2 == 1)
-        ≡ false) × NoneMeets marks.bits turn (codes_in record.now.plies) }
+        → (has_marks marks.flags turn (record.now.head % 2 == 1) (record.now.head / 2 % 2 == 1)
+        ≡ false) × NoneMeets marks.flags turn (codes_in record.now.plies) }
 {
     marks.has(turn, record.in_check(), record.is_stuck())
         || marks.next(turn, record.plies()).is_some()
@@ -235,8 +235,9 @@ fn push_marked(
 ) -> Result<(), PackedFault>
     requires plain { is_plain settings.now.fields ≡ true }
     requires met { EachOfRecord record.now (λ game replay packed.
-        AreMetWith marks.bits (heading_of game) settings.now.criteria) }
-    ensures ok { OnOk result (ListsRecord (aim_of settings.now) record.now text.old.items text.new.items) }
+        AreMetWith marks.flags (heading_of game) settings.now.criteria) }
+    ensures ok { OnOk result
+        (ListsRecord (aim_of settings.now) record.now text.old.items text.new.items) }
     ensures err { IfErr result (λ fault. fault ≡ PackedFault.NoGame
         → (text.new.items ≡ text.old.items) × HasNoText record.now) }
 {
@@ -270,7 +271,8 @@ fn push_walked<'a>(
     requires plain { is_plain settings.now.fields ≡ true }
     requires criteria { settings.now.criteria ≡ Some criteria.now }
     requires shows { IsRawOfGame record.now }
-    ensures ok { OnOk result (ListsRecord (aim_of settings.now) record.now text.old.items text.new.items) }
+    ensures ok { OnOk result
+        (ListsRecord (aim_of settings.now) record.now text.old.items text.new.items) }
     ensures err { IfErr result (λ fault. fault ≡ PackedFault.NoGame
         → (text.new.items ≡ text.old.items) × HasNoText record.now) }
 {
@@ -310,7 +312,8 @@ fn push_plain(
     requires plain { is_plain settings.now.fields ≡ true }
     requires criteria { settings.now.criteria ≡ None }
     requires shows { IsRawOfGame record.now }
-    ensures ok { OnOk result (ListsRecord (aim_of settings.now) record.now text.old.items text.new.items) }
+    ensures ok { OnOk result
+        (ListsRecord (aim_of settings.now) record.now text.old.items text.new.items) }
     ensures err { IfErr result (λ fault. fault ≢ PackedFault.NoGame) }
 {
     let mut mark = Vec::with_capacity(alloc, MARK_ROOM)?;
@@ -329,7 +332,8 @@ fn push_entries<'a>(
 ) -> Result<(), PackedFault>
     requires plain { is_plain settings.now.fields ≡ true }
     requires shows { IsRawOfGame record.now }
-    ensures ok { OnOk result (ListsRecord (aim_of settings.now) record.now text.old.items text.new.items) }
+    ensures ok { OnOk result
+        (ListsRecord (aim_of settings.now) record.now text.old.items text.new.items) }
     ensures err { IfErr result (λ fault. fault ≡ PackedFault.NoGame
         → (text.new.items ≡ text.old.items) × HasNoText record.now) }
 {
@@ -359,7 +363,8 @@ pub fn push_packed<'a>(
 ) -> Result<(), PackedFault>
     requires plain { is_plain settings.now.fields ≡ true }
     requires shows { IsRawOfGame record.now }
-    ensures ok { OnOk result (PutsRecord (aim_of settings.now) record.now text.old.items text.new.items) }
+    ensures ok { OnOk result
+        (PutsRecord (aim_of settings.now) record.now text.old.items text.new.items) }
     ensures err { IfErr result (λ fault. fault ≡ PackedFault.NoGame
         → LeavesRecord record.now text.old.items text.new.items) }
 {

@@ -5,7 +5,7 @@ use Rattle.std.proofs.Common.{length-append, arith}
 use Rattle.std.proofs.lemmas.Bool.Decides.{nat_tests}
 use Rattle.pgn_game.specs.Public.TextLines.{joined, tokens_of, text_of, IsLine, IsFull, AreLines}
 use Rattle.pgn_game.specs.Public.TextLines.{TokensHaveAText}
-use Rattle.pgn_game.specs.Private.Pens.{added, parted, column_after, AddedIsLaid}
+use Rattle.pgn_game.specs.Private.LineWrappers.{added, parted, column_after, AddedIsLaid}
 
 -- a line and one token more
 joined_more : (first : List ℕ) (line : List (List ℕ)) (token : List ℕ)

@@ -23,7 +23,7 @@ pub mod OneMovetext
 pub mod TurnCounts
 pub mod TagLineFacts
 pub mod OneExport
-pub mod PenFacts
+pub mod LineWrapperFacts
 pub mod CommentFacts
 pub mod CommandFacts
 pub mod MovetextFacts

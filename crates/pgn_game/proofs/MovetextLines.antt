@@ -23,7 +23,7 @@ use Rattle.pgn_game.specs.Public.Faults.{Fault, HasLineFault, IsMoveFault}
 use Rattle.pgn_game.specs.Private.LineWalks.{Stops, begun, first_level, gone_on, is_inside}
 use Rattle.pgn_game.specs.Public.MainLines.{main_words, IsMainLine}
 use Rattle.pgn_game.specs.Private.MovetextWalks.{WritesStep}
-use Rattle.pgn_game.specs.Private.Pens.{HasPut}
+use Rattle.pgn_game.specs.Private.LineWrappers.{HasPut}
 use Rattle.pgn_game.specs.Private.Steps.{Step, Visits, Walks, WalksOn, around, outside, shown_if}
 use Rattle.pgn_game.specs.Private.Steps.{shown_items}
 use Rattle.pgn_game.specs.Public.Replays.{Replay, AreTurns, IsReplay, IsSoundGame, fault_of}
@@ -38,7 +38,7 @@ use Rattle.pgn_game.specs.declared.turns.line_move.LineMove.{LineMove}
 use Rattle.pgn_game.specs.declared.turns.line_move.LineMove.TheVariants.{Played, Passed}
 use Rattle.pgn_game.proofs.OneLine.{main_words_of}
 use Rattle.pgn_game.proofs.OneReplay.{line_head, no_fault}
-use Rattle.pgn_game.proofs.PenFacts.{put_both}
+use Rattle.pgn_game.proofs.LineWrapperFacts.{put_both}
 use Rattle.pgn_game.proofs.RunFacts.{stops_faulty}
 use Rattle.pgn_game.proofs.Spelling.{one_spelt}
 
@@ -119,7 +119,7 @@ record WrittenThen (style : Style) (apart : Bool) (at : Level) (outer : List Lev
   mid : MovetextWriter
   more : List Step
   last : Level
-  put : HasPut old.pen mid.pen old.out.items mid.out.items own
+  put : HasPut old.wrapper mid.wrapper old.out.items mid.out.items own
   tokens : AreTokens style (is_inside outer) at.before at.now apart line own
   walks : Walks rest last outer more
   visits : Visits WritesStep mid more new
@@ -155,18 +155,19 @@ module _ (style : Style) where
       line_written line rest false (gone_on at turn) outer more first.0 new shown (puts.same
       ∙ same) puts.stands walks first.2 in
       let number = number_tokens at.now.turn at.now.fullmove_number apart in
-      let put : HasPut old.pen first.0.pen old.out.items first.0.out.items (number ++ text ∷ []) =
+      let put : HasPut old.wrapper first.0.wrapper old.out.items first.0.out.items (number
+      ++ text ∷ []) =
       subst (λ a.
-      HasPut old.pen first.0.pen old.out.items first.0.out.items
+      HasPut old.wrapper first.0.wrapper old.out.items first.0.out.items
       (number_tokens at.now.turn at.now.fullmove_number a ++ text ∷ [])) stands puts.put in
       record {
         own = number ++ text ∷ there.own;
         mid = there.mid;
         more = there.more;
         last = there.last;
-        put = subst (HasPut old.pen there.mid.pen old.out.items there.mid.out.items)
+        put = subst (HasPut old.wrapper there.mid.wrapper old.out.items there.mid.out.items)
             (append_assoc number (text ∷ []) there.own)
-            (put_both old.pen first.0.pen there.mid.pen old.out.items first.0.out.items
+            (put_both old.wrapper first.0.wrapper there.mid.wrapper old.out.items first.0.out.items
             there.mid.out.items (number ++ text ∷ []) there.own put there.put);
         tokens = (turn, text, there.own, says, first.1.1, refl, there.tokens);
         walks = there.walks;
@@ -184,16 +185,16 @@ module _ (style : Style) where
       line_written line rest apart at outer more first.0 new shown (puts.same
       ∙ same) (puts.stands ∙ stands) walks first.2 in
       let glyph = kept style.glyphs ((36 ∷ decimal number) ∷ []) in
-      let put : HasPut old.pen first.0.pen old.out.items first.0.out.items glyph =
+      let put : HasPut old.wrapper first.0.wrapper old.out.items first.0.out.items glyph =
       subst (λ (s : Style).
-      HasPut old.pen first.0.pen old.out.items first.0.out.items
+      HasPut old.wrapper first.0.wrapper old.out.items first.0.out.items
       (kept s.glyphs ((36 ∷ decimal number) ∷ []))) same puts.put in
       record {
         own = glyph ++ there.own;
         mid = there.mid;
         more = there.more;
         last = there.last;
-        put = put_both old.pen first.0.pen there.mid.pen old.out.items first.0.out.items
+        put = put_both old.wrapper first.0.wrapper there.mid.wrapper old.out.items first.0.out.items
             there.mid.out.items glyph there.own put there.put;
         tokens = (there.own, refl, there.tokens);
         walks = there.walks;
@@ -213,16 +214,16 @@ module _ (style : Style) where
       (puts.stands ∙ ap (λ a. a || old.style.comments) stands
       ∙ ap (λ (s : Style). apart || s.comments) same) walks first.2 in
       let remark = kept style.comments (comment_tokens style.commands text) in
-      let put : HasPut old.pen first.0.pen old.out.items first.0.out.items remark =
+      let put : HasPut old.wrapper first.0.wrapper old.out.items first.0.out.items remark =
       subst (λ (s : Style).
-      HasPut old.pen first.0.pen old.out.items first.0.out.items
+      HasPut old.wrapper first.0.wrapper old.out.items first.0.out.items
       (kept s.comments (comment_tokens s.commands text))) same puts.put in
       record {
         own = remark ++ there.own;
         mid = there.mid;
         more = there.more;
         last = there.last;
-        put = put_both old.pen first.0.pen there.mid.pen old.out.items first.0.out.items
+        put = put_both old.wrapper first.0.wrapper there.mid.wrapper old.out.items first.0.out.items
             there.mid.out.items remark there.own put there.put;
         tokens = (there.own, refl, there.tokens);
         walks = there.walks;
@@ -247,11 +248,11 @@ module _ (style : Style) where
       line_written line rest true at outer inside.walks.0 second.0 new shown (closes.same
       ∙ inside.same) closes.stands inside.walks.2 second.2 in
       let put =
-      put_both old.pen second.0.pen there.mid.pen old.out.items second.0.out.items
+      put_both old.wrapper second.0.wrapper there.mid.wrapper old.out.items second.0.out.items
       there.mid.out.items ((codes "(" ∷ inside.own) ++ codes ")" ∷ []) there.own
-      (put_both old.pen inside.mid.pen second.0.pen old.out.items inside.mid.out.items
+      (put_both old.wrapper inside.mid.wrapper second.0.wrapper old.out.items inside.mid.out.items
       second.0.out.items (codes "(" ∷ inside.own) (codes ")" ∷ [])
-      (put_both old.pen first.0.pen inside.mid.pen old.out.items first.0.out.items
+      (put_both old.wrapper first.0.wrapper inside.mid.wrapper old.out.items first.0.out.items
       inside.mid.out.items (codes "(" ∷ []) inside.own opens.put inside.put) closes.put)
       there.put in
       record {
@@ -301,7 +302,7 @@ skipped (ThenVariation inner line) more depth inside =
 record WrittenMain (style : Style) (apart : Bool) (at : Level) (line : Line)
     (old new : MovetextWriter) : Type 0 where
   own : List (List ℕ)
-  put : HasPut old.pen new.pen old.out.items new.out.items own
+  put : HasPut old.wrapper new.wrapper old.out.items new.out.items own
   tokens : AreTokens style false at.before at.now apart line own
 
 module _ (style : Style) where
@@ -315,7 +316,7 @@ module _ (style : Style) where
         own = [];
         put =
             subst (λ (w : MovetextWriter).
-            HasPut old.pen w.pen old.out.items w.out.items []) (sym last) (λ more. refl);
+            HasPut old.wrapper w.wrapper old.out.items w.out.items []) (sym last) (λ more. refl);
         tokens =
             refl;
       }
@@ -333,15 +334,17 @@ module _ (style : Style) where
       main_written line false (gone_on at turn) more first.0 new hidden (puts.same
       ∙ same) puts.stands walks first.2 in
       let number = number_tokens at.now.turn at.now.fullmove_number apart in
-      let put : HasPut old.pen first.0.pen old.out.items first.0.out.items (number ++ text ∷ []) =
+      let put : HasPut old.wrapper first.0.wrapper old.out.items first.0.out.items (number
+      ++ text ∷ []) =
       subst (λ a.
-      HasPut old.pen first.0.pen old.out.items first.0.out.items
+      HasPut old.wrapper first.0.wrapper old.out.items first.0.out.items
       (number_tokens at.now.turn at.now.fullmove_number a ++ text ∷ [])) stands puts.put in
       record {
         own = number ++ text ∷ there.own;
-        put = subst (HasPut old.pen new.pen old.out.items new.out.items)
+        put = subst (HasPut old.wrapper new.wrapper old.out.items new.out.items)
             (append_assoc number (text ∷ []) there.own)
-            (put_both old.pen first.0.pen new.pen old.out.items first.0.out.items new.out.items
+            (put_both old.wrapper first.0.wrapper new.wrapper old.out.items
+            first.0.out.items new.out.items
             (number ++ text ∷ []) there.own put there.put);
         tokens = (turn, text, there.own, says, first.1.1, refl, there.tokens);
       }
@@ -356,13 +359,14 @@ module _ (style : Style) where
       main_written line apart at more first.0 new hidden (puts.same ∙ same) (puts.stands
       ∙ stands) walks first.2 in
       let glyph = kept style.glyphs ((36 ∷ decimal number) ∷ []) in
-      let put : HasPut old.pen first.0.pen old.out.items first.0.out.items glyph =
+      let put : HasPut old.wrapper first.0.wrapper old.out.items first.0.out.items glyph =
       subst (λ (s : Style).
-      HasPut old.pen first.0.pen old.out.items first.0.out.items
+      HasPut old.wrapper first.0.wrapper old.out.items first.0.out.items
       (kept s.glyphs ((36 ∷ decimal number) ∷ []))) same puts.put in
       record {
         own = glyph ++ there.own;
-        put = put_both old.pen first.0.pen new.pen old.out.items first.0.out.items new.out.items
+        put = put_both old.wrapper first.0.wrapper new.wrapper old.out.items
+            first.0.out.items new.out.items
             glyph there.own put there.put;
         tokens = (there.own, refl, there.tokens);
       }
@@ -378,13 +382,14 @@ module _ (style : Style) where
       (puts.stands ∙ ap (λ a. a || old.style.comments) stands
       ∙ ap (λ (s : Style). apart || s.comments) same) walks first.2 in
       let remark = kept style.comments (comment_tokens style.commands text) in
-      let put : HasPut old.pen first.0.pen old.out.items first.0.out.items remark =
+      let put : HasPut old.wrapper first.0.wrapper old.out.items first.0.out.items remark =
       subst (λ (s : Style).
-      HasPut old.pen first.0.pen old.out.items first.0.out.items
+      HasPut old.wrapper first.0.wrapper old.out.items first.0.out.items
       (kept s.comments (comment_tokens s.commands text))) same puts.put in
       record {
         own = remark ++ there.own;
-        put = put_both old.pen first.0.pen new.pen old.out.items first.0.out.items new.out.items
+        put = put_both old.wrapper first.0.wrapper new.wrapper old.out.items
+            first.0.out.items new.out.items
             remark there.own put there.put;
         tokens = (there.own, refl, there.tokens);
       }
@@ -414,7 +419,7 @@ pub record WrittenTokens (style : Style) (start : State) (items : List Item)
   pub own : List (List ℕ)
   pub spells : items ≡ spelled line
   pub tokens : AreTokens style false start start true line own
-  pub put : HasPut old.pen new.pen old.out.items new.out.items own
+  pub put : HasPut old.wrapper new.wrapper old.out.items new.out.items own
 
 pub written_tokens : (start : State) (items : List Item) (stack : LineStack Level)
     (steps : List Step) (old new : MovetextWriter) → IsPaired 0 items
@@ -450,7 +455,8 @@ written_tokens start items stack steps old new paired none begins stands on visi
           spells = spells;
           tokens = there.tokens;
           put = subst (λ (w : MovetextWriter).
-              HasPut old.pen w.pen old.out.items w.out.items there.own) (sym last) there.put;
+              HasPut old.wrapper w.wrapper old.out.items w.out.items there.own)
+              (sym last) there.put;
         }
     by false hidden line spells walks =
         let there =

@@ -204,7 +204,8 @@ same_line now (word ∷ first) rest (word2 ∷ words) left positions others play
     let there =
     same_line (after now m) first rest words left ps qs ms ns most line
     (subst (λ k. IsMainLine (after now k) words qs ns) one other) tail
-    (ends_before rest ms played m most ms_is ends) (ends_before left ns moves n most ns_is ends2) in (
+    (ends_before rest ms played m most ms_is ends)
+    (ends_before left ns moves n most ns_is ends2) in (
       ps_is ∙ ap (λ xs. now ∷ xs) there.0 ∙ sym qs_is,
       ms_is ∙ ap (λ xs. m ∷ xs) there.1 ∙ ap (λ k. k ∷ ns) (sym one) ∙ sym ns_is,
     )

@@ -13,7 +13,7 @@ use Rattle.chess.specs.Public.Moves.{after}
 use Rattle.chess.specs.Public.Positions.{State}
 use Rattle.chess.specs.Public.San.{castling_text, capture_text, is_capture, pawn_text}
 use Rattle.chess.specs.Public.San.{promotion_text, IsDisambiguation, alone, by_file, by_rank}
-use Rattle.chess.specs.Public.San.{by_both, IsPieceText, IsBody, IsCheckMark, mate, check, quiet}
+use Rattle.chess.specs.Public.San.{by_both, IsPieceText, IsBody, IsCheckSign, mate, check, quiet}
 use Rattle.chess.specs.declared.board.man.Kind.{Kind}
 use Rattle.chess.specs.declared.board.man.Kind.TheVariants.{King, Queen, Rook, Bishop, Knight, Pawn}
 use Rattle.chess.specs.declared.board.man.Side.{Side}
@@ -304,7 +304,7 @@ body_plain now m None Rook body is = piece_plain now m Rook body is
 body_plain now m None Bishop body is = piece_plain now m Bishop body is
 body_plain now m None Knight body is = piece_plain now m Knight body is
 
-mark_plain : (now : State) (mark : List ℕ) → IsCheckMark now mark → IsPlain mark
+mark_plain : (now : State) (mark : List ℕ) → IsCheckSign now mark → IsPlain mark
 mark_plain now mark (mate mated) = ((ink 35 (omega arith), record {}), (omega arith, omega arith))
 mark_plain now mark (check checked other) =
     ((ink 43 (omega arith), record {}), (omega arith, omega arith))

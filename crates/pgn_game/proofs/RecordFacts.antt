@@ -108,7 +108,8 @@ tags_take (suc n) last bytes rest fits e =
     let both =
     Takes-then bytes (tag_bytes first.0) a.0.1 (flat_map tag_bytes others.0) rest first.4
     others.3 in
-    let rising = subst (λ (name : List ℕ). AreRising (Some name) others.0) (sym first.2) others.4 in (
+    let rising =
+    subst (λ (name : List ℕ). AreRising (Some name) others.0) (sym first.2) others.4 in (
       first.0 ∷ others.0,
       ap suc others.1,
       (first.1, others.2),

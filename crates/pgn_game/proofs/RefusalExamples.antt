@@ -129,7 +129,7 @@ no_pass_at_first lines start items refused first pass is =
     let clash : false ≡ true =
     subst (λ inside. (inside && is_pass refused.word.now) ≡ true) there.0 why.0 in cc
 
--- nor is a glyph refused, a word after one that names no move, or, where the main line alone is
+-- nor is a NAG refused, a word after one that names no move, or, where the main line alone is
 -- replayed, a word of a variation
 no_glyph_refused : (lines : Lines) (start : State) (refused : Refused) → refused.element ≡ 0
     → IsRefusedFrom lines start (GlyphNumber 1 ∷ []) refused → ⊥

@@ -4,7 +4,7 @@ use Rattle.std.proofs.Common.{refl, sym, ap, subst, ◌∙◌, inl, inr}
 use Rattle.chess.specs.Public.Squares.{Place, IsOnBoard}
 use Rattle.chess.specs.Public.Placements.{AreOnBoard}
 use Rattle.chess.specs.Public.Positions.{State}
-use Rattle.chess.specs.Public.Moves.{after, arriving, taken, CanGo, HasMove, IsPseudoLegal}
+use Rattle.chess.specs.Public.Moves.{after, arriving, capture_square, CanGo, HasMove, IsPseudoLegal}
 use Rattle.chess.specs.declared.board.man.Man.{Man}
 use Rattle.chess.specs.declared.board.man.Kind.{Kind}
 use Rattle.chess.specs.declared.moves.Move.{Move}
@@ -63,7 +63,7 @@ some_code P m legal on_board =
     record {
       from = m.from;
       to = m.to;
-      taken = taken P m;
+      taken = capture_square P m;
       man = man.0;
       castle =
           m.castle;

@@ -12,7 +12,7 @@ ghost use Rattle.pgn_game.specs.Public.Replays.{fault_of};
 
 use crate::replays::line_stack::LineStack;
 use crate::replays::replayer::Lines;
-use crate::replays::walk::{Discard, Level, step};
+use crate::replays::walk::{DiscardSteps, Level, step};
 use crate::turns::fault::GameFault;
 use crate::turns::replayed::GamePosition;
 use crate::turns::saying::is_null_move;
@@ -110,7 +110,7 @@ fn go_on<'a>(
 {
     let inside = stack.is_inside();
     let position = stack.line.now.copy();
-    let Err(fault) = step(stack, element, &mut Discard) else {
+    let Err(fault) = step(stack, element, &mut DiscardSteps) else {
         return Ok(None);
     };
     match element {

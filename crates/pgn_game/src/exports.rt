@@ -3,9 +3,9 @@
 mod comment;
 pub(crate) mod exporter;
 pub(crate) mod game_line;
+mod line_wrapper;
 mod movetext;
 pub(crate) mod notation;
-mod pen;
 pub(crate) mod style;
 mod tag_lines;
 mod tokens;

@@ -3,7 +3,7 @@ use Rattle.std.proofs.Common.{◌≡◌, ℕ, zero, suc, ◌+◌, Bool, true, fa
 use Rattle.std.proofs.Common.{codes, refl}
 use Rattle.std.specs.List.{filter}
 use Rattle.pgn_text.specs.Public.Bytes.{is_byte, is_white, is_digit, is_letter, is_name_byte}
-use Rattle.pgn_text.specs.Public.Bytes.{is_word_byte, is_mark, is_check_mark, is_plain}
+use Rattle.pgn_text.specs.Public.Bytes.{is_word_byte, is_mark, is_check_sign, is_plain}
 use Rattle.pgn_text.specs.Public.Bytes.{is_not_line_feed, is_not_brace, ends_in_line_feed, is_empty}
 use Rattle.pgn_text.specs.Public.Bytes.{stops, begins, run_of, after_run}
 use Rattle.pgn_text.specs.Public.StopPlaces.{is_open_brace, is_open_bracket, is_quote}
@@ -42,7 +42,7 @@ word_bytes = refl
 marks : bytes_in is_mark ≡ codes "!?"
 marks = refl
 
-check_marks : bytes_in is_check_mark ≡ codes "#+"
+check_marks : bytes_in is_check_sign ≡ codes "#+"
 check_marks = refl
 
 bytes_of_strings : bytes_in (λ b. not (is_plain b)) ≡ numbers 0 9 ++ numbers 10 22 ++ 127 ∷ []

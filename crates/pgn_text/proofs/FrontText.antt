@@ -118,10 +118,11 @@ block_front_within limit max_depth offset block earlier piece front one e f shor
       ∙ ap (λ n. offset + n) r.place;
   each = within (omega (arith, short, ap length r.parted, length-append r.front r.rest)) front
       r.pieces (sym e);
-  line = λ some h. elim (short_front event_line r.front r.rest (ap begins_line (sym r.parted) ∙ h)) [
-    | inl t ↦ t
-    | inr t ↦ absurd (r.line t.0 some t.1)
-  ];
+  line = λ some h. elim
+      (short_front event_line r.front r.rest (ap begins_line (sym r.parted) ∙ h)) [
+        | inl t ↦ t
+        | inr t ↦ absurd (r.line t.0 some t.1)
+      ];
 }
 
 block_front : (limit max_depth offset : ℕ) (block : List ℕ) (earlier : List MarkedPiece)

@@ -67,7 +67,8 @@ pub gives_error : (max_depth : ℕ) (f : Bool) (block : List ℕ) (at begin : �
     → GivesPiece max_depth old (Some (Err error)) (left_at f block (length block) true)
 gives_error max_depth f block at begin failed error old is sound gap not_end =
     let pieces = pieces_exist max_depth f (take at block) (drop at block) in
-    subst (λ o. GivesPiece max_depth o (Some (Err error)) (left_at f block (length block) true)) is (
+    subst (λ o.
+    GivesPiece max_depth o (Some (Err error)) (left_at f block (length block) true)) is (
       sound,
       refl,
       (pieces.0, piece_left max_depth f block at begin gap not_end pieces.0 pieces.1, pieces.1),

@@ -262,7 +262,7 @@ module _ (max_depth : ℕ) where
           (subst (Follows max_depth s)
           (from_word place b (take k rest ++ p.more) word p.part p.spelt p.stands) p.follows)
 
-  -- ---- a glyph
+  -- ---- a NAG
 
   grows : (n : ℕ) (y : List ℕ) → n ≤ number_from n y
   grows n [] = omega arith

@@ -4,7 +4,7 @@ use Rattle.std.proofs.Common.{length, refl, sym, ap, subst, ◌∙◌, ◌⊎◌
 use Rattle.std.specs.Prelude.{◌==◌, ◌&&◌, ◌||◌, not, nat_eq, bytes_eq}
 use Rattle.std.specs.List.{list_all, starts_with}
 use Rattle.std.proofs.lemmas.Bool.{and_parts, and_from, or_cases, or_left, or_right, eqb-true}
-use Rattle.pgn_text.specs.Public.Bytes.{is_digit, is_letter, is_word_byte, is_check_mark, is_empty}
+use Rattle.pgn_text.specs.Public.Bytes.{is_digit, is_letter, is_word_byte, is_check_sign, is_empty}
 use Rattle.pgn_text.specs.Public.Games.{is_number, is_result_word, is_zero_castling, is_move_text}
 use Rattle.pgn_text.specs.Private.PartFronts.{no_byte, IsFrontOf, IsMoveFront, IsResultFront}
 use Rattle.pgn_text.proofs.Furthest.{as_far_front, as_far_whole, as_far_goes}
@@ -16,15 +16,15 @@ abbrev pub IsMeant : Bool → List ℕ → Type 0
 IsMeant closed word = (is_number word || is_move_text word) ≡ true
     ⊎ ((closed ≡ true) × (is_result_word word ≡ true))
 
--- a word that begins as another and goes on with check marks
+-- a word that begins as another and goes on with check signs
 castling_far : (w x y : List ℕ) → starts_with nat_eq (x ++ y) w ≡ true
-    → list_all is_check_mark (drop (length w) (x ++ y)) ≡ true → IsFrontOf is_check_mark w x
-castling_far w x y s all = as_far_front is_check_mark w x y (whole w (x ++ y) s all)
+    → list_all is_check_sign (drop (length w) (x ++ y)) ≡ true → IsFrontOf is_check_sign w x
+castling_far w x y s all = as_far_front is_check_sign w x y (whole w (x ++ y) s all)
   where
     whole : (w z : List ℕ) → starts_with nat_eq z w ≡ true
-        → list_all is_check_mark (drop (length w) z) ≡ true
-        → IsFrontOf is_check_mark w z
-    whole [] z s all = as_far_whole is_check_mark [] z all
+        → list_all is_check_sign (drop (length w) z) ≡ true
+        → IsFrontOf is_check_sign w z
+    whole [] z s all = as_far_whole is_check_sign [] z all
     whole (c ∷ w) [] s all = tt
     whole (c ∷ w) (b ∷ z) s all =
         let both = and_parts (c == b) (starts_with nat_eq z w) s in
@@ -48,9 +48,9 @@ move_far b x y letter e =
     ]
   where
     castled : ((starts_with nat_eq ((b ∷ x) ++ y) (codes "0-0-0")
-        && list_all is_check_mark (drop 5 ((b ∷ x) ++ y))) ≡ true)
+        && list_all is_check_sign (drop 5 ((b ∷ x) ++ y))) ≡ true)
         ⊎ ((starts_with nat_eq ((b ∷ x) ++ y) (codes "0-0")
-        && list_all is_check_mark (drop 3 ((b ∷ x) ++ y))) ≡ true)
+        && list_all is_check_sign (drop 3 ((b ∷ x) ++ y))) ≡ true)
         → IsMoveFront (b ∷ x)
     castled (inl l) =
         let both = and_parts (starts_with nat_eq ((b ∷ x) ++ y) (codes "0-0-0")) _ l in
@@ -92,7 +92,7 @@ all_words test within (b ∷ y) all =
     and_from (is_word_byte b) (list_all is_word_byte y) (within b both.0)
     (all_words test within y both.1)
 
-check_word : (b : ℕ) → is_check_mark b ≡ true → is_word_byte b ≡ true
+check_word : (b : ℕ) → is_check_sign b ≡ true → is_word_byte b ≡ true
 check_word b e = or_left _ _ (or_right _ _ (or_left _ _ e))
 
 number_goes : (b : ℕ) (x : List ℕ) → IsFrontOf is_digit [] (b ∷ x) → GoesOnTo is_number (b ∷ x)
@@ -138,11 +138,11 @@ exact meaning w x some words meant h = word_goes meaning no_byte w x h fits
     fits (b ∷ y) all = cc
 
 castling : (w x : List ℕ) → IsTrue (not (is_empty w))
-    → ((y : List ℕ) → IsTrue (list_all is_check_mark y)
+    → ((y : List ℕ) → IsTrue (list_all is_check_sign y)
     → IsTrue (list_all is_word_byte (w ++ y)) × (is_move_text (w ++ y) ≡ true))
-    → IsTrue (list_all is_word_byte w) → IsFrontOf is_check_mark w x → GoesOnTo is_move_text x
+    → IsTrue (list_all is_word_byte w) → IsFrontOf is_check_sign w x → GoesOnTo is_move_text x
 castling w x some meant words h =
-    word_goes is_move_text is_check_mark w x h (λ y all.
+    word_goes is_move_text is_check_sign w x h (λ y all.
     (nonempty w some y, (meant y all).0, (meant y all).1))
   where
     nonempty : (w : List ℕ) → IsTrue (not (is_empty w)) → (y : List ℕ)
@@ -156,14 +156,14 @@ move_goes b x (inl (inl h)) = inl (number_goes b x h)
 move_goes b x (inl (inr h)) = inr (exact is_move_text (codes "--") (b ∷ x) refl refl refl h)
 move_goes b x (inr (inl h)) = inr (castling (codes "0-0") (b ∷ x) refl
     (λ y all. (
-      all_words is_check_mark check_word y all,
+      all_words is_check_sign check_word y all,
       or_left _ _ (or_right (starts_with nat_eq (codes "0-0" ++ y) (codes "0-0-0")
-          && list_all is_check_mark (drop 5 (codes "0-0" ++ y))) _ all),
+          && list_all is_check_sign (drop 5 (codes "0-0" ++ y))) _ all),
     )) refl h)
 move_goes b x (inr (inr h)) = inr (castling (codes "0-0-0") (b ∷ x) refl
     (λ y all. (
-      all_words is_check_mark check_word y all,
-      or_left _ _ (or_left (list_all is_check_mark y) _ all),
+      all_words is_check_sign check_word y all,
+      or_left _ _ (or_left (list_all is_check_sign y) _ all),
     )) refl h)
 
 pub result_goes : (x : List ℕ) → IsResultFront x → GoesOnTo is_result_word x

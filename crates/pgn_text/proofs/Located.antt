@@ -17,7 +17,7 @@ use Rattle.pgn_text.proofs.KeptLemmas.{items-kept, items-push}
 use Rattle.pgn_text.proofs.PartLemmas.{one_part}
 use Rattle.pgn_text.proofs.TagLemmas.{first_tag-cons, first_tag-push, option_or-none}
 
--- the glyphs of a run of marks: one for each two, and one for a last mark alone
+-- the NAGs of a run of marks: one for each two, and one for a last mark alone
 pub glyph_count : (marks : List ℕ) → length (glyphs_of_marks marks)
     ≡ length marks / 2 + length marks % 2
 glyph_count [] = refl

@@ -20,7 +20,7 @@ use Rattle.pgn_text.specs.Private.Reading.{KeptMarks, KeptOpen, KeptClose, kept,
 use Rattle.pgn_text.specs.Private.Reading.{items_of_kept}
 use Rattle.pgn_text.proofs.KeptLemmas.{is_result-kept, step-kept, items-kept, kept_result}
 
--- glyphs pair nothing
+-- NAGs pair nothing
 marks_paired : (marks : List ℕ) (depth : ℕ) (rest : List Item) → IsPaired depth rest
     → IsPaired depth (glyphs_of_marks marks ++ rest)
 marks_paired [] depth rest paired = paired

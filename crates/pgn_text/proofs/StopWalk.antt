@@ -95,7 +95,8 @@ module _ (max_depth : ℕ) (f : Bool) (block : List ℕ) (begin : ℕ) where
   walk_stops at n state w nothing l =
       let here : standing_of f (take at block)
       ≡ standing_of f (take begin block ++ spelled w.done) = ap (standing_of f) w.passed in
-      let longest = subst (λ p. Longest (IsPartFront max_depth p state) (drop at block) n) here l in (
+      let longest =
+      subst (λ p. Longest (IsPartFront max_depth p state) (drop at block) n) here l in (
         length (spelled w.done) + n,
         omega (arith, size at state w),
         subst (λ t.

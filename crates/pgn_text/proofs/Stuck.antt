@@ -8,7 +8,7 @@ use Rattle.std.proofs.lemmas.Bool.{and_parts, and_from, cases_Bool, or_left, or_
 use Rattle.std.proofs.lemmas.Bool.{eq-eqb, ne_eqb, cases_eq, false≢true, not_from_false}
 use Rattle.std.proofs.lemmas.List.Folds.{list_all-append}
 use Rattle.pgn_text.specs.Public.Bytes.{is_white, is_digit, is_letter, is_word_byte, is_mark}
-use Rattle.pgn_text.specs.Public.Bytes.{is_check_mark, is_not_brace, is_not_line_feed, begins}
+use Rattle.pgn_text.specs.Public.Bytes.{is_check_sign, is_not_brace, is_not_line_feed, begins}
 use Rattle.pgn_text.specs.Public.Bytes.{run_of, after_run}
 use Rattle.pgn_text.specs.Public.Parts.{Part, ByteOrderMark, White, Brace, Line, EscapeLine, Tag}
 use Rattle.pgn_text.specs.Public.Parts.{Word, Star, Dot, Glyph, Marks, Open, Close, Standing}
@@ -31,8 +31,8 @@ use Rattle.pgn_text.proofs.InPart.{stray_glyph, nothing_begins, word_follows, no
 
 abbrev pub move_most : List ℕ → ℕ
 move_most text = max (max (front_length is_digit [] text) (front_length no_byte (codes "--") text))
-    (max (front_length is_check_mark (codes "0-0") text)
-    (front_length is_check_mark (codes "0-0-0") text))
+    (max (front_length is_check_sign (codes "0-0") text)
+    (front_length is_check_sign (codes "0-0-0") text))
 
 abbrev result_most : List ℕ → ℕ
 result_most text =
@@ -42,13 +42,13 @@ result_most text =
 move_longest : (text : List ℕ) → Longest IsMoveFront text (move_most text)
 move_longest text =
     longest_max (λ x. IsFrontOf is_digit [] x ⊎ IsFrontOf no_byte (codes "--") x)
-    (λ x. IsFrontOf is_check_mark (codes "0-0") x
-    ⊎ IsFrontOf is_check_mark (codes "0-0-0") x) text _ _
+    (λ x. IsFrontOf is_check_sign (codes "0-0") x
+    ⊎ IsFrontOf is_check_sign (codes "0-0-0") x) text _ _
     (longest_max (IsFrontOf is_digit []) (IsFrontOf no_byte (codes "--")) text _ _
     (as_far is_digit [] text) (as_far no_byte (codes "--") text))
-    (longest_max (IsFrontOf is_check_mark (codes "0-0")) (IsFrontOf is_check_mark (codes "0-0-0"))
+    (longest_max (IsFrontOf is_check_sign (codes "0-0")) (IsFrontOf is_check_sign (codes "0-0-0"))
     text _ _
-    (as_far is_check_mark (codes "0-0") text) (as_far is_check_mark (codes "0-0-0") text))
+    (as_far is_check_sign (codes "0-0") text) (as_far is_check_sign (codes "0-0-0") text))
 
 result_longest : (text : List ℕ) → Longest IsResultFront text (result_most text)
 result_longest text =

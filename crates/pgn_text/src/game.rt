@@ -39,7 +39,7 @@ use std::marker::Model;
 pub enum Element<'a> {
     /// A move, as its word stands.
     Move(&'a [u8]),
-    /// A glyph's number; a run of `!` and `?` gives a glyph for each two, and one for a last mark
+    /// A NAG's number; a run of `!` and `?` gives a NAG for each two, and one for a last mark
     /// alone.
     Glyph(u8),
     /// A comment's bytes, without its braces, or its semicolon and line feed.
@@ -108,7 +108,7 @@ impl<'a> RawGame<'a> {
         &self.tags
     }
 
-    /// The moves, glyphs, comments and variation ends in their order.
+    /// The moves, NAGs, comments and variation ends in their order.
     pub fn elements(&self) -> &[Element<'a>]
         ensures elements { map item_of result.now ≡ self.now.elements }
         ensures paired { IsPaired 0 self.now.elements }
@@ -134,7 +134,7 @@ impl<'a> RawGame<'a> {
 }
 
 /// What is kept of the parts of a game.
-trait Visitor<'a>: Drop {
+trait TokenVisitor<'a>: Drop {
     type Error;
 
     ghost use Rattle.std.specs.Prelude.{ℕ, ◌≤◌, List, ◌++◌, Option, OnOk, IfOk, length};
@@ -164,9 +164,9 @@ trait Visitor<'a>: Drop {
 
 /// Keeps nothing: for what asks only where a game ends.
 #[derive(Drop)]
-struct Discard {}
+struct DiscardTokens {}
 
-impl<'a> Visitor<'a> for Discard {
+impl<'a> TokenVisitor<'a> for DiscardTokens {
     type Error = Infallible;
 
     ghost kept = { λ visitor tags items. Unit {0} };
@@ -182,7 +182,7 @@ impl<'a> Visitor<'a> for Discard {
     }
 }
 
-impl<'a> Visitor<'a> for GameBuilder<'a> {
+impl<'a> TokenVisitor<'a> for GameBuilder<'a> {
     ghost use Rattle.pgn_text.specs.Private.GameBuilders.{IsBuilderOf};
 
     type Error = AllocError;
@@ -216,7 +216,7 @@ enum Reading {
 
 /// Keeps the part and steps after it, if it may stand there.
 #[inline(always)]
-fn step_after<'a, K: Visitor<'a>>(
+fn step_after<'a, K: TokenVisitor<'a>>(
     token: Token<'a>,
     end: usize,
     progress: &mut Progress,
@@ -235,7 +235,7 @@ fn step_after<'a, K: Visitor<'a>>(
 
 /// Reads the brace comment at the place of the block.
 #[inline(always)]
-fn read_comment<'a, K: Visitor<'a>>(
+fn read_comment<'a, K: TokenVisitor<'a>>(
     block: &'a [u8],
     at: usize,
     progress: &mut Progress,
@@ -255,7 +255,7 @@ fn read_comment<'a, K: Visitor<'a>>(
 
 /// Reads the tag at the place of the block.
 #[inline(always)]
-fn read_tag<'a, K: Visitor<'a>>(
+fn read_tag<'a, K: TokenVisitor<'a>>(
     block: &'a [u8],
     at: usize,
     progress: &mut Progress,
@@ -278,9 +278,9 @@ fn read_tag<'a, K: Visitor<'a>>(
     }
 }
 
-/// Reads the glyph at the place of the block.
+/// Reads the NAG at the place of the block.
 #[inline(always)]
-fn read_glyph<'a, K: Visitor<'a>>(
+fn read_glyph<'a, K: TokenVisitor<'a>>(
     block: &'a [u8],
     at: usize,
     progress: &mut Progress,
@@ -300,7 +300,7 @@ fn read_glyph<'a, K: Visitor<'a>>(
 
 /// Reads the part at the place of the block, of whatever kind.
 #[inline(always)]
-fn read_other<'a, K: Visitor<'a>>(
+fn read_other<'a, K: TokenVisitor<'a>>(
     block: &'a [u8],
     at: usize,
     file_start: bool,
@@ -327,7 +327,7 @@ fn read_other<'a, K: Visitor<'a>>(
 
 /// Reads the part at the place of the block; the frequent kinds by their first byte.
 #[inline(always)]
-fn read_part<'a, K: Visitor<'a>>(
+fn read_part<'a, K: TokenVisitor<'a>>(
     block: &'a [u8],
     at: usize,
     file_start: bool,
@@ -371,7 +371,7 @@ fn read_part<'a, K: Visitor<'a>>(
 
 /// The place from which to read on after a move: after plain movetext, whose moves are kept.
 #[inline(always)]
-fn pass_plain<'a, K: Visitor<'a>>(
+fn pass_plain<'a, K: TokenVisitor<'a>>(
     block: &'a [u8],
     at: usize,
     visitor: &mut K,
@@ -390,7 +390,7 @@ fn pass_plain<'a, K: Visitor<'a>>(
 /// Reads the game at the place of the block, if one begins there: the places of its result and
 /// after it.
 #[inline(always)]
-fn read_parts<'a, K: Visitor<'a>>(
+fn read_parts<'a, K: TokenVisitor<'a>>(
     block: &'a [u8],
     begin: usize,
     file_start: bool,
@@ -457,7 +457,7 @@ pub(crate) fn game_end(block: &[u8], begin: usize, file_start: bool) -> Option<u
         (NoGame depth_limit file_start (take begin block.now) (drop begin block.now)) (λ end.
         (parts : List Part) × GameTo depth_limit file_start block.now begin parts end) }
 {
-    match read_parts(block, begin, file_start, &mut Discard {}) {
+    match read_parts(block, begin, file_start, &mut DiscardTokens {}) {
         Ok(Some((_, end))) => Some(end),
         Ok(None) => None,
         Err(never) => match never {},

@@ -15,7 +15,7 @@ const LOST_BRACE: &[u8] = b"[Event \"A\"]\n\n1. e4 {oops\n[Event \"B\"]\n\n1. d4
 /// Three games; no queen takes on h8 at once.
 const FAULT_BETWEEN: &[u8] = b"1. e4 *\n1. Qxh8 *\n1. d4 *\n";
 
-/// The main line with its comments and glyphs, in lines of at most 79 bytes.
+/// The main line with its comments and NAGs, in lines of at most 79 bytes.
 const PLAIN: Style = Style {
     comments: true,
     commands: false,

@@ -5,7 +5,7 @@ use Rattle.chess.specs.Public.Squares.{Place, IsOnBoard, index_of}
 use Rattle.chess.specs.Public.Placements.{Placement, man_at}
 use Rattle.chess.specs.Public.Letters.{man_letter}
 use Rattle.chess.specs.Public.Fen.{row}
-use Rattle.chess.specs.Private.BitWords.{row_of}
+use Rattle.chess.specs.Private.Bitboards.{row_of}
 use Rattle.chess.specs.declared.board.man.Man.{Man}
 
 -- the digit of a run of empty squares, or nothing

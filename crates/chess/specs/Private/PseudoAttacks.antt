@@ -1,7 +1,7 @@
 -- What men see on the empty board, and the squares between two squares.
 use Rattle.std.specs.Prelude.{◌<◌, ◌≤◌, ℕ, ◌≡◌, Some}
 use Rattle.chess.specs.Public.Squares.{Place, IsOnBoard, IsStraight, IsAhead}
-use Rattle.chess.specs.Public.Attacks.{IsNear, IsJump, IsPawnHit, Reaches}
+use Rattle.chess.specs.Public.Attacks.{IsNear, IsJump, IsPawnAttack, Reaches}
 use Rattle.chess.specs.Public.Placements.{Placement, IsEmpty, man_at}
 use Rattle.chess.specs.declared.board.direction.Direction.{Direction}
 use Rattle.chess.specs.declared.board.man.Side.{Side}
@@ -20,7 +20,7 @@ IsPseudoAttack side Queen s t = (way : Direction) × IsInLine way s t
 IsPseudoAttack side Rook s t = (way : Direction) × IsStraight way × IsInLine way s t
 IsPseudoAttack side Bishop s t = (way : Direction) × (¬ IsStraight way) × IsInLine way s t
 IsPseudoAttack side Knight s t = IsJump s t
-IsPseudoAttack side Pawn s t = IsPawnHit side s t
+IsPseudoAttack side Pawn s t = IsPawnAttack side s t
 
 -- u stands on a line from s to t, after s and before t
 abbrev pub StandsBetween : Place → Place → Place → Type 0
@@ -32,7 +32,7 @@ abbrev pub IsUnblocked : Placement → Place → Place → Type 0
 IsUnblocked p s t = (u : Place) → IsOnBoard u → StandsBetween s t u → IsEmpty p u
 
 -- a man of the side stands on s and attacks t
-pub record IsHitFrom (p : Placement) (side : Side) (s t : Place) : Type 0 where
+pub record IsAttackedFrom (p : Placement) (side : Side) (s t : Place) : Type 0 where
   pub man : Man
   pub here : man_at p s ≡ Some man
   pub own : man.side ≡ side

@@ -8,7 +8,7 @@ use Rattle.chess.specs.Public.Squares.{Place, IsOnBoard}
 use Rattle.chess.specs.Public.Placements.{man_at}
 use Rattle.chess.specs.Public.Positions.{State, king_from, king_to}
 use Rattle.chess.specs.Public.Moves.{IsPseudoLegal, IsLegal}
-use Rattle.chess.specs.Public.Letters.{is_check_mark, is_sign}
+use Rattle.chess.specs.Public.Letters.{is_check_sign, is_sign}
 use Rattle.chess.specs.Public.San.{Said, Spells, Agrees, kind_said, castling_text}
 use Rattle.chess.specs.Public.San.{castling_with_zeros}
 use Rattle.chess.specs.Public.Sets.{Places, is_in}
@@ -48,10 +48,10 @@ abbrev pub before_last : ByteClass → List ℕ → List ℕ
 before_last class [] = []
 before_last class (b ∷ y) = if is_of class b then y else b ∷ y
 
--- without the marks of check and mate
+-- without the signs of check and mate
 abbrev pub unmarked : List ℕ → List ℕ
 unmarked [] = []
-unmarked (b ∷ y) = if is_check_mark b then unmarked y else b ∷ y
+unmarked (b ∷ y) = if is_check_sign b then unmarked y else b ∷ y
 
 -- what stands before a promotion's =
 abbrev pub before_equals : Option ℕ → List ℕ → List ℕ
@@ -135,9 +135,9 @@ SaysPawnTakes from file rank r = (is_of FileLetter from ≡ true) × (is_of File
       promote = None;
     })
 
--- the first text is the second with marks of check and mate after it
-abbrev pub IsBeforeMarks : List ℕ → List ℕ → Type 0
-IsBeforeMarks x y = (marks : List ℕ) × IsTrue (list_all is_check_mark marks) × (x ≡ y ++ marks)
+-- the first text is the second with signs of check and mate after it
+abbrev pub IsBeforeCheckSigns : List ℕ → List ℕ → Type 0
+IsBeforeCheckSigns x y = (marks : List ℕ) × IsTrue (list_all is_check_sign marks) × (x ≡ y ++ marks)
 
 -- the move of a man on s that the text speaks of
 abbrev pub move_from : Said → Place → Move

@@ -38,8 +38,8 @@ IsForward White a b = b ≡ a + 1
 IsForward Black a b = a ≡ b + 1
 
 -- the square diagonally in front of a pawn of the side, on a neighbouring file (Laws 3.7.3)
-abbrev pub IsPawnHit : Side → Place → Place → Type 0
-IsPawnHit side s t = (gap s.file t.file ≡ 1) × IsForward side s.rank t.rank
+abbrev pub IsPawnAttack : Side → Place → Place → Type 0
+IsPawnAttack side s t = (gap s.file t.file ≡ 1) × IsForward side s.rank t.rank
 
 -- a man of this side and kind on s attacks t: rooks run along ranks and files, bishops along
 -- diagonals, queens along both
@@ -50,7 +50,7 @@ Reaches p side Queen s t = (way : Direction) × IsOnRay p way s t
 Reaches p side Rook s t = (way : Direction) × IsStraight way × IsOnRay p way s t
 Reaches p side Bishop s t = (way : Direction) × (¬ IsStraight way) × IsOnRay p way s t
 Reaches p side Knight s t = IsJump s t
-Reaches p side Pawn s t = IsPawnHit side s t
+Reaches p side Pawn s t = IsPawnAttack side s t
 
 -- the man on s attacks t
 pub record IsAttackedFrom (p : Placement) (s t : Place) : Type 0 where

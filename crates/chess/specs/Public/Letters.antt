@@ -35,6 +35,6 @@ square_text s = file_letter s.file ∷ rank_digit s.rank ∷ []
 abbrev pub is_sign : ℕ → Bool
 is_sign b = b == 120 || b == 58 || b == 45
 
--- a mark of check or mate: + #
-abbrev pub is_check_mark : ℕ → Bool
-is_check_mark b = b == 43 || b == 35
+-- a sign of check or mate: + #
+abbrev pub is_check_sign : ℕ → Bool
+is_check_sign b = b == 43 || b == 35

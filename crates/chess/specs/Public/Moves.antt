@@ -114,8 +114,9 @@ is_en_passant P m = is_pawn (man_at P.men m.from) && not (m.from.file == m.to.fi
 
 -- the square of the man that the move takes, if it takes one: en passant it is beside the pawn that
 -- takes
-abbrev pub taken : State → Move → Place
-taken P m = if is_en_passant P m then record { file = m.to.file; rank = m.from.rank } else m.to
+abbrev pub capture_square : State → Move → Place
+capture_square P m = if is_en_passant P m
+    then record { file = m.to.file; rank = m.from.rank } else m.to
 
 -- the man that arrives: the one that moves, or what the pawn becomes
 abbrev pub arriving : State → Option Kind → Place → Option Man
@@ -132,7 +133,7 @@ with_rook side (Some wing) p =
 abbrev pub men_after : State → Move → Placement
 men_after P m =
     with_rook P.turn m.castle
-    (with_man (with_man (with_man P.men (taken P m) None) m.from None) m.to
+    (with_man (with_man (with_man P.men (capture_square P m) None) m.from None) m.to
     (arriving P m.promote m.from))
 
 -- a right is lost when its king moves, and when a move leaves its rook's corner or comes to it

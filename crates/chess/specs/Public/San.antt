@@ -6,9 +6,9 @@ use Rattle.std.specs.List.{list_all}
 use Rattle.chess.specs.Public.Squares.{Place, IsOnBoard}
 use Rattle.chess.specs.Public.Placements.{man_at}
 use Rattle.chess.specs.Public.Positions.{State, IsCheck}
-use Rattle.chess.specs.Public.Moves.{IsPromotionKind, taken, after, IsLegal, CanGo, IsMate}
+use Rattle.chess.specs.Public.Moves.{IsPromotionKind, capture_square, after, IsLegal, CanGo, IsMate}
 use Rattle.chess.specs.Public.Letters.{kind_letter, file_letter, rank_digit, square_text}
-use Rattle.chess.specs.Public.Letters.{is_check_mark, is_sign}
+use Rattle.chess.specs.Public.Letters.{is_check_sign, is_sign}
 use Rattle.chess.specs.declared.board.man.Man.{Man}
 use Rattle.chess.specs.declared.board.man.Kind.{Kind}
 use Rattle.chess.specs.declared.board.man.Kind.TheVariants.{King, Queen, Rook, Bishop, Knight, Pawn}
@@ -58,7 +58,7 @@ pub record Spells (x : List ℕ) (said : Said) : Type 0 where
   pub sign_is : (sign ≡ []) ⊎ ((b : ℕ) × IsTrue (is_sign b) × (sign ≡ b ∷ []))
   pub equals : Bool
   pub marks : List ℕ
-  pub marks_are : IsTrue (list_all is_check_mark marks)
+  pub marks_are : IsTrue (list_all is_check_sign marks)
   pub text : x ≡ letter_text said.letter ++ (file_text said.file ++ (rank_text said.rank
       ++ (sign ++ (square_text said.target ++ (promotion_text equals said.promote ++ marks)))))
 
@@ -74,7 +74,7 @@ castling_with_zeros QueenSide = codes "0-0-0"
 
 -- the text of castling on a wing, and any number of + and #
 abbrev pub IsCastlingText : Wing → List ℕ → Type 0
-IsCastlingText wing x = (marks : List ℕ) × IsTrue (list_all is_check_mark marks)
+IsCastlingText wing x = (marks : List ℕ) × IsTrue (list_all is_check_sign marks)
     × ((x ≡ castling_text wing ++ marks) ⊎ (x ≡ castling_with_zeros wing ++ marks))
 
 -- the kind of man that a text speaks of: a pawn without a letter
@@ -132,7 +132,7 @@ pub data IsDisambiguation (P : State) (m : Move) : List ℕ → Type 0 where
 
 -- the move takes a man, also en passant
 abbrev pub is_capture : State → Move → Bool
-is_capture P m = is_some (man_at P.men (taken P m))
+is_capture P m = is_some (man_at P.men (capture_square P m))
 
 -- x before the target of a capture
 abbrev pub capture_text : State → Move → List ℕ
@@ -143,13 +143,13 @@ abbrev pub pawn_text : State → Move → List ℕ
 pawn_text P m = (if is_capture P m then file_letter m.from.file ∷ 120 ∷ [] else [])
     ++ (square_text m.to ++ promotion_text true m.promote)
 
--- the text of a piece's move without its mark: its letter, what distinguishes it from its rivals, x
--- for a capture, the square (PGN 8.2.3.2 to 8.2.3.4)
+-- the text of a piece's move without its check sign: its letter, what distinguishes it from its
+-- rivals, x for a capture, the square (PGN 8.2.3.2 to 8.2.3.4)
 abbrev pub IsPieceText : State → Move → Kind → List ℕ → Type 0
 IsPieceText P m kind x = (origin : List ℕ) × IsDisambiguation P m origin
     × (x ≡ kind_letter kind ∷ (origin ++ (capture_text P m ++ square_text m.to)))
 
--- the text of a move of that kind of man, without its mark (PGN 8.2.3.2 to 8.2.3.5)
+-- the text of a move of that kind of man, without its check sign (PGN 8.2.3.2 to 8.2.3.5)
 abbrev pub IsBody : State → Move → Option Wing → Kind → List ℕ → Type 0
 IsBody P m (Some wing) _ x = x ≡ castling_text wing
 IsBody P m None Pawn x = x ≡ pawn_text P m
@@ -161,10 +161,10 @@ IsBody P m None Knight x = IsPieceText P m Knight x
 
 -- the mark after a move, of the position after it: # for mate, + for a check that is no mate, else
 -- none, also for stalemate (PGN 8.2.3.5)
-pub data IsCheckMark (P : State) : List ℕ → Type 0 where
-  mate : IsMate P → IsCheckMark P (35 ∷ [])
-  check : IsCheck P.men P.turn → ¬ IsMate P → IsCheckMark P (43 ∷ [])
-  quiet : ¬ IsCheck P.men P.turn → IsCheckMark P []
+pub data IsCheckSign (P : State) : List ℕ → Type 0 where
+  mate : IsMate P → IsCheckSign P (35 ∷ [])
+  check : IsCheck P.men P.turn → ¬ IsMate P → IsCheckSign P (43 ∷ [])
+  quiet : ¬ IsCheck P.men P.turn → IsCheckSign P []
 
 -- the standard text of a legal move
 pub record IsSan (P : State) (m : Move) (x : List ℕ) : Type 0 where
@@ -173,5 +173,5 @@ pub record IsSan (P : State) (m : Move) (x : List ℕ) : Type 0 where
   pub body : List ℕ
   pub body_is : IsBody P m m.castle man.kind body
   pub mark : List ℕ
-  pub mark_is : IsCheckMark (after P m) mark
+  pub mark_is : IsCheckSign (after P m) mark
   pub text : x ≡ body ++ mark

@@ -1,4 +1,4 @@
--- Facts about sets of squares and their words of 64 bits.
+-- Facts about sets of squares and their bitboards.
 use Rattle.std.proofs.Common.{◌≡◌, ◌<◌, ◌≤◌, ◌+◌, ◌*◌, ◌^◌, ◌%◌, ◌/◌, ◌||◌, ◌&&◌, bit_and, bit_or}
 use Rattle.std.proofs.Common.{w64, ℕ, zero, suc, Bool, true, false, not, inl, inr, ap, refl, sym}
 use Rattle.std.proofs.Common.{subst, ◌∙◌, arith, if◌then◌else◌}
@@ -17,7 +17,7 @@ use Rattle.chess.specs.Public.Squares.{same_square}
 use Rattle.chess.specs.Shared.SquareFacts.{index_of-square_at}
 use Rattle.chess.specs.Shared.OrderFacts.{place_total, place_exact}
 use Rattle.chess.specs.Public.Sets.{Places, is_in, no_places, size_of}
-use Rattle.chess.specs.Shared.SetWords.{first_places, places_of, has_bit}
+use Rattle.chess.specs.Shared.SetBitboards.{first_places, places_of, has_bit}
 
 -- a square of the board stands at its place in order
 pub square_at-index_of : (s : Place) → IsOnBoard s → square_at (index_of s) ≡ s
@@ -171,7 +171,7 @@ pub on_board-places_of : (test : ℕ → Bool) (s : Place) → is_in (places_of 
     → IsOnBoard s
 on_board-places_of test s here = in_first-on test 64 (omega arith) s here
 
--- ---- words of 64 bits
+-- ---- bitboards
 
 -- a test of sets that no square passes
 pub no_places_of : (test : ℕ → Bool) → ((n : ℕ) → test n ≡ false) → (n : ℕ)
@@ -182,73 +182,76 @@ no_places_of test none (suc n) =
     ap (λ b. if b then insert (first_places test n) (square_at n) else first_places test n) (none n)
     ∙ no_places_of test none n
 
-pub empty_word : places_of (has_bit 0) ≡ no_places
-empty_word = no_places_of (has_bit 0) (λ n. ap (λ b. b == 1) (bit_at-zero n)) 64
+pub empty_bitboard : places_of (has_bit 0) ≡ no_places
+empty_bitboard = no_places_of (has_bit 0) (λ n. ap (λ b. b == 1) (bit_at-zero n)) 64
 
--- a word with a bit below 64 shows a square
-pub not_empty_word : (word : ℕ) → 0 < word → word < 2 ^ 64 → places_of (has_bit word) ≡ no_places
+-- a bitboard with a bit below 64 shows a square
+pub not_empty_bitboard : (bitboard : ℕ) → 0 < bitboard → bitboard < 2 ^ 64
+    → places_of (has_bit bitboard) ≡ no_places
     → ⊥
-not_empty_word word some fits none =
-    let found = bit_at-trailing_zeros w64 word some fits in
-    let at = trailing_zeros w64 word in
-    let shown : is_in (places_of (has_bit word)) (square_at at)
-    ≡ has_bit word (index_of (square_at at)) =
-    is_in-places_of (has_bit word) (square_at at) (on_board-square_at at found.0) in
-    let here : has_bit word (index_of (square_at at)) ≡ true =
-    ap (has_bit word) (index_of-square_at at found.0) ∙ ap (λ b. b == 1) found.1 in
+not_empty_bitboard bitboard some fits none =
+    let found = bit_at-trailing_zeros w64 bitboard some fits in
+    let at = trailing_zeros w64 bitboard in
+    let shown : is_in (places_of (has_bit bitboard)) (square_at at)
+    ≡ has_bit bitboard (index_of (square_at at)) =
+    is_in-places_of (has_bit bitboard) (square_at at) (on_board-square_at at found.0) in
+    let here : has_bit bitboard (index_of (square_at at)) ≡ true =
+    ap (has_bit bitboard) (index_of-square_at at found.0) ∙ ap (λ b. b == 1) found.1 in
     let yes : true ≡ false = sym here ∙ sym shown ∙ ap (λ set. is_in set (square_at at)) none
     ∙ is_in-empty (square_at at) in
     cc
 
 -- one more bit is one more square
-pub is_in-set_bit : (word : ℕ) (t s : Place) → IsOnBoard t → IsOnBoard s
-    → is_in (places_of (has_bit (bit_or word (1 * 2 ^ index_of t % 2 ^ 64)))) s
-    ≡ (same_square t s || is_in (places_of (has_bit word)) s)
-is_in-set_bit word t s on_board_t on_board_s =
-    let new = bit_or word (1 * 2 ^ index_of t % 2 ^ 64) in
+pub is_in-set_bit : (bitboard : ℕ) (t s : Place) → IsOnBoard t → IsOnBoard s
+    → is_in (places_of (has_bit (bit_or bitboard (1 * 2 ^ index_of t % 2 ^ 64)))) s
+    ≡ (same_square t s || is_in (places_of (has_bit bitboard)) s)
+is_in-set_bit bitboard t s on_board_t on_board_s =
+    let new = bit_or bitboard (1 * 2 ^ index_of t % 2 ^ 64) in
     let after = is_in-places_of (has_bit new) s on_board_s in
-    let before = is_in-places_of (has_bit word) s on_board_s in
+    let before = is_in-places_of (has_bit bitboard) s on_board_s in
     let within = index_of-below t on_board_t in
     elim (cases_eq (index_of s) (index_of t)) [
       | inl same ↦
           after ∙ ap (has_bit new) same
-          ∙ ap (λ b. b == 1) (bit_at_set_same w64 word (index_of t) within)
-          ∙ sym (ap (λ b. b || is_in (places_of (has_bit word)) s)
+          ∙ ap (λ b. b == 1) (bit_at_set_same w64 bitboard (index_of t) within)
+          ∙ sym (ap (λ b. b || is_in (places_of (has_bit bitboard)) s)
           (same_squares t s on_board_t on_board_s (sym same)))
       | inr other ↦
           after ∙ ap (λ b.
-          b == 1) (bit_at_set_other w64 word (index_of t) within (index_of s) other)
+          b == 1) (bit_at_set_other w64 bitboard (index_of t) within (index_of s) other)
           ∙ sym before
-          ∙ sym (ap (λ b. b || is_in (places_of (has_bit word)) s)
+          ∙ sym (ap (λ b. b || is_in (places_of (has_bit bitboard)) s)
           (other_squares t s on_board_t on_board_s (λ e. other (sym e))))
     ]
 
 -- one bit less is one square less
-pub is_in-clear_bit : (word at : ℕ) (s : Place) → at < 64 → IsOnBoard s
-    → is_in (places_of (has_bit (bit_and word (bit_not w64 (1 * 2 ^ at % 2 ^ 64))))) s
-    ≡ (is_in (places_of (has_bit word)) s && not (same_square s (square_at at)))
-is_in-clear_bit word at s within on_board =
-    let new = bit_and word (bit_not w64 (1 * 2 ^ at % 2 ^ 64)) in
+pub is_in-clear_bit : (bitboard at : ℕ) (s : Place) → at < 64 → IsOnBoard s
+    → is_in (places_of (has_bit (bit_and bitboard (bit_not w64 (1 * 2 ^ at % 2 ^ 64))))) s
+    ≡ (is_in (places_of (has_bit bitboard)) s && not (same_square s (square_at at)))
+is_in-clear_bit bitboard at s within on_board =
+    let new = bit_and bitboard (bit_not w64 (1 * 2 ^ at % 2 ^ 64)) in
     let after = is_in-places_of (has_bit new) s on_board in
-    let before = is_in-places_of (has_bit word) s on_board in
+    let before = is_in-places_of (has_bit bitboard) s on_board in
     let below = index_of-below s on_board in
     let there = on_board-square_at at within in
     let place = index_of-square_at at within in
     elim (cases_eq (index_of s) at) [
       | inl same ↦
-          after ∙ ap (has_bit new) same ∙ ap (λ b. b == 1) (bit_at_clear_same w64 word at within)
-          ∙ sym (ap (λ b. is_in (places_of (has_bit word)) s
+          after ∙ ap (has_bit new) same
+          ∙ ap (λ b. b == 1) (bit_at_clear_same w64 bitboard at within)
+          ∙ sym (ap (λ b. is_in (places_of (has_bit bitboard)) s
           && not b) (same_squares s (square_at at) on_board there (same ∙ sym place))
           ∙ and_false _)
       | inr other ↦
-          after ∙ ap (λ b. b == 1) (bit_at_clear_other w64 word at within (index_of s) below other)
+          after ∙ ap (λ b.
+          b == 1) (bit_at_clear_other w64 bitboard at within (index_of s) below other)
           ∙ sym before
-          ∙ sym (ap (λ b. is_in (places_of (has_bit word)) s
+          ∙ sym (ap (λ b. is_in (places_of (has_bit bitboard)) s
           && not b) (other_squares s (square_at at) on_board there (λ e. other (e ∙ place)))
           ∙ and_true _)
     ]
 
--- the first squares of a word, counted one by one
+-- the first squares of a bitboard, counted one by one
 pub size-first_places : (test : ℕ → Bool) (n : ℕ) → n < 64
     → size_of (first_places test (suc n))
     ≡ (if test n then size_of (first_places test n) + 1 else size_of (first_places test n))
@@ -271,7 +274,7 @@ size-no_places test = len-empty place_cmp
 plus_none : (n : ℕ) → n + 0 ≡ n
 plus_none n = omega arith
 
--- a bit of a word counts one more square or none
+-- a bit of a bitboard counts one more square or none
 bit_or_none : (b : ℕ) → b < 2 → (size : ℕ) → (if b == 1 then size + 1 else size) ≡ size + b
 bit_or_none b h size = elim (cases_eq b 1) [
   | inl e ↦ ap (λ n. if n == 1 then size + 1 else size) e ∙ ap (λ n. size + n) (sym e)
@@ -280,11 +283,13 @@ bit_or_none b h size = elim (cases_eq b 1) [
       ∙ sym (ap (λ n. size + n) zero_bit ∙ plus_none size)
 ]
 
-pub size-next_bit : (word n : ℕ) → n < 64
-    → size_of (first_places (has_bit word) (n + 1))
-    ≡ size_of (first_places (has_bit word) n) + bit_and (word / 2 ^ n) 1
-size-next_bit word n h =
+pub size-next_bit : (bitboard n : ℕ) → n < 64
+    → size_of (first_places (has_bit bitboard) (n + 1))
+    ≡ size_of (first_places (has_bit bitboard) n) + bit_and (bitboard / 2 ^ n) 1
+size-next_bit bitboard n h =
     let next : n + 1 ≡ suc n = omega arith in
-    ap (λ m. size_of (first_places (has_bit word) m)) next ∙ size-first_places (has_bit word) n h
-    ∙ bit_or_none (bit_at word n) (bit_at-lt word n) (size_of (first_places (has_bit word) n))
-    ∙ ap (λ b. size_of (first_places (has_bit word) n) + b) (sym (shr_and_one word n))
+    ap (λ m. size_of (first_places (has_bit bitboard) m)) next
+    ∙ size-first_places (has_bit bitboard) n h
+    ∙ bit_or_none (bit_at bitboard n) (bit_at-lt bitboard n)
+    (size_of (first_places (has_bit bitboard) n))
+    ∙ ap (λ b. size_of (first_places (has_bit bitboard) n) + b) (sym (shr_and_one bitboard n))

@@ -4,8 +4,8 @@ ghost use Rattle.chess.specs.Public.Squares.{Place, IsOnBoard, index_of};
 ghost use Rattle.chess.specs.Public.Placements.{Placement, IsEmpty};
 ghost use Rattle.chess.specs.Public.Attacks.{IsNear, Reaches};
 ghost use Rattle.chess.specs.Public.Sets.{HoldsExactly};
-ghost use Rattle.chess.specs.Shared.SetWords.{has_bit};
-ghost use Rattle.chess.specs.Private.BitWords.{IsWordOf, pseudo_attacks_row_of};
+ghost use Rattle.chess.specs.Shared.SetBitboards.{has_bit};
+ghost use Rattle.chess.specs.Private.Bitboards.{IsBitboardOf, pseudo_attacks_row_of};
 ghost use Rattle.chess.specs.Private.PseudoAttacks.{IsPseudoAttack, IsUnblocked, StandsBetween};
 
 mod between_table;
@@ -32,7 +32,7 @@ fn pseudo_attacks_row(man: Man) -> u8
 /// The squares from which such a man attacks the target on the empty board.
 #[inline(always)]
 pub(crate) fn pseudo_attacks_on(man: Man, target: Square) -> u64
-    ensures { IsWordOf (λ s. IsPseudoAttack man.side man.kind s target) result }
+    ensures { IsBitboardOf (λ s. IsPseudoAttack man.side man.kind s target) result }
 {
     PSEUDO_ATTACKS[pseudo_attacks_row(man) as usize][target.index() as usize]
 }
@@ -46,14 +46,14 @@ pub(crate) fn squares_near(square: Square) -> SquareSet
         side: Side::White,
         kind: Kind::King,
     };
-    SquareSet::of_word(pseudo_attacks_on(king, square))
+    SquareSet::of_bitboard(pseudo_attacks_on(king, square))
 }
 
 /// The squares between two squares: those that both their lines have, and that stand between them
 /// in order.
 #[inline(always)]
 fn between(from: Square, to: Square) -> u64
-    ensures { IsWordOf (StandsBetween from to) result }
+    ensures { IsBitboardOf (StandsBetween from to) result }
 {
     BETWEEN[from.index() as usize][to.index() as usize]
 }
@@ -72,12 +72,12 @@ fn is_unblocked(from: Square, to: Square, occupied: u64) -> bool
 /// squares.
 #[inline(always)]
 pub(crate) fn attackers_of(man: Man, target: Square, own: u64, occupied: u64) -> SquareSet
-    ensures { (p : Placement) → IsWordOf (λ s. ¬ IsEmpty p s) occupied
+    ensures { (p : Placement) → IsBitboardOf (λ s. ¬ IsEmpty p s) occupied
         → HoldsExactly (λ s. (has_bit own (index_of s) ≡ true)
         × Reaches p man.side man.kind s target) result }
 {
     let seen = own & pseudo_attacks_on(man, target);
-    let mut left = SquareSet::of_word(seen);
+    let mut left = SquareSet::of_bitboard(seen);
     // Mostly one man alone sees the target.
     if let Some(square) = left.only() {
         if is_unblocked(square, target, occupied) {
@@ -96,12 +96,12 @@ pub(crate) fn attackers_of(man: Man, target: Square, own: u64, occupied: u64) ->
 /// squares.
 #[inline(always)]
 pub(crate) fn has_unblocked(squares: u64, target: Square, occupied: u64) -> bool
-    ensures { (p : Placement) → IsWordOf (λ s. ¬ IsEmpty p s) occupied
+    ensures { (p : Placement) → IsBitboardOf (λ s. ¬ IsEmpty p s) occupied
         → IsTrue result
         ↔ ((s : Place) × IsOnBoard s × (has_bit squares (index_of s) ≡ true)
         × IsUnblocked p s target) }
 {
-    let mut left = SquareSet::of_word(squares);
+    let mut left = SquareSet::of_bitboard(squares);
     while let Some(square) = left.take_first() {
         if is_unblocked(square, target, occupied) {
             return true;

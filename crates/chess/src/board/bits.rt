@@ -1,23 +1,23 @@
-//! The board over words of 64 bits.
+//! The board over bitboards.
 ghost use Rattle.std.specs.Prelude.{◌≡◌, ◌↔◌, ◌⊎◌, ◌<◌, IsTrue, None, replicate};
 ghost use Rattle.chess.specs.Public.Squares.{IsOnBoard, index_of};
 ghost use Rattle.chess.specs.Public.Placements.{Placement, with_man, man_at, IsOccupiedBy, IsEmpty};
 ghost use Rattle.chess.specs.Public.Attacks.{IsAttacked};
-ghost use Rattle.chess.specs.Private.BitWords.{AreApart, AreLeft, IsWordOf, IsCleared, IsBitSet};
-ghost use Rattle.chess.specs.Private.BitWords.{IsSlid, IsMan, IsRunner, IsHitBy, IsHitStraight};
-ghost use Rattle.chess.specs.Private.BitWords.{IsHitDiagonal, words_men, man_in, man_of_row};
-ghost use Rattle.chess.specs.Private.BitWords.{number_of_kind, row_of};
+ghost use Rattle.chess.specs.Private.Bitboards.{AreApart, AreLeft, IsBitboardOf, IsCleared};
+ghost use Rattle.chess.specs.Private.Bitboards.{IsBitSet, IsSlid, IsMan, IsRunner, IsAttackedBy};
+ghost use Rattle.chess.specs.Private.Bitboards.{IsAttackedStraight, IsAttackedDiagonal, words_men};
+ghost use Rattle.chess.specs.Private.Bitboards.{man_in, man_of_row, number_of_kind, row_of};
 ghost use Rattle.chess.specs.Private.PseudoAttacks.{IsPseudoAttack};
 ghost use Rattle.chess.specs.Public.Start.{initial_men};
 ghost use Rattle.chess.specs.Shared.CellFacts.{on_board-men_of};
 ghost use Rattle.chess.specs.declared.board.man.Kind.TheVariants.{King, Knight, Pawn};
 
 use crate::board::attack_tables::{attackers_of, has_unblocked, pseudo_attacks_on};
-use crate::board::fills::{attacks_from, word_of};
+use crate::board::step_attacks::{attacks_from, bitboard_of};
 use crate::board::{Board, Kind, Man, Side, Square, SquareSet};
 
-/// A board of twelve words: the squares of each of White's kinds, in the order of `Kind`, then of
-/// Black's. A square's bit is its place in the order
+/// A board of twelve bitboards: the squares of each of White's kinds, in the order of `Kind`, then
+/// of Black's. A square's bit is its place in the order
 /// a1, b1 to h1, a2 and so on.
 #[derive(Clone, Copy, Debug)]
 pub struct Bits {
@@ -47,19 +47,19 @@ impl Board for Bits {
     }
 
     #[inline(always)]
-    fn move_piece(&mut self, man: Option<Man>, from: Square, taken: Square, to: Square) {
-        move_piece_words(&mut self.words, man, from, taken, to);
+    fn move_piece(&mut self, man: Option<Man>, from: Square, capture_square: Square, to: Square) {
+        move_piece_words(&mut self.words, man, from, capture_square, to);
     }
 
     #[inline(always)]
     fn is_empty(&self, square: Square) -> bool {
-        occupied(&self.words) & word_of(square) == 0
+        occupied(&self.words) & bitboard_of(square) == 0
     }
 
     #[inline(always)]
     fn is_occupied_by(&self, side: Side, square: Square) -> bool {
         // Mostly no man stands there at all.
-        let bit = word_of(square);
+        let bit = bitboard_of(square);
         if occupied(&self.words) & bit == 0 {
             return false;
         }
@@ -68,7 +68,7 @@ impl Board for Bits {
 
     #[inline(always)]
     fn attacked(&self, square: Square, side: Side) -> bool {
-        is_hit(&self.words, square, side, u64::MAX, occupied(&self.words))
+        is_attacked(&self.words, square, side, u64::MAX, occupied(&self.words))
     }
 
     #[inline(always)]
@@ -77,35 +77,35 @@ impl Board for Bits {
         square: Square,
         man: Man,
         from: Square,
-        taken: Square,
+        capture_square: Square,
         to: Square,
     ) -> bool {
-        let left = !(word_of(taken) | word_of(from) | word_of(to));
-        let occupied = (occupied(&self.words) & left) | word_of(to);
-        is_hit(&self.words, square, man.side.opposite(), left, occupied)
+        let left = !(bitboard_of(capture_square) | bitboard_of(from) | bitboard_of(to));
+        let occupied = (occupied(&self.words) & left) | bitboard_of(to);
+        is_attacked(&self.words, square, man.side.opposite(), left, occupied)
     }
 
     fn reach(&self, square: Square) -> SquareSet {
         match man_on(&self.words, square) {
-            Some(man) => SquareSet::of_word(attacks_from(man, square, unoccupied(&self.words))),
+            Some(man) => SquareSet::of_bitboard(attacks_from(man, square, unoccupied(&self.words))),
             None => SquareSet::new(),
         }
     }
 
     fn squares_of(&self, man: Man) -> SquareSet {
-        SquareSet::of_word(squares_with(&self.words, man.side, man.kind))
+        SquareSet::of_bitboard(squares_with(&self.words, man.side, man.kind))
     }
 
     #[inline(always)]
     fn attackers_from(&self, man: Man, target: Square, among: SquareSet) -> SquareSet {
-        let own = squares_with(&self.words, man.side, man.kind) & among.word();
+        let own = squares_with(&self.words, man.side, man.kind) & among.bitboard();
         attackers_of(man, target, own, occupied(&self.words))
     }
 
     ghost on_board = { λ b s man here. on_board-men_of (man_in b.words) s man here };
 }
 
-/// Words without squares.
+/// Bitboards without squares.
 fn no_words() -> [u64; 12]
     ensures words { result ≡ replicate 12 0 }
     ensures apart { AreApart result }
@@ -113,7 +113,7 @@ fn no_words() -> [u64; 12]
     [0; 12]
 }
 
-/// The words of the men where they stand as games usually begin.
+/// The bitboards of the men where they stand as games usually begin.
 fn initial_words() -> [u64; 12]
     ensures men { words_men result ≡ initial_men }
     ensures apart { AreApart result }
@@ -134,7 +134,7 @@ fn initial_words() -> [u64; 12]
     ]
 }
 
-/// The number of a man's word.
+/// The number of a man's bitboard.
 #[inline(always)]
 pub(crate) fn row(man: Man) -> usize
     ensures row { result ≡ row_of man }
@@ -152,7 +152,7 @@ pub(crate) fn number_of(kind: Kind) -> u8
     kind as u8
 }
 
-/// The man of a word.
+/// The man of a bitboard.
 fn man_of(row: u8) -> Man
     requires { row < 12 }
     ensures { result ≡ man_of_row row }
@@ -174,7 +174,7 @@ fn man_on(words: &[u64; 12], square: Square) -> Option<Man>
     requires { AreApart words.now }
     ensures { result ≡ man_at (words_men words.now) square }
 {
-    let bit = word_of(square);
+    let bit = bitboard_of(square);
     for row in 0u8..12 {
         if words[row as usize] & bit != 0 {
             return Some(man_of(row));
@@ -183,7 +183,7 @@ fn man_on(words: &[u64; 12], square: Square) -> Option<Man>
     None
 }
 
-/// Takes the squares of the word out of each of the twelve.
+/// Takes the squares of the bitboard out of each of the twelve.
 #[inline(always)]
 fn clear(words: &mut [u64; 12], squares: u64)
     ensures { IsCleared words.old words.new squares }
@@ -193,12 +193,12 @@ fn clear(words: &mut [u64; 12], squares: u64)
     }
 }
 
-/// Puts the square into the word of the man.
+/// Puts the square into the bitboard of the man.
 #[inline(always)]
 fn set(words: &mut [u64; 12], square: Square, man: Man)
     ensures { IsBitSet words.old words.new (row_of man) (index_of square) }
 {
-    words[row(man)] |= word_of(square);
+    words[row(man)] |= bitboard_of(square);
 }
 
 /// Puts the man, or none, on the square. No other square changes.
@@ -207,7 +207,7 @@ fn place(words: &mut [u64; 12], square: Square, man: Option<Man>)
     ensures apart { AreApart words.new }
     ensures men { words_men words.new ≡ with_man (words_men words.old) square man }
 {
-    clear(words, word_of(square));
+    clear(words, bitboard_of(square));
     let Some(man) = man else {
         return;
     };
@@ -216,48 +216,59 @@ fn place(words: &mut [u64; 12], square: Square, man: Option<Man>)
 
 /// Takes the men off two squares, and puts the man, or none, on a third. No other square changes. A
 /// man who takes none goes by his own
-/// word alone.
+/// bitboard alone.
 #[inline(always)]
 fn move_piece_words(
     words: &mut [u64; 12],
     man: Option<Man>,
     from: Square,
-    taken: Square,
+    capture_square: Square,
     to: Square,
 )
     requires { AreApart words.old }
     ensures apart { AreApart words.new }
     ensures men { words_men words.new
-        ≡ with_man (with_man (with_man (words_men words.old) taken None) from None) to man }
+        ≡ with_man
+        (with_man (with_man (words_men words.old) capture_square None) from None) to man }
 {
     if let Some(man) = man
-        && occupied(words) & (word_of(taken) | word_of(to)) == 0
-        && squares_with(words, man.side, man.kind) & word_of(from) != 0
+        && occupied(words) & (bitboard_of(capture_square) | bitboard_of(to)) == 0
+        && squares_with(words, man.side, man.kind) & bitboard_of(from) != 0
     {
         slide(words, man, from, to);
         return;
     }
-    replace(words, man, from, taken, to);
+    replace(words, man, from, capture_square, to);
 }
 
-/// Moves the man from the one square to the other: each square of the two is in his word where it
-/// was not.
+/// Moves the man from the one square to the other: each square of the two is in his bitboard where
+/// it was not.
 #[inline(always)]
 fn slide(words: &mut [u64; 12], man: Man, from: Square, to: Square)
     ensures { IsSlid words.old words.new (row_of man) (index_of from) (index_of to) }
 {
-    words[row(man)] ^= word_of(from) | word_of(to);
+    words[row(man)] ^= bitboard_of(from) | bitboard_of(to);
 }
 
 /// Takes the men off two squares, and puts the man, or none, on a third. No other square changes.
 #[inline(never)]
-fn replace(words: &mut [u64; 12], man: Option<Man>, from: Square, taken: Square, to: Square)
+fn replace(
+    words: &mut [u64; 12],
+    man: Option<Man>,
+    from: Square,
+    capture_square: Square,
+    to: Square,
+)
     requires { AreApart words.old }
     ensures apart { AreApart words.new }
     ensures men { words_men words.new
-        ≡ with_man (with_man (with_man (words_men words.old) taken None) from None) to man }
+        ≡ with_man
+        (with_man (with_man (words_men words.old) capture_square None) from None) to man }
 {
-    clear(words, word_of(taken) | word_of(from) | word_of(to));
+    clear(
+        words,
+        bitboard_of(capture_square) | bitboard_of(from) | bitboard_of(to),
+    );
     let Some(man) = man else {
         return;
     };
@@ -268,7 +279,7 @@ fn replace(words: &mut [u64; 12], man: Option<Man>, from: Square, taken: Square,
 #[inline(always)]
 fn occupied(words: &[u64; 12]) -> u64
     requires { AreApart words.now }
-    ensures { IsWordOf (λ s. ¬ IsEmpty (words_men words.now) s) result }
+    ensures { IsBitboardOf (λ s. ¬ IsEmpty (words_men words.now) s) result }
 {
     let mut all = 0u64;
     for row in 0usize..12 {
@@ -281,7 +292,7 @@ fn occupied(words: &[u64; 12]) -> u64
 #[inline(always)]
 fn occupied_by(words: &[u64; 12], side: Side) -> u64
     requires { AreApart words.now }
-    ensures { IsWordOf (IsOccupiedBy (words_men words.now) side) result }
+    ensures { IsBitboardOf (IsOccupiedBy (words_men words.now) side) result }
 {
     squares_with(words, side, Kind::King)
         | squares_with(words, side, Kind::Queen)
@@ -294,7 +305,7 @@ fn occupied_by(words: &[u64; 12], side: Side) -> u64
 /// The squares without men.
 fn unoccupied(words: &[u64; 12]) -> u64
     requires { AreApart words.now }
-    ensures { IsWordOf (IsEmpty (words_men words.now)) result }
+    ensures { IsBitboardOf (IsEmpty (words_men words.now)) result }
 {
     !occupied(words)
 }
@@ -303,7 +314,7 @@ fn unoccupied(words: &[u64; 12]) -> u64
 #[inline(always)]
 fn squares_with(words: &[u64; 12], side: Side, kind: Kind) -> u64
     requires { AreApart words.now }
-    ensures { IsWordOf (IsMan (words_men words.now) side kind) result }
+    ensures { IsBitboardOf (IsMan (words_men words.now) side kind) result }
 {
     words[row(Man { side, kind })]
 }
@@ -312,7 +323,7 @@ fn squares_with(words: &[u64; 12], side: Side, kind: Kind) -> u64
 #[inline(always)]
 fn squares_of_runners(words: &[u64; 12], side: Side, kind: Kind) -> u64
     requires { AreApart words.now }
-    ensures { IsWordOf (IsRunner (words_men words.now) side kind) result }
+    ensures { IsBitboardOf (IsRunner (words_men words.now) side kind) result }
 {
     squares_with(words, side, Kind::Queen) | squares_with(words, side, kind)
 }
@@ -322,7 +333,7 @@ fn squares_of_runners(words: &[u64; 12], side: Side, kind: Kind) -> u64
 fn seers(words: &[u64; 12], man: Man, square: Square, left: u64) -> u64
     requires { AreApart words.now }
     ensures { (p : Placement) → AreLeft (words_men words.now) p man.side left
-        → IsWordOf (λ s. IsMan p man.side man.kind s
+        → IsBitboardOf (λ s. IsMan p man.side man.kind s
         × IsPseudoAttack man.side man.kind s square) result }
 {
     left & squares_with(words, man.side, man.kind) & pseudo_attacks_on(man, square)
@@ -335,19 +346,19 @@ fn seers(words: &[u64; 12], man: Man, square: Square, left: u64) -> u64
 fn sliders_in_line(words: &[u64; 12], square: Square, side: Side, kind: Kind, left: u64) -> u64
     requires { AreApart words.now }
     ensures { (p : Placement) → AreLeft (words_men words.now) p side left
-        → IsWordOf (λ s. IsRunner p side kind s × IsPseudoAttack side kind s square) result }
+        → IsBitboardOf (λ s. IsRunner p side kind s × IsPseudoAttack side kind s square) result }
 {
     left & squares_of_runners(words, side, kind) & pseudo_attacks_on(Man { side, kind }, square)
 }
 
 /// Whether a knight, a king or a pawn of the side, of those left, attacks the square.
 #[inline(always)]
-fn is_hit_nearby(words: &[u64; 12], square: Square, side: Side, left: u64) -> bool
+fn is_attacked_nearby(words: &[u64; 12], square: Square, side: Side, left: u64) -> bool
     requires { AreApart words.now }
     ensures { (p : Placement) → AreLeft (words_men words.now) p side left
         → IsTrue result
-        ↔ (IsHitBy p side Knight square
-        ⊎ (IsHitBy p side King square ⊎ IsHitBy p side Pawn square)) }
+        ↔ (IsAttackedBy p side Knight square
+        ⊎ (IsAttackedBy p side King square ⊎ IsAttackedBy p side Pawn square)) }
 {
     let knights = seers(
         words,
@@ -376,12 +387,12 @@ fn is_hit_nearby(words: &[u64; 12], square: Square, side: Side, left: u64) -> bo
         square,
         left,
     );
-    SquareSet::of_word(knights | kings | pawns).has_some()
+    SquareSet::of_bitboard(knights | kings | pawns).has_some()
 }
 
 /// Whether a queen, a rook or a bishop of the side, of those left, attacks the square along a line.
 #[inline(always)]
-fn is_hit_along_line(
+fn is_attacked_along_line(
     words: &[u64; 12],
     square: Square,
     side: Side,
@@ -390,8 +401,8 @@ fn is_hit_along_line(
 ) -> bool
     requires { AreApart words.now }
     ensures { (p : Placement) → AreLeft (words_men words.now) p side left
-        → IsWordOf (λ s. ¬ IsEmpty p s) occupied
-        → IsTrue result ↔ (IsHitStraight p side square ⊎ IsHitDiagonal p side square) }
+        → IsBitboardOf (λ s. ¬ IsEmpty p s) occupied
+        → IsTrue result ↔ (IsAttackedStraight p side square ⊎ IsAttackedDiagonal p side square) }
 {
     let seen = sliders_in_line(words, square, side, Kind::Rook, left)
         | sliders_in_line(words, square, side, Kind::Bishop, left);
@@ -404,14 +415,14 @@ fn is_hit_along_line(
 /// Whether some man of the side, of those left, attacks the square, where men stand on the occupied
 /// squares.
 #[inline(always)]
-fn is_hit(words: &[u64; 12], square: Square, side: Side, left: u64, occupied: u64) -> bool
+fn is_attacked(words: &[u64; 12], square: Square, side: Side, left: u64, occupied: u64) -> bool
     requires { AreApart words.now }
     ensures { (p : Placement) → AreLeft (words_men words.now) p side left
-        → IsWordOf (λ s. ¬ IsEmpty p s) occupied
+        → IsBitboardOf (λ s. ¬ IsEmpty p s) occupied
         → IsTrue result ↔ IsAttacked p side square }
 {
-    if is_hit_nearby(words, square, side, left) {
+    if is_attacked_nearby(words, square, side, left) {
         return true;
     }
-    is_hit_along_line(words, square, side, left, occupied)
+    is_attacked_along_line(words, square, side, left, occupied)
 }

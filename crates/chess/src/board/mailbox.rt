@@ -3,9 +3,9 @@ ghost use Rattle.std.specs.Prelude.{◌≡◌, ◌↔◌, ◌<◌, ◌≤◌, Is
 ghost use Rattle.chess.specs.declared.board.direction.Direction.{Direction};
 ghost use Rattle.chess.specs.Public.Squares.{IsStraight, gap};
 ghost use Rattle.chess.specs.Public.Placements.{man_at};
-ghost use Rattle.chess.specs.Public.Attacks.{IsOnRay, IsClearFor, IsNear, IsJump, IsPawnHit};
+ghost use Rattle.chess.specs.Public.Attacks.{IsOnRay, IsClearFor, IsNear, IsJump, IsPawnAttack};
 ghost use Rattle.chess.specs.Public.Attacks.{Reaches, IsForward};
-ghost use Rattle.chess.specs.Private.PseudoAttacks.{IsHitFrom};
+ghost use Rattle.chess.specs.Private.PseudoAttacks.{IsAttackedFrom};
 ghost use Rattle.chess.specs.Public.Sets.{HoldsExactly, IsAttacker};
 ghost use Rattle.chess.specs.Private.Cells.{cells_men, cell_of};
 ghost use Rattle.chess.specs.Shared.CellFacts.{on_board-men_of};
@@ -44,8 +44,8 @@ impl Board for Mailbox {
         self.cells[square.index() as usize] = man;
     }
 
-    fn move_piece(&mut self, man: Option<Man>, from: Square, taken: Square, to: Square) {
-        self.put(taken, None);
+    fn move_piece(&mut self, man: Option<Man>, from: Square, capture_square: Square, to: Square) {
+        self.put(capture_square, None);
         self.put(from, None);
         self.put(to, man);
     }
@@ -63,7 +63,7 @@ impl Board for Mailbox {
 
     fn attacked(&self, square: Square, side: Side) -> bool {
         for index in 0u8..64 {
-            if self.is_hit_from(Square::of_index(index), square, side) {
+            if self.is_attacked_from(Square::of_index(index), square, side) {
                 return true;
             }
         }
@@ -75,11 +75,11 @@ impl Board for Mailbox {
         square: Square,
         man: Man,
         from: Square,
-        taken: Square,
+        capture_square: Square,
         to: Square,
     ) -> bool {
         let mut after = *self;
-        after.move_piece(Some(man), from, taken, to);
+        after.move_piece(Some(man), from, capture_square, to);
         after.attacked(square, man.side.opposite())
     }
 
@@ -145,8 +145,8 @@ fn is_jump(from: Square, to: Square) -> bool
 }
 
 /// Whether a pawn of the side attacks the square (Laws 3.7.3).
-fn is_pawn_hit(side: Side, from: Square, to: Square) -> bool
-    ensures { IsTrue result ↔ IsPawnHit side from to }
+fn is_pawn_attack(side: Side, from: Square, to: Square) -> bool
+    ensures { IsTrue result ↔ IsPawnAttack side from to }
 {
     distance(from.file(), to.file()) == 1 && side.is_forward(from.rank(), to.rank())
 }
@@ -254,7 +254,7 @@ impl Mailbox {
             Kind::Rook => self.runs_straight(from, to),
             Kind::Bishop => self.runs_diagonally(from, to),
             Kind::Knight => is_jump(from, to),
-            Kind::Pawn => is_pawn_hit(man.side, from, to),
+            Kind::Pawn => is_pawn_attack(man.side, from, to),
         }
     }
 
@@ -271,8 +271,8 @@ impl Mailbox {
     }
 
     /// Whether a man of the side on the first square attacks the second.
-    fn is_hit_from(&self, from: Square, to: Square, side: Side) -> bool
-        ensures { IsTrue result ↔ IsHitFrom (cells_men self.now.cells) side from to }
+    fn is_attacked_from(&self, from: Square, to: Square, side: Side) -> bool
+        ensures { IsTrue result ↔ IsAttackedFrom (cells_men self.now.cells) side from to }
     {
         match self.man(from) {
             Some(man) => man.side == side && self.does_attack(man, from, to),

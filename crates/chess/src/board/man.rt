@@ -54,7 +54,7 @@ pub struct Man {
     pub kind: Kind,
 }
 
-/// The wing on which a king castles (Laws 3.8.2).
+/// The castling side: the wing on which a king castles (Laws 3.8.2).
 #[derive(Clone, Copy, Debug, PartialEq, Eq)]
 pub enum Wing {
     KingSide,

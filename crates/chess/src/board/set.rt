@@ -3,7 +3,7 @@ ghost use Rattle.std.specs.Prelude.{◌≡◌, ◌&&◌, ◌||◌, ◌↔◌, �
 ghost use Rattle.std.specs.Prelude.{Some, None, true, not};
 ghost use Rattle.chess.specs.Public.Squares.{Place, IsOnBoard, same_square, index_of};
 ghost use Rattle.chess.specs.Public.Sets.{is_in, no_places, size_of, HoldsExactly};
-ghost use Rattle.chess.specs.Shared.SetWords.{has_bit, HasOnly, IsTakenFirst};
+ghost use Rattle.chess.specs.Shared.SetBitboards.{has_bit, HasOnly, IsTakenFirst};
 
 use crate::board::Square;
 use std::marker::Model;
@@ -17,21 +17,21 @@ const RANK_1: u64 = 0xff;
 /// A set of squares.
 #[derive(Debug, Drop)]
 pub struct SquareSet {
-    word: u64,
+    bitboard: u64,
 }
 
 impl Model for SquareSet {
     ghost use Rattle.std.specs.Prelude.{◌<◌, ◌^◌};
     ghost use Rattle.chess.specs.Public.Sets.{Places};
-    ghost use Rattle.chess.specs.Shared.SetWords.{coded_places, places_of, has_bit};
+    ghost use Rattle.chess.specs.Shared.SetBitboards.{coded_places, places_of, has_bit};
 
     ghost Value = { Places };
 
     ghost coded = { coded_places };
 
-    ghost view = { λ s. places_of (has_bit s.word) };
+    ghost view = { λ s. places_of (has_bit s.bitboard) };
 
-    ghost invariant = { λ s. s.word < 2 ^ 64 };
+    ghost invariant = { λ s. s.bitboard < 2 ^ 64 };
 }
 
 impl SquareSet {
@@ -40,23 +40,23 @@ impl SquareSet {
     pub fn new() -> Self
         ensures { result ≡ no_places }
     {
-        SquareSet { word: 0 }
+        SquareSet { bitboard: 0 }
     }
 
-    /// The set of the squares of a word: bit 0 is a1, bit 1 is b1, and so on to h1, a2 and h8.
+    /// The set of the squares of a bitboard: bit 0 is a1, bit 1 is b1, and so on to h1, a2 and h8.
     #[inline(always)]
-    pub(crate) fn of_word(word: u64) -> Self
-        ensures { HoldsExactly (λ (s : Place). has_bit word (index_of s) ≡ true) result }
+    pub(crate) fn of_bitboard(bitboard: u64) -> Self
+        ensures { HoldsExactly (λ (s : Place). has_bit bitboard (index_of s) ≡ true) result }
     {
-        SquareSet { word }
+        SquareSet { bitboard }
     }
 
-    /// The word of its squares: bit 0 is a1, bit 1 is b1, and so on to h1, a2 and h8.
+    /// The bitboard of its squares: bit 0 is a1, bit 1 is b1, and so on to h1, a2 and h8.
     #[inline(always)]
-    pub(crate) fn word(&self) -> u64
+    pub(crate) fn bitboard(&self) -> u64
         ensures { (s : Place) → IsOnBoard s → has_bit result (index_of s) ≡ is_in self.now s }
     {
-        self.word
+        self.bitboard
     }
 
     /// All squares.
@@ -64,7 +64,7 @@ impl SquareSet {
     pub(crate) fn all() -> Self
         ensures { HoldsExactly (λ s. IsOnBoard s) result }
     {
-        SquareSet::of_word(u64::MAX)
+        SquareSet::of_bitboard(u64::MAX)
     }
 
     /// The squares of that file.
@@ -73,9 +73,9 @@ impl SquareSet {
         ensures { HoldsExactly (λ s. s.file ≡ file) result }
     {
         if file < 1 || file > 8 {
-            return SquareSet::of_word(0);
+            return SquareSet::of_bitboard(0);
         }
-        SquareSet::of_word(FILE_A << (file - 1))
+        SquareSet::of_bitboard(FILE_A << (file - 1))
     }
 
     /// The squares of that rank.
@@ -84,9 +84,9 @@ impl SquareSet {
         ensures { HoldsExactly (λ s. s.rank ≡ rank) result }
     {
         if rank < 1 || rank > 8 {
-            return SquareSet::of_word(0);
+            return SquareSet::of_bitboard(0);
         }
-        SquareSet::of_word(RANK_1 << (8 * (rank - 1)))
+        SquareSet::of_bitboard(RANK_1 << (8 * (rank - 1)))
     }
 
     /// The squares that both sets have.
@@ -94,7 +94,7 @@ impl SquareSet {
     pub(crate) fn common(self, other: SquareSet) -> Self
         ensures { HoldsExactly (λ s. (is_in self s ≡ true) × (is_in other s ≡ true)) result }
     {
-        SquareSet::of_word(self.word() & other.word())
+        SquareSet::of_bitboard(self.bitboard() & other.bitboard())
     }
 
     /// Puts a square into the set.
@@ -102,7 +102,7 @@ impl SquareSet {
     pub fn insert(&mut self, square: Square)
         ensures { (s : Place) → is_in self.new s ≡ (same_square square s || is_in self.old s) }
     {
-        self.word |= 1u64 << square.index();
+        self.bitboard |= 1u64 << square.index();
     }
 
     /// Puts a square into the set if that is so.
@@ -122,7 +122,7 @@ impl SquareSet {
         ensures { (s : Place) → is_in self.new s
             ≡ (is_in self.old s && not (same_square s square)) }
     {
-        self.word &= !(1u64 << square.index());
+        self.bitboard &= !(1u64 << square.index());
     }
 
     /// Whether the square is in the set.
@@ -130,14 +130,14 @@ impl SquareSet {
     pub fn has(&self, square: Square) -> bool
         ensures { result ≡ is_in self.now square }
     {
-        (self.word >> square.index()) & 1 == 1
+        (self.bitboard >> square.index()) & 1 == 1
     }
 
     /// Whether no square is in the set.
     pub fn is_empty(&self) -> bool
         ensures { IsTrue result ↔ (self.now ≡ no_places) }
     {
-        self.word == 0
+        self.bitboard == 0
     }
 
     /// Whether some square is in the set: the contrary of `is_empty`, said of a square that is
@@ -146,7 +146,7 @@ impl SquareSet {
     pub(crate) fn has_some(&self) -> bool
         ensures { IsTrue result ↔ ((s : Place) × IsOnBoard s × (is_in self.now s ≡ true)) }
     {
-        self.word != 0
+        self.bitboard != 0
     }
 
     /// Whether each of its squares is in the other set too.
@@ -155,14 +155,14 @@ impl SquareSet {
         ensures { IsTrue result
             ↔ ((s : Place) → is_in self.now s ≡ true → is_in other.now s ≡ true) }
     {
-        self.word & other.word == self.word
+        self.bitboard & other.bitboard == self.bitboard
     }
 
     /// How many squares are in the set.
     pub fn count(&self) -> u32
         ensures { result ≡ size_of self.now }
     {
-        self.word.count_ones()
+        self.bitboard.count_ones()
     }
 
     /// Takes out the first square in the order a1, b1 to h1, a2 and so on: `None` where there is
@@ -171,13 +171,13 @@ impl SquareSet {
     pub(crate) fn take_first(&mut self) -> Option<Square>
         ensures { IsTakenFirst self.old self.new result }
     {
-        let word = self.word;
-        if word == 0 {
+        let bitboard = self.bitboard;
+        if bitboard == 0 {
             return None;
         }
-        let place = word.trailing_zeros() as u8;
-        // One less than the word differs from it in its lowest bit and those below.
-        self.word = word & (word - 1);
+        let place = bitboard.trailing_zeros() as u8;
+        // One less than the bitboard differs from it in its lowest bit and those below.
+        self.bitboard = bitboard & (bitboard - 1);
         Some(Square::of_index(place))
     }
 
@@ -186,7 +186,9 @@ impl SquareSet {
     pub(crate) fn only(&self) -> Option<Square>
         ensures { MatchOption result ((s : Place) → HasOnly self.now s → ⊥) (HasOnly self.now) }
     {
-        let mut rest = SquareSet { word: self.word };
+        let mut rest = SquareSet {
+            bitboard: self.bitboard,
+        };
         let Some(first) = rest.take_first() else {
             return None;
         };

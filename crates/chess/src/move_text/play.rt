@@ -15,7 +15,7 @@ use crate::board::{Board, Kind, Man, SquareSet};
 use crate::move_text::SanError;
 use crate::move_text::read::candidates::{candidate_pieces, candidate_steppers, candidate_takers};
 use crate::move_text::read::parse::{
-    ParsedSan, before_mark, begins_castling, parse_san, pawn_takes, plainly_said,
+    ParsedSan, before_check_sign, begins_castling, parse_san, pawn_takes, plainly_said,
 };
 use crate::move_text::read::{moved, only_named};
 use crate::move_text::writer::{MoveWriter, Unwritten};
@@ -74,7 +74,7 @@ fn only_played<B: Board, W: MoveWriter<B>>(
     ensures played { IsPlayed position.old position.new result }
     ensures written { IfOk result (λ m. W.has writer.new position.old m) }
 {
-    match before_mark(text) {
+    match before_check_sign(text) {
         [file, rank] => {
             if let Some(said) = plainly_said(None, *file, *rank) {
                 let candidates = candidate_steppers(position, &said);

@@ -7,7 +7,7 @@ ghost use Rattle.chess.specs.declared.board.man.Kind.TheVariants.{Pawn};
 ghost use Rattle.chess.specs.declared.moves.Move.{Move};
 ghost use Rattle.chess.specs.Public.Moves.{IsLegal, after};
 ghost use Rattle.chess.specs.Public.San.{IsSan, IsOnlyNamed, IsRival, HasRival, IsDisambiguation};
-ghost use Rattle.chess.specs.Public.San.{IsPieceText, IsBody, IsCheckMark, castling_text};
+ghost use Rattle.chess.specs.Public.San.{IsPieceText, IsBody, IsCheckSign, castling_text};
 ghost use Rattle.chess.specs.Public.San.{is_capture, capture_text, pawn_text, promotion_text};
 ghost use Rattle.chess.specs.Public.Sets.{HoldsExactly};
 ghost use Rattle.chess.specs.Private.MoveWords.{HasEach};
@@ -55,7 +55,7 @@ fn play_written<B: Board>(position: &mut Position<B>, m: Move) -> ArrayString<8>
     let takes = position.takes(man, &m);
     push_body(&mut out, position, &m, man, takes);
     position.make_with(man, &m, takes);
-    push_check_mark(&mut out, position);
+    push_check_sign(&mut out, position);
     out
 }
 
@@ -76,10 +76,10 @@ pub(crate) fn write_plain<B: Board>(
 {
     out.clear();
     push_plain(out, m, man, takes);
-    push_check_mark(out, next);
+    push_check_sign(out, next);
 }
 
-/// Appends the text of a move, no castling, of a man who has no rival, without its mark.
+/// Appends the text of a move, no castling, of a man who has no rival, without its check sign.
 #[inline(always)]
 fn push_plain(out: &mut ArrayString<8>, m: &Move, man: Man, takes: bool)
     requires { array_string_len out.old ≤ 1 }
@@ -151,9 +151,9 @@ fn mover<B: Board>(position: &Position<B>, m: &Move) -> Man
 }
 
 /// Appends the mark of the position after a move: `+` for check, `#` for mate.
-fn push_check_mark<B: Board>(out: &mut ArrayString<8>, after: &Position<B>)
+fn push_check_sign<B: Board>(out: &mut ArrayString<8>, after: &Position<B>)
     requires { array_string_len out.old < 8 }
-    ensures { Appends (IsCheckMark after.now) out.old.bytes out.new.bytes }
+    ensures { Appends (IsCheckSign after.now) out.old.bytes out.new.bytes }
 {
     if !after.in_check() {
         return;
@@ -165,7 +165,7 @@ fn push_check_mark<B: Board>(out: &mut ArrayString<8>, after: &Position<B>)
     push_byte(out, b'#');
 }
 
-/// Appends the text of a move without its mark.
+/// Appends the text of a move without its check sign.
 fn push_body<B: Board>(
     out: &mut ArrayString<8>,
     position: &Position<B>,
@@ -176,7 +176,8 @@ fn push_body<B: Board>(
     requires mover { man_at position.now.men m.now.from ≡ Some man }
     requires takes { takes ≡ is_capture position.now m.now }
     requires room { array_string_len out.old ≤ 1 }
-    ensures text { Appends (IsBody position.now m.now m.now.castle man.kind) out.old.bytes out.new.bytes }
+    ensures text { Appends (IsBody position.now m.now m.now.castle man.kind) out.old.bytes
+        out.new.bytes }
     ensures short { array_string_len out.new ≤ array_string_len out.old + 7 }
 {
     if let Some(wing) = m.castle {

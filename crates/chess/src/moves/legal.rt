@@ -252,7 +252,12 @@ impl<B: Board> Position<B> {
     /// Whether a pawn may go so and become a piece of that kind.
     fn can_become(&self, from: Square, to: Square, kind: Kind) -> bool
         ensures { IsTrue result
-            ↔ IsLegal self.now (record { from = from; to = to; promote = Some kind; castle = None }) }
+            ↔ IsLegal self.now (record {
+              from = from;
+              to = to;
+              promote = Some kind;
+              castle = None;
+            }) }
     {
         self.is_legal(Move {
             from,
@@ -284,7 +289,12 @@ impl<B: Board> Position<B> {
     /// Whether castling on the wing is legal and takes the king from the one square to the other.
     fn can_castle_on(&self, from: Square, to: Square, wing: Wing) -> bool
         ensures { IsTrue result
-            ↔ IsLegal self.now (record { from = from; to = to; promote = None; castle = Some wing }) }
+            ↔ IsLegal self.now (record {
+              from = from;
+              to = to;
+              promote = None;
+              castle = Some wing;
+            }) }
     {
         self.is_legal(Move {
             from,

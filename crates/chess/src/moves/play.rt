@@ -2,10 +2,10 @@
 ghost use Rattle.std.specs.Prelude.{◌≡◌, ◌↔◌, ◌⊎◌, IsTrue, None, Some, if◌then◌else◌};
 ghost use Rattle.chess.specs.Public.Squares.{same_square};
 ghost use Rattle.chess.specs.Public.Positions.{IsSound, IsOnlyKing, IsCheck, king_from, rook_from};
-ghost use Rattle.chess.specs.Public.Moves.{is_pawn, is_en_passant, taken, arriving, men_after};
-ghost use Rattle.chess.specs.Public.Moves.{keeps_right, rights_after, en_passant_after, one_more};
-ghost use Rattle.chess.specs.Public.Moves.{halfmove_clock_after, fullmove_number_after, after};
-ghost use Rattle.chess.specs.Public.Moves.{IsPseudoLegal, IsLegal};
+ghost use Rattle.chess.specs.Public.Moves.{is_pawn, is_en_passant, capture_square, arriving};
+ghost use Rattle.chess.specs.Public.Moves.{men_after, keeps_right, rights_after, en_passant_after};
+ghost use Rattle.chess.specs.Public.Moves.{one_more, halfmove_clock_after, fullmove_number_after};
+ghost use Rattle.chess.specs.Public.Moves.{after, IsPseudoLegal, IsLegal};
 ghost use Rattle.chess.specs.Public.Placements.{man_at, opposite};
 ghost use Rattle.chess.specs.Public.San.{is_capture};
 ghost use Rattle.chess.specs.Shared.Codes.{IsFollowed};
@@ -116,9 +116,9 @@ impl<B: Board> Position<B> {
 
     /// The square of the man that the move of that man takes, if it takes one.
     #[inline(always)]
-    fn taken_by(&self, man: Option<Man>, m: &Move) -> Square
+    fn capture_square_of(&self, man: Option<Man>, m: &Move) -> Square
         requires { man ≡ man_at self.now.men m.now.from }
-        ensures { result ≡ taken self.now m.now }
+        ensures { result ≡ capture_square self.now m.now }
     {
         if self.is_en_passant(man, m) {
             return Square::at(m.to.file(), m.from.rank());
@@ -132,7 +132,7 @@ impl<B: Board> Position<B> {
         requires { man_at self.now.men m.now.from ≡ Some man }
         ensures { result ≡ is_capture self.now m.now }
     {
-        !self.is_empty(self.taken_by(Some(man), m))
+        !self.is_empty(self.capture_square_of(Some(man), m))
     }
 
     /// The man that arrives: the one that moves, or what the pawn becomes.
@@ -165,7 +165,12 @@ impl<B: Board> Position<B> {
     {
         let side = self.side();
         let mut board = self.board();
-        board.move_piece(self.arriving(man, m), m.from, self.taken_by(man, m), m.to);
+        board.move_piece(
+            self.arriving(man, m),
+            m.from,
+            self.capture_square_of(man, m),
+            m.to,
+        );
         if let Some(wing) = m.castle {
             board.put(rook_leaves(side, wing), None);
             board.put(
@@ -329,10 +334,10 @@ impl<B: Board> Position<B> {
     {
         self.invariant();
         let king = self.king_after(m, self.side());
-        let taken = self.taken_by(Some(man), m);
+        let capture_square = self.capture_square_of(Some(man), m);
         let arriving = self.becoming(man, m);
         self.board
-            .attacked_after(king, arriving, m.from, taken, m.to)
+            .attacked_after(king, arriving, m.from, capture_square, m.to)
     }
 
     /// Makes the move of that man in place if it leaves the own king unattacked.
@@ -365,9 +370,10 @@ impl<B: Board> Position<B> {
         let en_passant = self.en_passant_after(Some(man), m);
         let halfmove_clock = self.clock_after(man, m, takes);
         let fullmove_number = self.fullmove_number_after();
-        let taken = self.taken_by(Some(man), m);
+        let capture_square = self.capture_square_of(Some(man), m);
         let arriving = self.becoming(man, m);
-        self.board.move_piece(Some(arriving), m.from, taken, m.to);
+        self.board
+            .move_piece(Some(arriving), m.from, capture_square, m.to);
         self.turn = turn;
         end_rights(&mut self.rights, m);
         self.en_passant = en_passant;

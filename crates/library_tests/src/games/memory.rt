@@ -7,7 +7,7 @@ use std::alloc::Global;
 use std::test::Fail;
 use test_support::{Pieces, TWO_GAMES, first_game};
 
-/// A game with tags, comments, glyphs and variations.
+/// A game with tags, comments, NAGs and variations.
 const ELEMENTS: &[u8] =
     b"[White \"a \\\"b\\\"\"]\n[ECO \"A00\"]\n\n1. e4! {a [Event \"x\"] %b} (1. d4 (1. c4 -- 2. Nf3) d5 $2) e5 2. Nf3 Nc6 3. Bb5 ; words\na6 4. O-O 1/2-1/2";
 

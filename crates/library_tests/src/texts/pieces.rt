@@ -62,7 +62,7 @@ fn blocks_are_cut_at_gaps(rt: HostRuntime) -> Result<(), Fail> {
     rows_hold(&Says::Cut.over(rt.alloc()), GAPS, 18)
 }
 
-/// Blocks with numbers, glyphs, results and words of moves, and their pieces.
+/// Blocks with numbers, NAGs, results and words of moves, and their pieces.
 const WORDS: &str = r#"
 1. e4 $255 * | game 0
 1. e4 $256 * | unreadable 0

@@ -5,20 +5,21 @@ use Rattle.std.specs.Prelude.{◌≡◌, ◌⊎◌, ◌+◌, ◌++◌, ℕ, if�
 use Rattle.std.specs.List.{slice_get}
 use Rattle.chess.specs.Public.Positions.{State}
 use Rattle.chess.specs.Public.San.{IsSan}
-use Rattle.chess.specs.Public.Letters.{is_check_mark}
+use Rattle.chess.specs.Public.Letters.{is_check_sign}
 use Rattle.chess.specs.declared.moves.Move.{Move}
 use Rattle.pgn_game.specs.Public.Replays.{Replay}
 
--- a text without the marks of check and mate, + and #
-abbrev pub without_marks : List ℕ → List ℕ
-without_marks [] = []
-without_marks (b ∷ x) = if is_check_mark b then without_marks x else b ∷ without_marks x
+-- a text without the signs of check and mate, + and #
+abbrev pub without_check_signs : List ℕ → List ℕ
+without_check_signs [] = []
+without_check_signs (b ∷ x) = if is_check_sign b then without_check_signs x
+    else b ∷ without_check_signs x
 
 -- the word is *, which fits any move, or it is the move's standard text in this position (PGN
--- 8.2.3) without its mark
+-- 8.2.3) without its check sign
 abbrev pub FitsWord : State → Move → List ℕ → Type 0
 FitsWord P m word = (word ≡ codes "*")
-    ⊎ ((text : List ℕ) × IsSan P m text × (word ≡ without_marks text))
+    ⊎ ((text : List ℕ) × IsSan P m text × (word ≡ without_check_signs text))
 
 -- the main line has a move after so many plies, and the word fits it
 pub record FitsMove (replay : Replay) (plies : ℕ) (word : List ℕ) : Type 0 where
@@ -50,7 +51,7 @@ pub record GoesOnBy (replay : Replay) (plies : ℕ) (word : List ℕ) : Type 0 w
   pub here : slice_get replay.positions plies ≡ Some position
   pub played : slice_get replay.played plies ≡ Some move
   pub is_text : IsSan position move text
-  pub like : IsLike word (without_marks text)
+  pub like : IsLike word (without_check_signs text)
 
 -- the last of so many plies was such a move; before the first ply none was played
 abbrev pub IsReachedBy : Replay → ℕ → List ℕ → Type 0

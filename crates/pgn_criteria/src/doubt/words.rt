@@ -1,7 +1,7 @@
 //! Words that are no move's standard text.
 use crate::words::next_word;
 
-/// Whether the byte stands in the standard text of some move, without its mark.
+/// Whether the byte stands in the standard text of some move, without its check sign.
 fn is_move_text_byte(byte: u8) -> bool {
     matches!(
         byte,

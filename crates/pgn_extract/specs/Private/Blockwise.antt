@@ -144,7 +144,8 @@ AddsReplayed mode aim old new id game = (verdict : Verdict)
 abbrev pub AddsGame : Aim → Report → Report → GameId → GameText → Type 0
 AddsGame aim old new id game =
     (at : ℕ) (parts : List Part) → ShowsGame game at parts
-    → (verdict : Verdict) × IsVerdictIn aim.mode aim id parts verdict × AddsVerdict old new verdict 0
+    → (verdict : Verdict) × IsVerdictIn aim.mode aim id parts verdict
+    × AddsVerdict old new verdict 0
 
 -- what is reported of the piece in the mode is added, and the piece counted
 abbrev pub AddsMark : Aim → Report → Report → ℕ → MarkedPiece → Type 0

@@ -228,7 +228,10 @@ pub fn settings_of(order: &Order<'_>, criteria: Option<Criteria>, chosen: Option
 /// What is looked for in packs.
 pub fn packed_settings(order: &Order<'_>, criteria: Option<Criteria>) -> Settings
     ensures asked { aim_of result
-        ≡ record (asked order.now.noted order.now.request criteria None) { fields = result.fields } }
+        ≡ record (asked order.now.noted order.now.request criteria None) {
+          fields =
+              result.fields;
+        } }
     ensures plain { is_plain result.fields ≡ true }
 {
     let mut settings = settings_of(order, criteria, None);

@@ -104,7 +104,8 @@ fn first_fault<'a>(
     game: &RawGame<'a>,
     fault: GameFault<'a>,
 ) -> GameFault<'a>
-    requires { IfSome (fault_of fault) (IsFault Main (tag_in fen_tag game.now.tags) game.now.elements) }
+    requires { IfSome (fault_of fault)
+        (IsFault Main (tag_in fen_tag game.now.tags) game.now.elements) }
     ensures { IfSome (fault_of result)
         (IsFault (written_lines (aim_of settings.now)) (tag_in fen_tag game.now.tags)
         game.now.elements) }

@@ -59,7 +59,8 @@ fn put_report<O: Write, E: Write>(
     requires sound { (out.old.faulted ≡ false) × (err.old.faulted ≡ false) }
     ensures ok { OnOk result (Adds (passage O.contents out.old out.new) report.now.output.items
         × Adds (passage E.contents err.old err.new) report.now.faults.items) }
-    ensures err { OnErr result (AddsFront (passage O.contents out.old out.new) report.now.output.items
+    ensures err { OnErr result
+        (AddsFront (passage O.contents out.old out.new) report.now.output.items
         × AddsFront (passage E.contents err.old err.new) report.now.faults.items) }
     ensures only { IfErr result (λ error. error ≡ RunError.Write) }
     ensures faults { WriteFaultsAre result (passage O.contents out.old out.new)
@@ -80,7 +81,8 @@ fn put_texts<O: Write, E: Write>(
     ensures ok { OnOk result
         (PassesOn report.old report.new (passage O.contents out.old out.new)
         (passage E.contents err.old err.new)) }
-    ensures err { OnErr result (AddsFront (passage O.contents out.old out.new) report.old.output.items
+    ensures err { OnErr result
+        (AddsFront (passage O.contents out.old out.new) report.old.output.items
         × AddsFront (passage E.contents err.old err.new) report.old.faults.items) }
     ensures only { IfErr result (λ error. error ≡ RunError.Write) }
     ensures faults { WriteFaultsAre result (passage O.contents out.old out.new)
@@ -102,7 +104,8 @@ fn put_large<O: Write, E: Write>(
     ensures ok { OnOk result
         (PassesOn report.old report.new (passage O.contents out.old out.new)
         (passage E.contents err.old err.new)) }
-    ensures err { OnErr result (AddsFront (passage O.contents out.old out.new) report.old.output.items
+    ensures err { OnErr result
+        (AddsFront (passage O.contents out.old out.new) report.old.output.items
         × AddsFront (passage E.contents err.old err.new) report.old.faults.items) }
     ensures only { IfErr result (λ error. error ≡ RunError.Write) }
     ensures faults { WriteFaultsAre result (passage O.contents out.old out.new)

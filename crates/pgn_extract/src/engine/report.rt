@@ -21,7 +21,7 @@ ghost use Rattle.pgn_game.specs.Public.Replays.{fault_of};
 use crate::engine::exporting::{push_faulty, put_selected, written_lines};
 use crate::entries::listing::push_plies;
 use crate::entries::{GameContext, push_entries};
-use crate::explain::move_notes::{Site, push_game_note};
+use crate::explain::move_notes::{GamePlace, push_game_note};
 use crate::explain::notes::{Origin, Spot, push_stop_note, push_too_long_note};
 use crate::explain::players::push_players;
 use crate::marks::{GameId, Met};
@@ -180,8 +180,8 @@ fn push_listed<'a>(
     push_entries(text, context, game)
 }
 
-/// Appends what goes to the output of a sound game; or answers the first fault of the lines that are
-/// replayed, and some bytes may be appended.
+/// Appends what goes to the output of a sound game; or answers the first fault of the lines that
+/// are replayed, and some bytes may be appended.
 fn push_sound<'a>(
     text: &mut Vec<u8>,
     context: GameContext<'a>,
@@ -207,12 +207,12 @@ impl Report {
     fn add_fault<'a>(
         &mut self,
         context: GameContext<'a>,
-        site: Site<'a>,
+        game_place: GamePlace<'a>,
         game: &RawGame<'a>,
         fault: GameFault<'_>,
     ) -> Result<(), AllocError>
         requires faulty { self.old.faulty + 1 < 2 ^ 64 }
-        requires room { site.origin.offset + length site.block.now < 2 ^ 64 }
+        requires room { game_place.origin.offset + length game_place.block.now < 2 ^ 64 }
         ensures { OnOk result ((own : Fault) × (note : List ℕ) × (fault_of fault.entry ≡ Some own)
             × IsNote context.entry.settings.now.explain note
             × AddsVerdict self.old self.new
@@ -230,28 +230,31 @@ impl Report {
         if !settings.explain {
             return Ok(());
         }
-        self.spot = self.spot.go_on(site.block, game.at().min(site.block.len()));
-        let site = Site {
+        self.spot = self
+            .spot
+            .go_on(game_place.block, game.at().min(game_place.block.len()));
+        let game_place = GamePlace {
             spot: self.spot,
-            ..site
+            ..game_place
         };
         let lines = replayed_lines(settings);
-        push_game_note(alloc, &mut self.faults, site, game, lines)?;
+        push_game_note(alloc, &mut self.faults, game_place, game, lines)?;
         push_players(alloc, &mut self.faults, game.text())
     }
 
-    /// Adds what is reported of a game by its replay: what goes to the output where it is sound, else
-    /// the line of its fault.
+    /// Adds what is reported of a game by its replay: what goes to the output where it is sound,
+    /// else the line of its fault.
     fn add_replayed<'a>(
         &mut self,
         context: GameContext<'a>,
-        site: Site<'a>,
+        game_place: GamePlace<'a>,
         game: &RawGame<'a>,
     ) -> Result<(), AllocError>
         requires faulty { self.old.faulty + 1 < 2 ^ 64 }
-        requires room { site.origin.offset + length site.block.now < 2 ^ 64 }
+        requires room { game_place.origin.offset + length game_place.block.now < 2 ^ 64 }
         ensures { OnOk result
-            (AddsReplayed context.entry.settings.now.mode (aim_of context.entry.settings.now) self.old self.new
+            (AddsReplayed context.entry.settings.now.mode (aim_of context.entry.settings.now)
+            self.old self.new
             context.entry.own game.now) }
     {
         let length = self.output.len();
@@ -262,7 +265,7 @@ impl Report {
                 let text = game.text();
                 self.output.truncate(length);
                 push_faulty(&mut self.output, settings.mode, settings.select, text)?;
-                self.add_fault(context, site, game, fault)
+                self.add_fault(context, game_place, game, fault)
             }
         }
     }
@@ -271,11 +274,11 @@ impl Report {
     fn add_game<'a>(
         &mut self,
         context: GameContext<'a>,
-        site: Site<'a>,
+        game_place: GamePlace<'a>,
         game: &RawGame<'a>,
     ) -> Result<(), AllocError>
         requires faulty { self.old.faulty + 1 < 2 ^ 64 }
-        requires room { site.origin.offset + length site.block.now < 2 ^ 64 }
+        requires room { game_place.origin.offset + length game_place.block.now < 2 ^ 64 }
         ensures { OnOk result
             (AddsGame (aim_of context.entry.settings.now) self.old self.new context.entry.own
             game.now) }
@@ -284,8 +287,8 @@ impl Report {
         let GameContext { settings, own, .. } = context;
         match settings.mode {
             Mode::Index => push_mark_line(&mut self.output, &settings.name, own),
-            Mode::List => self.add_replayed(context, site, game),
-            Mode::Export => self.add_replayed(context, site, game),
+            Mode::List => self.add_replayed(context, game_place, game),
+            Mode::Export => self.add_replayed(context, game_place, game),
         }
     }
 
@@ -363,7 +366,7 @@ impl Report {
                     offset: id.offset,
                     line: self.line,
                 };
-                let site = Site {
+                let game_place = GamePlace {
                     origin,
                     block: bytes,
                     spot: self.spot,
@@ -373,7 +376,7 @@ impl Report {
                     settings,
                     own,
                 };
-                self.add_game(context, site, game)
+                self.add_game(context, game_place, game)
             }
             Piece::Unreadable { at } => {
                 let rest = GameId {

@@ -25,7 +25,8 @@ impl<'s> Finder<'s> {
     fn ask<L: Line, S: Sink>(&self, line: &L, sink: &mut S, is_open: bool) -> Result<bool, L::Fault>
         requires takes { S.Takes self.now.fields }
         requires valid { L.Valid line.now }
-        ensures asked { IfOk result (Asks (S.Gets self.now.mark.items) self.now.settings.now self.now.fields
+        ensures asked { IfOk result
+            (Asks (S.Gets self.now.mark.items) self.now.settings.now self.now.fields
             (L.At line.now) sink.old sink.new is_open) }
         ensures fault { IfErr result (λ fault. IfSome (L.fault_of fault)
             (λ own. Where (L.At line.now) (HasFault own) × S.Grew sink.old sink.new)) }
@@ -53,7 +54,8 @@ impl<'s> Finder<'s> {
         requires takes { S.Takes self.now.fields }
         requires valid { L.Valid line.old }
         requires open { is_open ≡ false → Where (L.At line.old) IsNeverMet }
-        ensures found { OnOk result ((name : Option (List ℕ)) (id : GameId) (game : GameText) (P : State)
+        ensures found { OnOk result
+            ((name : Option (List ℕ)) (id : GameId) (game : GameText) (P : State)
             → L.At line.old (aim_with self.now.settings.now self.now.fields name) game [] P
             → HandsOn (aim_with self.now.settings.now self.now.fields name) id game
             (λ got. S.Gets self.now.mark.items sink.old got sink.new)) }

@@ -121,7 +121,8 @@ pub(crate) struct Played<'g, 'a, Q: Question> {
 impl<'g, 'a, Q: Question> Line for Played<'g, 'a, Q> {
     type Fault = GameFault<'a>;
 
-    ghost At = { λ own aim game before P. IsPlayedWith own.line (Q.asked own.question) aim game before P };
+    ghost At = { λ own aim game before P.
+        IsPlayedWith own.line (Q.asked own.question) aim game before P };
 
     ghost Valid = { λ own. Unit {0} };
 

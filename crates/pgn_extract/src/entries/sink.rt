@@ -28,7 +28,8 @@ pub(crate) trait Sink {
     fn put<L: Line>(&mut self, mark: &[u8], line: &L, fields: Fields) -> Result<(), L::Fault>
         requires takes { Takes fields }
         requires valid { L.Valid line.now }
-        ensures put { OnOk result (PutsHere (Gets mark.now self.old) (L.At line.now) fields self.new) }
+        ensures put { OnOk result
+            (PutsHere (Gets mark.now self.old) (L.At line.now) fields self.new) }
         ensures fault { IfErr result (λ fault. IfSome (L.fault_of fault)
             (λ own. Where (L.At line.now) (HasFault own) × Grew self.old self.new)) }
         ensures kept { OnOk result (Grew self.old self.new) };
@@ -65,7 +66,8 @@ impl Sink for Vec<u8> {
 
     ghost none = { λ mark sink. lines_none mark sink.items };
 
-    ghost more = { λ mark a b c xs ys first then. lines_more mark a.items b.items c.items xs ys first then };
+    ghost more = { λ mark a b c xs ys first then.
+        lines_more mark a.items b.items c.items xs ys first then };
 
     ghost stays = { λ sink. grows_none sink.items };
 

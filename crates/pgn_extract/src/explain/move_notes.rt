@@ -13,7 +13,7 @@ use std::alloc::{AllocError, Global};
 
 /// Where a game stands.
 #[derive(Clone, Copy)]
-pub struct Site<'a> {
+pub struct GamePlace<'a> {
     /// Where its block begins in the file.
     pub origin: Origin,
     /// Its block.
@@ -121,20 +121,20 @@ fn push_why(alloc: Global, line: &mut Vec<u8>, refused: &Refused<'_>) -> Result<
 fn push_refused_note(
     alloc: Global,
     text: &mut Vec<u8>,
-    site: Site<'_>,
+    game_place: GamePlace<'_>,
     begin: usize,
     refused: &Refused<'_>,
 ) -> Result<(), AllocError>
-    requires place { begin ≤ length site.block.now }
-    requires room { site.origin.offset + length site.block.now < 2 ^ 64 }
+    requires place { begin ≤ length game_place.block.now }
+    requires room { game_place.origin.offset + length game_place.block.now < 2 ^ 64 }
     ensures { OnOk result ((note : List ℕ) × IsNote true note
         × (text.new.items ≡ text.old.items ++ note)) }
 {
-    let Site {
+    let GamePlace {
         origin,
         block,
         spot,
-    } = site;
+    } = game_place;
     let place = element_place(block, begin, origin.offset == 0, refused.element);
     let mut line = Vec::new(alloc);
     push_spot(&mut line, origin, spot.go_on(block, place))?;
@@ -147,19 +147,19 @@ fn push_refused_note(
 fn push_start_note(
     alloc: Global,
     text: &mut Vec<u8>,
-    site: Site<'_>,
+    game_place: GamePlace<'_>,
     begin: usize,
 ) -> Result<(), AllocError>
-    requires place { begin ≤ length site.block.now }
-    requires room { site.origin.offset + length site.block.now < 2 ^ 64 }
+    requires place { begin ≤ length game_place.block.now }
+    requires room { game_place.origin.offset + length game_place.block.now < 2 ^ 64 }
     ensures { OnOk result ((note : List ℕ) × IsNote true note
         × (text.new.items ≡ text.old.items ++ note)) }
 {
-    let Site {
+    let GamePlace {
         origin,
         block,
         spot,
-    } = site;
+    } = game_place;
     let place = tag_place(block, begin, origin.offset == 0, b"FEN");
     let mut line = Vec::new(alloc);
     push_spot(&mut line, origin, spot.go_on(block, place))?;
@@ -172,19 +172,19 @@ fn push_start_note(
 pub fn push_game_note(
     alloc: Global,
     text: &mut Vec<u8>,
-    site: Site<'_>,
+    game_place: GamePlace<'_>,
     game: &RawGame<'_>,
     lines: Lines,
 ) -> Result<(), AllocError>
-    requires room { site.origin.offset + length site.block.now < 2 ^ 64 }
+    requires room { game_place.origin.offset + length game_place.block.now < 2 ^ 64 }
     ensures { OnOk result ((note : List ℕ) × IsNote true note
         × (text.new.items ≡ text.old.items ++ note)) }
 {
-    let begin = game.at().min(site.block.len());
+    let begin = game.at().min(game_place.block.len());
     match refused_word(alloc, game, lines) {
-        Ok(Some(refused)) => push_refused_note(alloc, text, site, begin, &refused),
+        Ok(Some(refused)) => push_refused_note(alloc, text, game_place, begin, &refused),
         Ok(None) => Ok(()),
-        Err(GameFault::BadPosition) => push_start_note(alloc, text, site, begin),
+        Err(GameFault::BadPosition) => push_start_note(alloc, text, game_place, begin),
         Err(_) => Err(AllocError),
     }
 }

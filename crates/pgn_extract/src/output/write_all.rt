@@ -10,7 +10,8 @@ use std::io::Write;
 /// Writes all of the bytes.
 pub fn write_all<W: Write>(out: &mut Tally<W>, bytes: &[u8]) -> Result<(), RunError>
     requires { out.old.faulted ≡ false }
-    ensures ok { OnOk result (Appends (W.contents out.old.inner) (W.contents out.new.inner) bytes.now) }
+    ensures ok { OnOk result
+        (Appends (W.contents out.old.inner) (W.contents out.new.inner) bytes.now) }
     ensures err { OnErr result
         (AppendsFront (W.contents out.old.inner) (W.contents out.new.inner) bytes.now) }
     ensures only { IfErr result (λ error. error ≡ RunError.Write) }

@@ -110,7 +110,8 @@ pub fn push_kept_record<'a>(
     requires plain { is_plain settings.now.fields ≡ true }
     requires criteria { settings.now.criteria ≡ Some criteria.now }
     requires shows { IsRawOfGame raw.now }
-    ensures ok { OnOk result (ListsRecord (aim_of settings.now) raw.now text.old.items text.new.items) }
+    ensures ok { OnOk result
+        (ListsRecord (aim_of settings.now) raw.now text.old.items text.new.items) }
     ensures err { IfErr result (λ fault. fault ≡ PackedFault.NoGame
         → (text.new.items ≡ text.old.items) × HasNoText raw.now) }
 {

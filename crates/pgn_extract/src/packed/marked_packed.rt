@@ -27,7 +27,7 @@ impl<'s, 'r, 'a> RecordLines<'s, 'r, 'a> {
             ≡ named_mark self.now.raw.now.name (raw_id self.now.raw.now) }
         requires starts { StartsWith self.now.raw.now turn }
         requires met { EachOfRecord self.now.raw.now (λ game replay packed.
-            AreMetWith marks.bits (heading_of game) self.now.settings.now.criteria) }
+            AreMetWith marks.flags (heading_of game) self.now.settings.now.criteria) }
         ensures { OnOk result
             (ListsRecord (aim_of self.now.settings.now) self.now.raw.now text.old.items
             text.new.items) }

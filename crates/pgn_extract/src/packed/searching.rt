@@ -63,7 +63,8 @@ fn of_records(error: RecordsError, place: u64) -> SearchError
 /// Writes what is gathered.
 fn put_text<O: Write>(out: &mut Tally<O>, text: &[u8]) -> Result<(), SearchError>
     requires { out.old.faulted ≡ false }
-    ensures ok { OnOk result (Appends (O.contents out.old.inner) (O.contents out.new.inner) text.now) }
+    ensures ok { OnOk result
+        (Appends (O.contents out.old.inner) (O.contents out.new.inner) text.now) }
     ensures err { IfErr result (λ error. (error ≡ SearchError.Write)
         × AppendsFront (O.contents out.old.inner) (O.contents out.new.inner) text.now) }
     ensures fault { IsErrOf result SearchError.Write ↔ (out.new.faulted ≡ true) }
@@ -132,7 +133,8 @@ pub fn search<R: Read, O: Write>(
 ) -> Result<Searched, SearchError>
     requires sound { (input.old.faulted ≡ false) × (out.old.faulted ≡ false) }
     requires plain { is_plain settings.now.fields ≡ true }
-    ensures stands { IsSearch (aim_of settings.now) (R.remaining input.old.inner) (R.remaining input.new.inner)
+    ensures stands { IsSearch (aim_of settings.now) (R.remaining input.old.inner)
+        (R.remaining input.new.inner)
         (O.contents out.old.inner) (O.contents out.new.inner) result }
     ensures flushed { OnOk result (out.new.flushed ≡ true) }
     ensures read { IsErrOf result SearchError.Read

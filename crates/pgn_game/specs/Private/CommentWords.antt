@@ -6,9 +6,9 @@ use Rattle.pgn_text.specs.Public.Bytes.{is_white, is_empty}
 use Rattle.pgn_game.specs.Public.Comments.{words_in, unbraced, later_word, closed, ties, in_front}
 use Rattle.pgn_game.specs.Public.Comments.{tied, comment_tokens}
 use Rattle.pgn_game.specs.Public.TextLines.{joined}
-use Rattle.pgn_game.specs.Private.Pens.{after_tokens, HasPut}
+use Rattle.pgn_game.specs.Private.LineWrappers.{after_tokens, HasPut}
 use Rattle.pgn_game.specs.declared.exports.comment.Found.{Found}
-use Rattle.pgn_game.specs.declared.exports.pen.Pen.{Pen}
+use Rattle.pgn_game.specs.declared.exports.line_wrapper.LineWrapper.{LineWrapper}
 
 -- the first run of bytes that are no white space, what follows it, and what follows the white space
 -- that a text begins with
@@ -85,16 +85,19 @@ HasTied before_it after inside words left =
     × ((token : List ℕ) → in_front inside token (tied_words inside words)
     ≡ (token ++ some) ∷ tied_words false left)
 
--- a pen has put the token that a word begins, of these words after it all but those that are left
-abbrev pub PutsTied : Pen → Pen → List ℕ → List ℕ → Bool → List ℕ → List (List ℕ) → List (List ℕ)
+-- a wrapper has put the token that a word begins, of these words after it all but those that are
+-- left
+abbrev pub PutsTied : LineWrapper → LineWrapper → List ℕ → List ℕ → Bool → List ℕ → List (List ℕ)
+    → List (List ℕ)
     → Type 0
 PutsTied old new before_it after inside word words left =
     (token : List ℕ) × HasPut old new before_it after (token ∷ [])
     × (in_front inside (word ++ closing (is_empty words)) (tied_words inside words)
     ≡ token ∷ tied_words false left)
 
--- a pen that has written all but these of the tokens after what stood there
-abbrev pub HasLeft : Pen → Pen → List ℕ → List ℕ → List (List ℕ) → List (List ℕ) → Type 0
+-- a wrapper that has written all but these of the tokens after what stood there
+abbrev pub HasLeft : LineWrapper → LineWrapper → List ℕ → List ℕ → List (List ℕ)
+    → List (List ℕ) → Type 0
 HasLeft old new before after tokens left =
     (more : List (List ℕ)) → after ++ after_tokens new.width new.begun new.column (left ++ more)
     ≡ before ++ after_tokens old.width old.begun old.column (tokens ++ more)

@@ -5,13 +5,13 @@ use Rattle.pgn_text.specs.Public.Games.{MoveText, GlyphNumber, CommentText, Vari
 use Rattle.pgn_text.specs.Public.Games.{VariationClose}
 use Rattle.pgn_game.specs.Public.Comments.{comment_tokens}
 use Rattle.pgn_game.specs.Public.Exports.{number_tokens, IsTurnText, kept}
-use Rattle.pgn_game.specs.Private.Pens.{HasPut}
+use Rattle.pgn_game.specs.Private.LineWrappers.{HasPut}
 use Rattle.pgn_game.specs.Private.Steps.{Step, Turned, Beside}
 use Rattle.pgn_game.specs.declared.exports.movetext.MovetextWriter.{MovetextWriter}
 
 -- the tokens are written, and the next move stands apart after them or does not
 pub record Puts (old new : MovetextWriter) (tokens : List (List ℕ)) (apart : Bool) : Type 0 where
-  pub put : HasPut old.pen new.pen old.out.items new.out.items tokens
+  pub put : HasPut old.wrapper new.wrapper old.out.items new.out.items tokens
   pub stands : new.apart ≡ apart
   pub same : new.style ≡ old.style
 

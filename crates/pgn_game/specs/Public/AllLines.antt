@@ -11,7 +11,7 @@ use Rattle.pgn_text.specs.Public.Games.{VariationClose}
 use Rattle.pgn_game.specs.declared.turns.line_move.LineMove.{LineMove}
 use Rattle.pgn_game.specs.declared.turns.line_move.LineMove.TheVariants.{Played, Passed}
 
--- a line from some place on: nothing, or a move, a glyph, a comment or a whole variation, and the
+-- a line from some place on: nothing, or a move, a NAG, a comment or a whole variation, and the
 -- line after it
 pub data Line : Type 0 where
   LineEnd : Line

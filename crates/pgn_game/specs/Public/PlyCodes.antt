@@ -5,7 +5,7 @@ use Rattle.std.specs.Prelude.{if◌then◌else◌, List, [], ◌∷◌, Option, 
 use Rattle.chess.specs.Public.Squares.{Place, IsOnBoard, square_at, index_of}
 use Rattle.chess.specs.Public.Placements.{Placement, with_man}
 use Rattle.chess.specs.Public.Positions.{State, king_of, IsCheck}
-use Rattle.chess.specs.Public.Moves.{taken, arriving, with_rook, after, HasMove}
+use Rattle.chess.specs.Public.Moves.{capture_square, arriving, with_rook, after, HasMove}
 use Rattle.chess.specs.declared.board.man.Man.{Man}
 use Rattle.chess.specs.declared.board.man.Side.{Side}
 use Rattle.chess.specs.declared.board.man.Side.TheVariants.{White, Black}
@@ -39,7 +39,7 @@ pub record AreMarks (P : State) (in_check is_stuck : Bool) : Type 0 where
 pub record IsCode (P : State) (m : Move) (c : PlyCode) : Type 0 where
   pub from : c.from ≡ m.from
   pub to : c.to ≡ m.to
-  pub taken : c.taken ≡ taken P m
+  pub taken : c.taken ≡ capture_square P m
   pub man : arriving P m.promote m.from ≡ Some c.man
   pub castle : c.castle ≡ m.castle
   pub marks : AreMarks (after P m) c.check c.stuck

@@ -10,9 +10,9 @@ ghost use Rattle.pgn_game.specs.Private.CommentWords.{word_front, after_front, a
 ghost use Rattle.pgn_game.specs.Private.CommentWords.{found_words, closing, found_size, tied_words};
 ghost use Rattle.pgn_game.specs.Private.CommentWords.{IsBare, IsFoundBare, IsAfterBare};
 ghost use Rattle.pgn_game.specs.Private.CommentWords.{IsAfterKept, IsSpaced, HasTied, PutsTied};
-ghost use Rattle.pgn_game.specs.Private.Pens.{HasPut};
+ghost use Rattle.pgn_game.specs.Private.LineWrappers.{HasPut};
 
-use crate::exports::pen::Pen;
+use crate::exports::line_wrapper::LineWrapper;
 use std::alloc::AllocError;
 
 /// The first word of a text, whether it is known to have no closing brace, and what follows it.
@@ -162,7 +162,7 @@ fn push_word(
 /// Writes a word that was found as a token, after what it begins with; the last one has the closing
 /// brace.
 fn put_word(
-    pen: &mut Pen,
+    wrapper: &mut LineWrapper,
     out: &mut Vec<u8>,
     front: &[u8],
     found: Found<'_>,
@@ -170,12 +170,12 @@ fn put_word(
 ) -> Result<(), AllocError>
     requires { found.bare ≡ true → IsBare found.word.now }
     ensures text { OnOk result
-        (HasPut pen.old pen.new out.old.items out.new.items
+        (HasPut wrapper.old wrapper.new out.old.items out.new.items
         ((front.now ++ unbraced found.entry.word.now ++ closing is_last) ∷ [])) }
     ensures kept { (some : List ℕ) × (out.new.items ≡ out.old.items ++ some) }
-    ensures width { pen.new.width ≡ pen.old.width }
+    ensures width { wrapper.new.width ≡ wrapper.old.width }
 {
-    pen.start(out, front.len() + found.word.len() + usize::from(is_last))?;
+    wrapper.start(out, front.len() + found.word.len() + usize::from(is_last))?;
     push_word(out, front, found, is_last)
 }
 
@@ -196,19 +196,23 @@ fn guarded(word: &[u8]) -> (&[u8], &[u8])
 }
 
 /// Writes the words after the first one.
-fn put_later(pen: &mut Pen, out: &mut Vec<u8>, first: Option<Found<'_>>) -> Result<(), AllocError>
+fn put_later(
+    wrapper: &mut LineWrapper,
+    out: &mut Vec<u8>,
+    first: Option<Found<'_>>,
+) -> Result<(), AllocError>
     requires { IsFoundBare first }
     ensures text { OnOk result
-        (HasPut pen.old pen.new out.old.items out.new.items
+        (HasPut wrapper.old wrapper.new out.old.items out.new.items
         (closed (map later_word (found_words first.entry)))) }
     ensures kept { (some : List ℕ) × (out.new.items ≡ out.old.items ++ some) }
-    ensures width { pen.new.width ≡ pen.old.width }
+    ensures width { wrapper.new.width ≡ wrapper.old.width }
 {
     let mut next = first;
     while let Some(found) = next {
         next = first_word(found.rest);
         let (front, word) = guarded(found.word);
-        put_word(pen, out, front, Found { word, ..found }, next.is_none())?;
+        put_word(wrapper, out, front, Found { word, ..found }, next.is_none())?;
     }
     Ok(())
 }
@@ -250,16 +254,17 @@ fn is_spaced(text: &[u8]) -> bool
 }
 
 /// Writes a comment that stands in the line that is begun as it is.
-fn put_spaced(pen: &mut Pen, out: &mut Vec<u8>, text: &[u8]) -> Result<(), AllocError>
+fn put_spaced(wrapper: &mut LineWrapper, out: &mut Vec<u8>, text: &[u8]) -> Result<(), AllocError>
     requires spaced { IsSpaced text.now }
-    requires begun { pen.old.begun ≡ true }
-    requires room { pen.old.column + 1 + (length text.now + 2) ≤ pen.old.width }
+    requires begun { wrapper.old.begun ≡ true }
+    requires room { wrapper.old.column + 1 + (length text.now + 2) ≤ wrapper.old.width }
     ensures text { OnOk result ((commands : Bool)
-        → HasPut pen.old pen.new out.old.items out.new.items (comment_tokens commands text.now)) }
+        → HasPut wrapper.old wrapper.new out.old.items out.new.items
+        (comment_tokens commands text.now)) }
     ensures kept { (some : List ℕ) × (out.new.items ≡ out.old.items ++ some) }
-    ensures width { pen.new.width ≡ pen.old.width }
+    ensures width { wrapper.new.width ≡ wrapper.old.width }
 {
-    pen.start(out, text.len() + 2)?;
+    wrapper.start(out, text.len() + 2)?;
     out.push(b'{')?;
     out.extend_from_slice(text)?;
     out.push(b'}')?;
@@ -267,18 +272,19 @@ fn put_spaced(pen: &mut Pen, out: &mut Vec<u8>, text: &[u8]) -> Result<(), Alloc
 }
 
 /// Writes a comment in braces, word by word.
-fn put_words(pen: &mut Pen, out: &mut Vec<u8>, text: &[u8]) -> Result<(), AllocError>
+fn put_words(wrapper: &mut LineWrapper, out: &mut Vec<u8>, text: &[u8]) -> Result<(), AllocError>
     ensures text { OnOk result
-        (HasPut pen.old pen.new out.old.items out.new.items (comment_tokens false text.now)) }
+        (HasPut wrapper.old wrapper.new out.old.items out.new.items
+        (comment_tokens false text.now)) }
     ensures kept { (some : List ℕ) × (out.new.items ≡ out.old.items ++ some) }
-    ensures width { pen.new.width ≡ pen.old.width }
+    ensures width { wrapper.new.width ≡ wrapper.old.width }
 {
     let Some(first) = first_word(text) else {
-        return pen.put(out, b"{}");
+        return wrapper.put(out, b"{}");
     };
     let next = first_word(first.rest);
-    put_word(pen, out, b"{", first, next.is_none())?;
-    put_later(pen, out, next)
+    put_word(wrapper, out, b"{", first, next.is_none())?;
+    put_later(wrapper, out, next)
 }
 
 /// Whether the text begins with that of a command.
@@ -362,7 +368,7 @@ fn push_tied<'a>(
 /// one token; and answers the word after
 /// them.
 fn put_tied<'a>(
-    pen: &mut Pen,
+    wrapper: &mut LineWrapper,
     out: &mut Vec<u8>,
     front: &[u8],
     found: Found<'a>,
@@ -370,78 +376,80 @@ fn put_tied<'a>(
 ) -> Result<Option<Found<'a>>, AllocError>
     requires { found.bare ≡ true → IsBare found.word.now }
     ensures text { IfOk result (λ next.
-        PutsTied pen.old pen.new out.old.items out.new.items inside (front.now
+        PutsTied wrapper.old wrapper.new out.old.items out.new.items inside (front.now
         ++ unbraced found.entry.word.now) (words_in found.entry.rest.now) (found_words next)) }
     ensures shorter { IfOk result (λ next. found_size next ≤ length found.entry.rest.now) }
     ensures bare { IfOk result IsFoundBare }
     ensures kept { (some : List ℕ) × (out.new.items ≡ out.old.items ++ some) }
-    ensures width { pen.new.width ≡ pen.old.width }
+    ensures width { wrapper.new.width ≡ wrapper.old.width }
 {
     let from = out.len();
     let next = first_word(found.rest);
     push_word(out, front, found, next.is_none())?;
     let after = push_tied(out, inside, next)?;
-    pen.part(out, from)?;
+    wrapper.part(out, from)?;
     Ok(after)
 }
 
 /// Writes the words after the first one, with each command as one token.
 fn put_later_whole(
-    pen: &mut Pen,
+    wrapper: &mut LineWrapper,
     out: &mut Vec<u8>,
     first: Option<Found<'_>>,
 ) -> Result<(), AllocError>
     requires { IsFoundBare first }
     ensures text { OnOk result
-        (HasPut pen.old pen.new out.old.items out.new.items
+        (HasPut wrapper.old wrapper.new out.old.items out.new.items
         (tied_words false (found_words first.entry))) }
     ensures kept { (some : List ℕ) × (out.new.items ≡ out.old.items ++ some) }
-    ensures width { pen.new.width ≡ pen.old.width }
+    ensures width { wrapper.new.width ≡ wrapper.old.width }
 {
     let mut next = first;
     while let Some(found) = next {
         let inside = is_in_command(false, &found);
         let (front, word) = guarded(found.word);
-        next = put_tied(pen, out, front, Found { word, ..found }, inside)?;
+        next = put_tied(wrapper, out, front, Found { word, ..found }, inside)?;
     }
     Ok(())
 }
 
 /// Writes a comment in braces, word by word, with each command as one token.
 #[inline(never)]
-fn put_whole(pen: &mut Pen, out: &mut Vec<u8>, text: &[u8]) -> Result<(), AllocError>
+fn put_whole(wrapper: &mut LineWrapper, out: &mut Vec<u8>, text: &[u8]) -> Result<(), AllocError>
     ensures text { OnOk result
-        (HasPut pen.old pen.new out.old.items out.new.items (comment_tokens true text.now)) }
+        (HasPut wrapper.old wrapper.new out.old.items out.new.items
+        (comment_tokens true text.now)) }
     ensures kept { (some : List ℕ) × (out.new.items ≡ out.old.items ++ some) }
-    ensures width { pen.new.width ≡ pen.old.width }
+    ensures width { wrapper.new.width ≡ wrapper.old.width }
 {
     let Some(first) = first_word(text) else {
-        return pen.put(out, b"{}");
+        return wrapper.put(out, b"{}");
     };
     let inside = is_in_command(false, &first);
-    let next = put_tied(pen, out, b"{", first, inside)?;
-    put_later_whole(pen, out, next)
+    let next = put_tied(wrapper, out, b"{", first, inside)?;
+    put_later_whole(wrapper, out, next)
 }
 
 /// Writes a comment in braces: each of its words is a token, or each command with its words, where
 /// commands are kept whole. Where it stands
 /// in one line as it is, it is written at once.
 pub(crate) fn put_comment(
-    pen: &mut Pen,
+    wrapper: &mut LineWrapper,
     out: &mut Vec<u8>,
     text: &[u8],
     commands: bool,
 ) -> Result<(), AllocError>
     ensures text { OnOk result
-        (HasPut pen.old pen.new out.old.items out.new.items (comment_tokens commands text.now)) }
+        (HasPut wrapper.old wrapper.new out.old.items out.new.items
+        (comment_tokens commands text.now)) }
     ensures kept { (some : List ℕ) × (out.new.items ≡ out.old.items ++ some) }
-    ensures width { pen.new.width ≡ pen.old.width }
+    ensures width { wrapper.new.width ≡ wrapper.old.width }
 {
-    if pen.takes(text.len() + 2) && is_spaced(text) {
-        return put_spaced(pen, out, text);
+    if wrapper.takes(text.len() + 2) && is_spaced(text) {
+        return put_spaced(wrapper, out, text);
     }
     if commands {
-        return put_whole(pen, out, text);
+        return put_whole(wrapper, out, text);
     }
-    put_words(pen, out, text)
+    put_words(wrapper, out, text)
 }

@@ -97,7 +97,8 @@ fn push_squares(out: &mut Vec<u8>, m: Move) -> Result<(), AllocError>
 /// fault of its ply.
 fn push_san<'a>(out: &mut Vec<u8>, walk: &mut MainWalk, word: &'a [u8]) -> Result<(), GameFault<'a>>
     requires { walk.old.plies < usize.MAX }
-    ensures text { OnOk result (PutsMove San walk.old walk.new word.now out.old.items out.new.items) }
+    ensures text { OnOk result
+        (PutsMove San walk.old walk.new word.now out.old.items out.new.items) }
     ensures fault { IfErr result (λ fault.
         IfSome (fault_of fault) (IsRefusedWord walk.old.position walk.old.plies word.now)) }
     ensures within { (walk.new.plies ≤ walk.old.plies + 1) × (walk.new.depth ≡ walk.old.depth) }
@@ -114,7 +115,8 @@ fn push_san<'a>(out: &mut Vec<u8>, walk: &mut MainWalk, word: &'a [u8]) -> Resul
 /// of its ply.
 fn push_uci<'a>(out: &mut Vec<u8>, walk: &mut MainWalk, word: &'a [u8]) -> Result<(), GameFault<'a>>
     requires { walk.old.plies < usize.MAX }
-    ensures text { OnOk result (PutsMove Uci walk.old walk.new word.now out.old.items out.new.items) }
+    ensures text { OnOk result
+        (PutsMove Uci walk.old walk.new word.now out.old.items out.new.items) }
     ensures fault { IfErr result (λ fault.
         IfSome (fault_of fault) (IsRefusedWord walk.old.position walk.old.plies word.now)) }
     ensures within { (walk.new.plies ≤ walk.old.plies + 1) × (walk.new.depth ≡ walk.old.depth) }
@@ -135,7 +137,8 @@ fn push_move<'a>(
     notation: Notation,
 ) -> Result<(), GameFault<'a>>
     requires { walk.old.plies < usize.MAX }
-    ensures text { OnOk result (PutsMove notation walk.old walk.new word.now out.old.items out.new.items) }
+    ensures text { OnOk result
+        (PutsMove notation walk.old walk.new word.now out.old.items out.new.items) }
     ensures fault { IfErr result (λ fault.
         IfSome (fault_of fault) (IsRefusedWord walk.old.position walk.old.plies word.now)) }
     ensures within { (walk.new.plies ≤ walk.old.plies + 1) × (walk.new.depth ≡ walk.old.depth) }
@@ -157,7 +160,8 @@ fn push_element<'a>(
     requires room { (walk.old.plies < usize.MAX) × (walk.old.depth < usize.MAX) }
     ensures within { (walk.new.plies ≤ walk.old.plies + 1) × (walk.new.depth ≤ walk.old.depth + 1) }
     ensures text { OnOk result
-        (PutsElement notation walk.old walk.new (item_of element.entry) out.old.items out.new.items) }
+        (PutsElement notation walk.old walk.new (item_of element.entry) out.old.items
+        out.new.items) }
     ensures stuck { IfErr result (IsStuck walk.old (item_of element.entry)) }
     ensures kept { (some : List ℕ) × (out.new.items ≡ out.old.items ++ some) }
 {

@@ -9,11 +9,11 @@ ghost use Rattle.pgn_game.specs.Public.Replays.{fault_of};
 ghost use Rattle.pgn_game.specs.Public.TextLines.{IsLaid};
 
 use crate::exports::comment::put_comment;
-use crate::exports::pen::Pen;
+use crate::exports::line_wrapper::LineWrapper;
 use crate::exports::style::Style;
 use crate::exports::tokens::{play_turn_san, put_glyph, put_number};
 use crate::replays::line_stack::LineStack;
-use crate::replays::walk::{Level, Visitor, walk};
+use crate::replays::walk::{Level, StepVisitor, walk};
 use crate::turns::fault::GameFault;
 use crate::turns::line_move::LineMove;
 use crate::turns::replayed::GamePosition;
@@ -29,7 +29,7 @@ use std::mem;
 #[derive(Drop)]
 struct MovetextWriter {
     out: Vec<u8>,
-    pen: Pen,
+    wrapper: LineWrapper,
     apart: bool,
     style: Style,
 }
@@ -41,9 +41,9 @@ impl MovetextWriter {
             ++ text.now ∷ []) false) }
         ensures kept { (some : List ℕ) × (self.new.out.items ≡ self.old.out.items ++ some) }
     {
-        put_number(&mut self.pen, &mut self.out, side, number, self.apart)?;
+        put_number(&mut self.wrapper, &mut self.out, side, number, self.apart)?;
         self.apart = false;
-        self.pen.put(&mut self.out, text)
+        self.wrapper.put(&mut self.out, text)
     }
 
     /// Writes a parenthesis; the next move stands apart after it.
@@ -52,11 +52,11 @@ impl MovetextWriter {
         ensures kept { (some : List ℕ) × (self.new.out.items ≡ self.old.out.items ++ some) }
     {
         self.apart = true;
-        self.pen.put(&mut self.out, text)
+        self.wrapper.put(&mut self.out, text)
     }
 }
 
-impl Visitor for MovetextWriter {
+impl StepVisitor for MovetextWriter {
     ghost does = { WritesStep };
 
     ghost text = { λ writer. writer.out.items };
@@ -82,14 +82,14 @@ impl Visitor for MovetextWriter {
                 if !self.style.glyphs {
                     return Ok(());
                 }
-                put_glyph(&mut self.pen, &mut self.out, number)
+                put_glyph(&mut self.wrapper, &mut self.out, number)
             }
             Element::Comment(text) => {
                 if !self.style.comments {
                     return Ok(());
                 }
                 self.apart = true;
-                put_comment(&mut self.pen, &mut self.out, text, self.style.commands)
+                put_comment(&mut self.wrapper, &mut self.out, text, self.style.commands)
             }
             Element::Open => self.put_parenthesis(b"("),
             Element::Close => self.put_parenthesis(b")"),
@@ -120,18 +120,18 @@ pub(crate) fn put_movetext<'a>(
     let mut stack = LineStack::new(alloc, Level::first(start));
     let mut writer = MovetextWriter {
         out: mem::replace(out, Vec::new(alloc)),
-        pen: Pen::new(style.width),
+        wrapper: LineWrapper::new(style.width),
         apart: true,
         style: *style,
     };
     let walked = walk(&mut stack, game.elements(), style.variations, &mut writer);
     let MovetextWriter {
         out: text,
-        mut pen,
+        mut wrapper,
         ..
     } = writer;
     *out = text;
     walked?;
-    pen.put(out, game.result())?;
-    Ok(pen.finish(out)?)
+    wrapper.put(out, game.result())?;
+    Ok(wrapper.finish(out)?)
 }

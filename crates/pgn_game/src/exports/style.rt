@@ -7,7 +7,7 @@ pub struct Style {
     pub comments: bool,
     /// Each command of a comment, as `[%clk 0:01:00]`, is one token: no line ends within it.
     pub commands: bool,
-    /// Glyphs are kept.
+    /// NAGs are kept.
     pub glyphs: bool,
     /// Variations are kept, with all that stands in them.
     pub variations: bool,

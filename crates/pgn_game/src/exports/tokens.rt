@@ -1,13 +1,13 @@
-//! Tokens of a movetext: numbers of moves, glyphs and turns.
+//! Tokens of a movetext: numbers of moves, NAGs and turns.
 ghost use Rattle.std.specs.Prelude.{◌≡◌, ◌+◌, ◌++◌, ◌∷◌, ℕ, List, [], decimal, IfSome, MatchResult};
 ghost use Rattle.std.specs.Prelude.{OnOk};
 ghost use Rattle.pgn_game.specs.Public.AllLines.{IsTurn, after_turn};
 ghost use Rattle.pgn_game.specs.Public.Exports.{number_tokens, IsTurnText};
 ghost use Rattle.pgn_game.specs.Public.Faults.{IsRefusedTurn};
-ghost use Rattle.pgn_game.specs.Private.Pens.{HasPut};
+ghost use Rattle.pgn_game.specs.Private.LineWrappers.{HasPut};
 ghost use Rattle.pgn_game.specs.Public.Replays.{fault_of};
 
-use crate::exports::pen::Pen;
+use crate::exports::line_wrapper::LineWrapper;
 use crate::replays::walk::play_turn;
 use crate::turns::fault::GameFault;
 use crate::turns::line_move::LineMove;
@@ -21,13 +21,19 @@ use std::alloc::AllocError;
 
 /// Writes digits with bytes after them, as one token.
 #[inline(always)]
-fn put_digits(pen: &mut Pen, out: &mut Vec<u8>, digits: &[u8], end: &[u8]) -> Result<(), AllocError>
-    ensures text { OnOk result (HasPut pen.old pen.new out.old.items out.new.items ((digits.now ++ end.now)
+fn put_digits(
+    wrapper: &mut LineWrapper,
+    out: &mut Vec<u8>,
+    digits: &[u8],
+    end: &[u8],
+) -> Result<(), AllocError>
+    ensures text { OnOk result
+        (HasPut wrapper.old wrapper.new out.old.items out.new.items ((digits.now ++ end.now)
         ∷ [])) }
     ensures kept { (some : List ℕ) × (out.new.items ≡ out.old.items ++ some) }
-    ensures width { pen.new.width ≡ pen.old.width }
+    ensures width { wrapper.new.width ≡ wrapper.old.width }
 {
-    pen.start(out, digits.len() + end.len())?;
+    wrapper.start(out, digits.len() + end.len())?;
     out.extend_from_slice(digits)?;
     out.extend_from_slice(end)?;
     Ok(())
@@ -35,58 +41,70 @@ fn put_digits(pen: &mut Pen, out: &mut Vec<u8>, digits: &[u8], end: &[u8]) -> Re
 
 /// Writes a number with bytes after it, as one token: most numbers of moves have one digit or two.
 #[inline(always)]
-fn put_count(pen: &mut Pen, out: &mut Vec<u8>, number: u32, end: &[u8]) -> Result<(), AllocError>
+fn put_count(
+    wrapper: &mut LineWrapper,
+    out: &mut Vec<u8>,
+    number: u32,
+    end: &[u8],
+) -> Result<(), AllocError>
     ensures text { OnOk result
-        (HasPut pen.old pen.new out.old.items out.new.items ((decimal number ++ end.now) ∷ [])) }
+        (HasPut wrapper.old wrapper.new out.old.items out.new.items
+        ((decimal number ++ end.now) ∷ [])) }
     ensures kept { (some : List ℕ) × (out.new.items ≡ out.old.items ++ some) }
-    ensures width { pen.new.width ≡ pen.old.width }
+    ensures width { wrapper.new.width ≡ wrapper.old.width }
 {
     if number < 10 {
-        return put_digits(pen, out, &[b'0' + number as u8], end);
+        return put_digits(wrapper, out, &[b'0' + number as u8], end);
     }
     if number < 100 {
         let digits = [b'0' + (number / 10) as u8, b'0' + (number % 10) as u8];
-        return put_digits(pen, out, &digits, end);
+        return put_digits(wrapper, out, &digits, end);
     }
     let mut buffer = Buffer::new();
-    put_digits(pen, out, buffer.format(number).as_bytes(), end)
+    put_digits(wrapper, out, buffer.format(number).as_bytes(), end)
 }
 
 /// Writes the number of a move of the side, if it is to have one: White's always, Black's where it
 /// stands apart from the move before it.
 pub(crate) fn put_number(
-    pen: &mut Pen,
+    wrapper: &mut LineWrapper,
     out: &mut Vec<u8>,
     side: Side,
     number: u32,
     apart: bool,
 ) -> Result<(), AllocError>
     ensures text { OnOk result
-        (HasPut pen.old pen.new out.old.items out.new.items (number_tokens side number apart)) }
+        (HasPut wrapper.old wrapper.new out.old.items out.new.items
+        (number_tokens side number apart)) }
     ensures kept { (some : List ℕ) × (out.new.items ≡ out.old.items ++ some) }
-    ensures width { pen.new.width ≡ pen.old.width }
+    ensures width { wrapper.new.width ≡ wrapper.old.width }
 {
     match side {
-        Side::White => put_count(pen, out, number, b"."),
+        Side::White => put_count(wrapper, out, number, b"."),
         Side::Black => {
             if apart {
-                return put_count(pen, out, number, b"...");
+                return put_count(wrapper, out, number, b"...");
             }
             Ok(())
         }
     }
 }
 
-/// Writes a glyph.
-pub(crate) fn put_glyph(pen: &mut Pen, out: &mut Vec<u8>, number: u8) -> Result<(), AllocError>
-    ensures text { OnOk result (HasPut pen.old pen.new out.old.items out.new.items ((36 ∷ decimal number)
+/// Writes a NAG.
+pub(crate) fn put_glyph(
+    wrapper: &mut LineWrapper,
+    out: &mut Vec<u8>,
+    number: u8,
+) -> Result<(), AllocError>
+    ensures text { OnOk result
+        (HasPut wrapper.old wrapper.new out.old.items out.new.items ((36 ∷ decimal number)
         ∷ [])) }
     ensures kept { (some : List ℕ) × (out.new.items ≡ out.old.items ++ some) }
-    ensures width { pen.new.width ≡ pen.old.width }
+    ensures width { wrapper.new.width ≡ wrapper.old.width }
 {
     let mut buffer = Buffer::new();
     let digits = buffer.format(number).as_bytes();
-    pen.start(out, 1 + digits.len())?;
+    wrapper.start(out, 1 + digits.len())?;
     out.push(b'$')?;
     out.extend_from_slice(digits)?;
     Ok(())

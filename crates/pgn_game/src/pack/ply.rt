@@ -1,8 +1,8 @@
 //! A ply in three bytes.
 ghost use Rattle.std.specs.Prelude.{◌≡◌, ◌<◌, Some, List, ℕ};
 ghost use Rattle.chess.specs.Public.Squares.{index_of};
-ghost use Rattle.chess.specs.Public.Moves.{after, arriving, is_pawn, is_en_passant, taken, HasMove};
-ghost use Rattle.chess.specs.Public.Moves.{IsPseudoLegal};
+ghost use Rattle.chess.specs.Public.Moves.{after, arriving, is_pawn, is_en_passant, capture_square};
+ghost use Rattle.chess.specs.Public.Moves.{HasMove, IsPseudoLegal};
 ghost use Rattle.pgn_game.specs.Public.PlyCodes.{PlyCode, AreMarks, IsCode, code_bytes};
 ghost use Rattle.pgn_game.specs.Public.PlyCodes.{marks_number, castle_number, man_number};
 
@@ -135,9 +135,9 @@ fn is_en_passant(position: &GamePosition, m: &Move) -> bool
 }
 
 /// The square of the man that is taken, if one is.
-fn taken_square(position: &GamePosition, m: &Move) -> Square
+fn capture_square(position: &GamePosition, m: &Move) -> Square
     requires { IsPseudoLegal position.now m.now }
-    ensures { result ≡ taken position.now m.now }
+    ensures { result ≡ capture_square position.now m.now }
 {
     if is_en_passant(position, m) {
         return Square::of_index(8 * (m.from.rank() - 1) + (m.to.file() - 1));
@@ -155,6 +155,6 @@ pub(crate) fn coded_move(position: &GamePosition, m: &Move, marks: Marks) -> [u8
     [
         index(m.from) + 64 * marks.number(),
         index(m.to) + 64 * (man % 4),
-        index(taken_square(position, m)) + 64 * (man / 4),
+        index(capture_square(position, m)) + 64 * (man / 4),
     ]
 }

@@ -122,7 +122,8 @@ fn is_whole(bytes: &[u8]) -> bool
 /// bytes.
 fn hold_whole<R: Read>(ahead: &mut Ahead, input: &mut Tally<R>) -> Result<bool, RecordsError>
     requires sound { input.old.faulted ≡ false }
-    ensures gives { HoldsWhole ahead.old ahead.new (R.remaining input.old.inner) (R.remaining input.new.inner)
+    ensures gives { HoldsWhole ahead.old ahead.new (R.remaining input.old.inner)
+        (R.remaining input.new.inner)
         result }
     ensures fault { IsErrOf result RecordsError.Read ↔ (input.new.faulted ≡ true) }
 {

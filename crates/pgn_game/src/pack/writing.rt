@@ -78,7 +78,8 @@ fn result_number(token: &[u8]) -> u32
 /// more.
 fn body_size(origin: &GameOrigin, game: &RawGame, replayed: &Replayed) -> usize
     ensures { result
-        ≡ min (body_size (name_of origin.now) game.now.tags (length replayed.now.played)) usize.MAX }
+        ≡ min (body_size (name_of origin.now) game.now.tags
+        (length replayed.now.played)) usize.MAX }
 {
     tags_size(game)
         .saturating_add(20)
@@ -97,10 +98,12 @@ fn put_size(
         ≡ out.old.items
         ++ to_be_bytes w32
         (body_size (name_of origin.now) game.now.tags (length replayed.now.played))) }
-    ensures within { OnOk result (body_size (name_of origin.now) game.now.tags (length replayed.now.played)
+    ensures within { OnOk result
+        (body_size (name_of origin.now) game.now.tags (length replayed.now.played)
         ≤ largest_body) }
     ensures large { IsErrOf result PackError.TooLarge
-        ↔ (largest_body < body_size (name_of origin.now) game.now.tags (length replayed.now.played)) }
+        ↔ (largest_body
+        < body_size (name_of origin.now) game.now.tags (length replayed.now.played)) }
     ensures origin { IsErrOf result PackError.NoOrigin → ⊥ }
     ensures kept { (some : List ℕ) × (out.new.items ≡ out.old.items ++ some) }
 {
@@ -129,10 +132,12 @@ fn put_front(
         × (is_origin origin.now.number origin.now.offset (name_of origin.now) ≡ true)) }
     ensures origin { IsErrOf result PackError.NoOrigin
         → is_origin origin.now.number origin.now.offset (name_of origin.now) ≡ false }
-    ensures within { OnOk result (body_size (name_of origin.now) game.now.tags (length replayed.now.played)
+    ensures within { OnOk result
+        (body_size (name_of origin.now) game.now.tags (length replayed.now.played)
         ≤ largest_body) }
     ensures large { IsErrOf result PackError.TooLarge
-        ↔ (largest_body < body_size (name_of origin.now) game.now.tags (length replayed.now.played)) }
+        ↔ (largest_body
+        < body_size (name_of origin.now) game.now.tags (length replayed.now.played)) }
     ensures kept { (some : List ℕ) × (out.new.items ≡ out.old.items ++ some) }
 {
     put_size(origin, game, replayed, out)?;
@@ -257,7 +262,8 @@ fn put_fields(
         × IsPacked (name_of origin.now) origin.now.number origin.now.offset game.now replayed.now
         packed × FitsRecord packed × (out.new.items ≡ out.old.items ++ record_bytes packed)) }
     ensures large { IsErrOf result PackError.TooLarge
-        ↔ (largest_body < body_size (name_of origin.now) game.now.tags (length replayed.now.played)) }
+        ↔ (largest_body
+        < body_size (name_of origin.now) game.now.tags (length replayed.now.played)) }
     ensures origin { IsErrOf result PackError.NoOrigin
         → is_origin origin.now.number origin.now.offset (name_of origin.now) ≡ false }
     ensures kept { (some : List ℕ) × (out.new.items ≡ out.old.items ++ some) }
@@ -287,7 +293,8 @@ pub fn put_record(
         × IsPacked (name_of origin.now) origin.now.number origin.now.offset game.now replayed.now
         packed × FitsRecord packed × (out.new.items ≡ out.old.items ++ record_bytes packed)) }
     ensures large { IsErrOf result PackError.TooLarge
-        ↔ (largest_body < body_size (name_of origin.now) game.now.tags (length replayed.now.played)) }
+        ↔ (largest_body
+        < body_size (name_of origin.now) game.now.tags (length replayed.now.played)) }
     ensures origin { IsErrOf result PackError.NoOrigin
         → is_origin origin.now.number origin.now.offset (name_of origin.now) ≡ false }
     ensures left { OnErr result (out.new.items ≡ out.old.items) }

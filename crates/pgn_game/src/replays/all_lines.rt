@@ -11,7 +11,7 @@ ghost use Rattle.pgn_game.specs.Public.Replays.{fault_of};
 ghost use Rattle.pgn_game.specs.Private.Steps.{Keeps, KeepsStep};
 
 use crate::replays::line_stack::LineStack;
-use crate::replays::walk::{Level, Visitor, play_turn, walk};
+use crate::replays::walk::{Level, StepVisitor, play_turn, walk};
 use crate::turns::fault::GameFault;
 use crate::turns::line_move::LineMove;
 use crate::turns::replayed::{GamePosition, Replayed};
@@ -87,7 +87,7 @@ impl ReplayKeeper {
     }
 }
 
-impl Visitor for ReplayKeeper {
+impl StepVisitor for ReplayKeeper {
     ghost does = { KeepsStep };
 
     ghost text = { λ keeper. [] };

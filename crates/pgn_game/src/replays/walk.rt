@@ -46,7 +46,7 @@ impl Level {
 }
 
 /// What is done at the steps of a walk, in the order of the text.
-pub(crate) trait Visitor {
+pub(crate) trait StepVisitor {
     ghost does: { Self → Step → Self → Type 0 };
 
     /// The bytes that it has written, which only become more.
@@ -75,7 +75,7 @@ pub(crate) trait Visitor {
 }
 
 /// Goes on by a word.
-fn turn<'a, V: Visitor>(
+fn turn<'a, V: StepVisitor>(
     stack: &mut LineStack<Level>,
     word: &'a [u8],
     visitor: &mut V,
@@ -114,7 +114,7 @@ fn open(stack: &mut LineStack<Level>) -> Result<(), AllocError>
 }
 
 /// Goes on by an element that is no move.
-fn beside<V: Visitor>(
+fn beside<V: StepVisitor>(
     stack: &mut LineStack<Level>,
     element: Element<'_>,
     visitor: &mut V,
@@ -123,7 +123,8 @@ fn beside<V: Visitor>(
     ensures does { OnOk result (V.does visitor.old (Beside (item_of element.entry)) visitor.new) }
     ensures walks { OnOk result ((items : List Item) (more : List Step)
         → WalksOn stack.new items more
-        → WalksOn stack.old (item_of element.entry ∷ items) (Beside (item_of element.entry) ∷ more)) }
+        → WalksOn stack.old (item_of element.entry
+        ∷ items) (Beside (item_of element.entry) ∷ more)) }
     ensures sticks { OnOk result ((items : List Item) (fault : Fault)
         → StopsAt stack.new items fault → StopsAt stack.old (item_of element.entry ∷ items) fault) }
     ensures leads { OnOk result ((items : List Item) (inside : Bool) (last : Level)
@@ -141,7 +142,7 @@ fn beside<V: Visitor>(
 }
 
 /// Goes on by an element.
-pub(crate) fn step<'a, V: Visitor>(
+pub(crate) fn step<'a, V: StepVisitor>(
     stack: &mut LineStack<Level>,
     element: Element<'a>,
     visitor: &mut V,
@@ -180,7 +181,8 @@ impl Shown {
         requires room { self.old.depth < usize.MAX }
         ensures shown { (items : List Item)
             → shown_items self.old.variations self.old.depth (item_of element.entry ∷ items)
-            ≡ shown_if result (item_of element.entry) (shown_items self.new.variations self.new.depth items) }
+            ≡ shown_if result (item_of element.entry)
+            (shown_items self.new.variations self.new.depth items) }
         ensures depth { self.new.depth ≤ self.old.depth + 1 }
     {
         if self.variations {
@@ -201,7 +203,7 @@ impl Shown {
 }
 
 /// Goes over the elements: all, or where variations are left out those that stand in none.
-pub(crate) fn walk<'a, V: Visitor>(
+pub(crate) fn walk<'a, V: StepVisitor>(
     stack: &mut LineStack<Level>,
     elements: &[Element<'a>],
     variations: bool,
@@ -259,9 +261,9 @@ pub(crate) fn play_turn<'a>(
 
 /// Keeps nothing.
 #[derive(Drop)]
-pub(crate) struct Discard;
+pub(crate) struct DiscardSteps;
 
-impl Visitor for Discard {
+impl StepVisitor for DiscardSteps {
     ghost does = { λ old step new. new ≡ old };
 
     ghost text = { λ visitor. [] };
@@ -293,5 +295,5 @@ pub(crate) fn check_all_lines<'a>(
         (λ fault. IfSome (fault_of fault) (HaveFault start.now (map item_of elements.now))) }
 {
     let mut stack = LineStack::new(alloc, Level::first(start));
-    walk(&mut stack, elements, true, &mut Discard)
+    walk(&mut stack, elements, true, &mut DiscardSteps)
 }

@@ -33,7 +33,8 @@ impl Model for Replayed {
               replayed.turns.items;
         } };
 
-    ghost invariant = { λ replayed. length replayed.positions.items ≡ length replayed.played.items + 1 };
+    ghost invariant = { λ replayed. length replayed.positions.items
+        ≡ length replayed.played.items + 1 };
 }
 
 impl Replayed {

@@ -3,7 +3,7 @@ use Rattle.std.specs.Prelude.{◌≡◌, ℕ, suc, Bool, true, false, ◌&&◌, 
 use Rattle.std.specs.Prelude.{if◌then◌else◌, List, [], ◌∷◌, ◌++◌, length, take, codes, Option, Some}
 use Rattle.std.specs.Prelude.{None}
 use Rattle.std.specs.List.{list_all}
-use Rattle.pgn_text.specs.Public.Bytes.{is_white, is_digit, is_name_byte, is_check_mark, is_plain}
+use Rattle.pgn_text.specs.Public.Bytes.{is_white, is_digit, is_name_byte, is_check_sign, is_plain}
 use Rattle.pgn_text.specs.Public.Parts.{Part, Standing, Stands, spelled_part, number_of}
 use Rattle.pgn_text.specs.Public.Games.{is_result}
 use Rattle.pgn_text.specs.Private.Steps.{State, step}
@@ -58,7 +58,7 @@ front_length test (c ∷ word) (b ∷ rest) = if b == c then suc (front_length t
 -- the bytes are the front of a move number, or of a move that begins with no letter
 abbrev pub IsMoveFront : List ℕ → Type 0
 IsMoveFront x = (IsFrontOf is_digit [] x ⊎ IsFrontOf no_byte (codes "--") x)
-    ⊎ (IsFrontOf is_check_mark (codes "0-0") x ⊎ IsFrontOf is_check_mark (codes "0-0-0") x)
+    ⊎ (IsFrontOf is_check_sign (codes "0-0") x ⊎ IsFrontOf is_check_sign (codes "0-0-0") x)
 
 -- the bytes are the front of a result
 abbrev pub IsResultFront : List ℕ → Type 0
@@ -70,7 +70,7 @@ IsResultFront x = (IsFrontOf no_byte (codes "1-0") x ⊎ IsFrontOf no_byte (code
 abbrev pub IsWordFront : Bool → List ℕ → Type 0
 IsWordFront closed x = IsMoveFront x ⊎ ((closed ≡ true) × IsResultFront x)
 
--- the bytes are the front of a glyph's digits
+-- the bytes are the front of a NAG's digits
 abbrev pub is_glyph_front : List ℕ → Bool
 is_glyph_front x = list_all is_digit x && (nat_le (length x) 3 && nat_le (number_of x) 255)
 

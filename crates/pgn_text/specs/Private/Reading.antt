@@ -76,12 +76,12 @@ tag_name first text =
 abbrev pub tag_front : List ℕ → Option (Part × List ℕ)
 tag_front text = tag_name (run_of is_white text) (after_run is_white text)
 
--- the digits are those of a glyph: one to three, which write at most 255
+-- the digits are those of a NAG: one to three, which write at most 255
 abbrev pub is_glyph : List ℕ → Bool
 is_glyph digits = not (is_empty digits)
     && (nat_le (length digits) 3 && nat_le (number_of digits) 255)
 
--- the glyph whose dollar sign was taken off
+-- the NAG whose dollar sign was taken off
 abbrev pub glyph_front : List ℕ → Option (Part × List ℕ)
 glyph_front text = if is_glyph (run_of is_digit text)
     then Some (Glyph (run_of is_digit text), after_run is_digit text) else None

@@ -84,7 +84,7 @@ found_of found = (token_of found.0, found.1.now)
 abbrev pub tag_of : List ℕ → Bor (List ℕ) × Bor (List ℕ) × ℕ → Kept × List ℕ
 tag_of block found = (KeptTag found.0.now found.1.now, drop found.2 block)
 
--- what a game keeps of a glyph that was found in a block, by its number and the place after it, and
+-- what a game keeps of a NAG that was found in a block, by its number and the place after it, and
 -- the text after it
 abbrev pub glyph_of : List ℕ → ℕ × ℕ → Kept × List ℕ
 glyph_of block found = (KeptGlyph found.0, drop found.1 block)

@@ -32,9 +32,9 @@ is_word_byte b = is_name_byte b || ((b == 43 || b == 35) || (b == 61 || b == 58)
 abbrev pub is_mark : ℕ → Bool
 is_mark b = b == 33 || b == 63
 
--- a mark of check or mate after a castling word: + or #
-abbrev pub is_check_mark : ℕ → Bool
-is_check_mark b = b == 43 || b == 35
+-- a sign of check or mate after a castling word: + or #
+abbrev pub is_check_sign : ℕ → Bool
+is_check_sign b = b == 43 || b == 35
 
 -- a byte that may stand in a string: a tab, or anything from the space on but the delete byte
 abbrev pub is_plain : ℕ → Bool

@@ -3,7 +3,7 @@ use Rattle.std.specs.Prelude.{◌≡◌, ℕ, Bool, true, false, not, ◌&&◌, 
 use Rattle.std.specs.Prelude.{if◌then◌else◌, List, [], ◌∷◌, ◌++◌, flat_map, drop, count_by}
 use Rattle.std.specs.Prelude.{bytes_eq, codes, nat_eq, Option, Some, None, IsTrue}
 use Rattle.std.specs.List.{list_all, starts_with}
-use Rattle.pgn_text.specs.Public.Bytes.{is_digit, is_letter, is_check_mark, is_empty, begins}
+use Rattle.pgn_text.specs.Public.Bytes.{is_digit, is_letter, is_check_sign, is_empty, begins}
 use Rattle.pgn_text.specs.Public.Parts.{Part, ByteOrderMark, White, Brace, Line, EscapeLine, Tag}
 use Rattle.pgn_text.specs.Public.Parts.{Word, Star, Dot, Glyph, Marks, Open, Close, spelled_part}
 use Rattle.pgn_text.specs.Public.Parts.{number_of, AllStand}
@@ -20,8 +20,8 @@ is_result_word word = bytes_eq word (codes "1-0") || bytes_eq word (codes "0-1")
 -- castling written with zeros, and then any number of + and #
 abbrev pub is_zero_castling : List ℕ → Bool
 is_zero_castling word =
-    (starts_with nat_eq word (codes "0-0-0") && list_all is_check_mark (drop 5 word))
-    || (starts_with nat_eq word (codes "0-0") && list_all is_check_mark (drop 3 word))
+    (starts_with nat_eq word (codes "0-0-0") && list_all is_check_sign (drop 5 word))
+    || (starts_with nat_eq word (codes "0-0") && list_all is_check_sign (drop 3 word))
 
 -- a word that is read as a move: it begins with a letter, or is castling with zeros, or two dashes
 abbrev pub is_move_text : List ℕ → Bool
@@ -133,7 +133,7 @@ pub record IsGame (max_depth : ℕ) (file_start : Bool) (before : List ℕ) (par
 pub data Item : Type 0 where
   -- a move, as its word stands
   MoveText : List ℕ → Item
-  -- a glyph's number
+  -- a NAG's number
   GlyphNumber : ℕ → Item
   -- a comment's bytes, without what marks it as a comment
   CommentText : List ℕ → Item
@@ -141,16 +141,16 @@ pub data Item : Type 0 where
   VariationOpen : Item
   VariationClose : Item
 
--- the glyph of a single mark: 1 for !, 2 for ? (PGN 10)
+-- the NAG of a single mark: 1 for !, 2 for ? (PGN 10)
 abbrev pub single_mark : ℕ → ℕ
 single_mark mark = if mark == 33 then 1 else 2
 
--- the glyph of two marks: 3 for !!, 4 for ??, 5 for !?, 6 for ?! (PGN 10)
+-- the NAG of two marks: 3 for !!, 4 for ??, 5 for !?, 6 for ?! (PGN 10)
 abbrev pub double_mark : ℕ → ℕ → ℕ
 double_mark first second =
     if first == 33 then (if second == 33 then 3 else 5) else (if second == 33 then 6 else 4)
 
--- the glyphs of a run of marks, which is cut into pairs from the left; a last one alone is a single
+-- the NAGs of a run of marks, which is cut into pairs from the left; a last one alone is a single
 -- mark
 abbrev pub glyphs_of_marks : List ℕ → List Item
 glyphs_of_marks [] = []

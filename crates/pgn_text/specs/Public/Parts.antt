@@ -29,7 +29,7 @@ pub data Part : Type 0 where
   Star : Part
   -- a period (PGN 8.2.2)
   Dot : Part
-  -- a numeric annotation glyph: a dollar sign and digits (PGN 8.2.4)
+  -- a numeric annotation glyph (NAG): a dollar sign and digits (PGN 8.2.4)
   Glyph : List ℕ → Part
   -- a run of exclamation and question marks after a move (PGN 8.2.3.8)
   Marks : List ℕ → Part
@@ -115,7 +115,7 @@ Stands place (Word text) after =
     × IsTrue (stops is_word_byte after)
 Stands place Star after = Unit {0}
 Stands place Dot after = Unit {0}
--- a glyph has one to three digits, which write at most 255, and no digit follows
+-- a NAG has one to three digits, which write at most 255, and no digit follows
 Stands place (Glyph digits) after =
     IsTrue (not (is_empty digits)) × IsTrue (list_all is_digit digits)
     × IsTrue (nat_le (length digits) 3)

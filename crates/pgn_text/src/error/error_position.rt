@@ -2,7 +2,7 @@
 
 ghost use Rattle.std.specs.Prelude.{◌≡◌, ◌+◌, ◌<◌, ◌≤◌, ◌↔◌, length, take, drop, true, IsTrue};
 ghost use Rattle.pgn_text.specs.Private.ErrorPosition.{FrontWithin, IsReached};
-ghost use Rattle.pgn_text.specs.Public.Bytes.{is_check_mark};
+ghost use Rattle.pgn_text.specs.Public.Bytes.{is_check_sign};
 ghost use Rattle.pgn_text.specs.Public.Limits.{depth_limit};
 ghost use Rattle.pgn_text.specs.Private.PartFronts.{Longest, IsPartFront, IsTagFront, IsWordFront};
 ghost use Rattle.pgn_text.specs.Private.PartFronts.{NoneFollows, front_length, is_glyph_front};
@@ -30,9 +30,9 @@ fn common(text: &[u8], word: &[u8]) -> usize
     count
 }
 
-/// How many of the text's first bytes are a front of the castling word and of check marks after it.
+/// How many of the text's first bytes are a front of the castling word and of check signs after it.
 fn castling_stop(text: &[u8], word: &[u8]) -> usize
-    ensures { result ≡ front_length is_check_mark word.now text.now }
+    ensures { result ≡ front_length is_check_sign word.now text.now }
 {
     let mut count = common(text, word);
     if count < word.len() {
@@ -116,7 +116,7 @@ fn tag_stop(text: &[u8]) -> usize
     at
 }
 
-/// How many of the text's first bytes a glyph may have after its dollar sign.
+/// How many of the text's first bytes a NAG may have after its dollar sign.
 fn glyph_stop(text: &[u8]) -> usize
     ensures { Longest (λ front. is_glyph_front front ≡ true) text.now result }
 {
@@ -136,7 +136,8 @@ fn glyph_stop(text: &[u8]) -> usize
 /// no whole part does.
 fn part_stop(block: &[u8], at: usize, file_start: bool, progress: Progress) -> usize
     requires place { at ≤ length block.now }
-    requires stuck { NoneFollows depth_limit (standing_of file_start (take at block.now)) (state_of progress)
+    requires stuck { NoneFollows depth_limit (standing_of file_start (take at block.now))
+        (state_of progress)
         (drop at block.now) }
     ensures { Longest
         (IsPartFront depth_limit (standing_of file_start (take at block.now)) (state_of progress))

@@ -41,14 +41,14 @@ fn keep_first<'a>(
     Ok(())
 }
 
-/// The glyph of one mark.
+/// The NAG of one mark.
 fn single_mark(mark: u8) -> u8
     ensures { result ≡ glyph_of_mark mark }
 {
     if mark == b'!' { 1 } else { 2 }
 }
 
-/// The glyph of two marks.
+/// The NAG of two marks.
 fn double_mark(first: u8, second: u8) -> u8
     ensures { result ≡ glyph_of_two first second }
 {
@@ -60,7 +60,7 @@ fn double_mark(first: u8, second: u8) -> u8
     }
 }
 
-/// Adds the glyphs of a run of marks, which is cut into pairs from the left.
+/// Adds the NAGs of a run of marks, which is cut into pairs from the left.
 fn push_marks<'a>(elements: &mut Vec<Element<'a>>, marks: &[u8]) -> Result<(), AllocError>
     ensures { OnOk result (map item_of elements.new.items
         ≡ map item_of elements.old.items ++ glyphs_of_marks marks.now) }
@@ -147,7 +147,8 @@ impl<'a> GameBuilder<'a> {
         requires { at ≤ length block.now }
         ensures tags { self.new.tags ≡ self.old.tags }
         ensures elements { IfOk result (λ end. (moves : List Item) × PlainTo block.now at moves end
-            × (map item_of self.new.elements.items ≡ map item_of self.old.elements.items ++ moves)) }
+            × (map item_of self.new.elements.items
+            ≡ map item_of self.old.elements.items ++ moves)) }
     {
         push_plain(&mut self.elements, block, at)
     }

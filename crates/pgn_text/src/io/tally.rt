@@ -107,7 +107,8 @@ impl<R: Read> Tally<R> {
 impl<R: Skip> Tally<R> {
     /// One skip of the reader, with its answer; the bytes that it passed over count as moved.
     pub fn skip(&mut self, most: u64) -> io::Result<u64>
-        ensures bytes { ConsumesCount (R.remaining self.old.inner) (R.remaining self.new.inner) result }
+        ensures bytes { ConsumesCount (R.remaining self.old.inner)
+            (R.remaining self.new.inner) result }
         ensures bound { IfOk result (λ count. count ≤ most) }
         ensures faulted { self.new.faulted ≡ (self.old.faulted || is_err result) }
         ensures moved { self.new.moved ≡ moved_by self.old.moved result }

@@ -155,7 +155,7 @@ fn glyph_number(digits: &[u8]) -> Option<u8>
     u8::try_from(number).ok()
 }
 
-/// The glyph whose dollar sign stands before the place of the block: its number, and the place
+/// The NAG whose dollar sign stands before the place of the block: its number, and the place
 /// after it.
 #[inline(always)]
 pub(crate) fn glyph_at(block: &[u8], begin: usize) -> Option<(u8, usize)>
@@ -171,7 +171,7 @@ pub(crate) fn glyph_at(block: &[u8], begin: usize) -> Option<(u8, usize)>
     Some((number, end))
 }
 
-/// The glyph whose dollar sign stands before the text.
+/// The NAG whose dollar sign stands before the text.
 #[inline(always)]
 fn glyph(text: &[u8]) -> Option<Found<'_>>
     ensures { option_map found_of result ≡ option_map kept_found (glyph_front text.now) }

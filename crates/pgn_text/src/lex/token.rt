@@ -2,7 +2,7 @@
 
 ghost use Rattle.std.specs.Prelude.{◌≡◌};
 ghost use Rattle.std.specs.List.{list_all};
-ghost use Rattle.pgn_text.specs.Public.Bytes.{begins, is_check_mark, is_digit, is_letter};
+ghost use Rattle.pgn_text.specs.Public.Bytes.{begins, is_check_sign, is_digit, is_letter};
 ghost use Rattle.pgn_text.specs.Public.Games.{is_zero_castling as is_zero_castling_word};
 ghost use Rattle.pgn_text.specs.Public.Games.{is_move_text as is_move_word};
 ghost use Rattle.pgn_text.specs.Public.Games.{is_number as is_number_word};
@@ -31,7 +31,7 @@ pub(crate) enum Token<'a> {
     Stray,
     /// A period.
     Dot,
-    /// A numeric annotation glyph.
+    /// A numeric annotation glyph (NAG).
     Glyph(u8),
     /// A run of `!` and `?`.
     Marks(&'a [u8]),
@@ -51,9 +51,9 @@ impl<'a> Token<'a> {
     }
 }
 
-/// Whether all bytes are marks of check or mate.
-fn are_check_marks(text: &[u8]) -> bool
-    ensures { result ≡ list_all is_check_mark text.now }
+/// Whether all bytes are signs of check or mate.
+fn are_check_signs(text: &[u8]) -> bool
+    ensures { result ≡ list_all is_check_sign text.now }
 {
     text.iter().all(|byte| matches!(*byte, b'+' | b'#'))
 }
@@ -62,8 +62,8 @@ fn are_check_marks(text: &[u8]) -> bool
 fn is_zero_castling(word: &[u8]) -> bool
     ensures { result ≡ is_zero_castling_word word.now }
 {
-    (word.starts_with(b"0-0-0") && are_check_marks(&word[5..]))
-        || (word.starts_with(b"0-0") && are_check_marks(&word[3..]))
+    (word.starts_with(b"0-0-0") && are_check_signs(&word[5..]))
+        || (word.starts_with(b"0-0") && are_check_signs(&word[3..]))
 }
 
 /// Whether the word begins with a letter.

@@ -1,18 +1,21 @@
-//! The squares between two squares, as words. They are made of the lines through both squares; that
-//! each word has just the squares between is
+//! The squares between two squares, as bitboards. They are made of the lines through both squares;
+//! that each bitboard has just the squares between is
 //! proved by computing all of them.
 
 // Of two squares, each with its number and its lines: the squares that lines of both have, and that
 // stand between them in order.
-macro_rules! word {
-    (($a:literal $f:literal $r:literal $d:literal $u:literal), ($b:literal $g:literal $s:literal $e:literal $v:literal)) => {
+macro_rules! bitboard {
+    (
+        ($a:literal $f:literal $r:literal $d:literal $u:literal),
+        ($b:literal $g:literal $s:literal $e:literal $v:literal)
+    ) => {
         (($f & $g) | ($r & $s) | ($d & $e) | ($u & $v)) & ((u64::MAX << $a) ^ (u64::MAX << $b))
     };
 }
 
-// The words of one square with each of the squares.
+// The bitboards of one square with each of the squares.
 macro_rules! row {
-    ($here:tt; [$($there:tt)*]) => { [$(word!($here, $there)),*] };
+    ($here:tt; [$($there:tt)*]) => { [$(bitboard!($here, $there)),*] };
 }
 
 // The rows of the squares with each of the squares.

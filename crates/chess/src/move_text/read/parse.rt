@@ -3,7 +3,7 @@ ghost use Rattle.std.specs.Prelude.{◌≡◌, ◌↔◌, ◌⊎◌, reverse, So
 ghost use Rattle.std.specs.Prelude.{IsTrue};
 ghost use Rattle.chess.specs.Public.San.{IsCastlingText};
 ghost use Rattle.chess.specs.Private.SanWords.{IsReadSaid, SaysPlainly, SaysPawnTakes};
-ghost use Rattle.chess.specs.Private.SanWords.{IsBeforeMarks, IsWholeLetter, IsCastlingStem};
+ghost use Rattle.chess.specs.Private.SanWords.{IsBeforeCheckSigns, IsWholeLetter, IsCastlingStem};
 ghost use Rattle.chess.specs.Private.SanWords.{kind_given, number_given, kind_of, is_of, last_of};
 ghost use Rattle.chess.specs.Private.SanWords.{before_last, unmarked, before_equals, stem};
 ghost use Rattle.chess.specs.Private.SanWords.{after_target_rank, after_sign, after_rank};
@@ -78,7 +78,7 @@ fn take_last(class: ByteClass, text: &[u8]) -> (Option<u8>, &[u8])
     (None, text)
 }
 
-/// The text without the marks of check and mate at its end.
+/// The text without the signs of check and mate at its end.
 #[inline(always)]
 fn unmarked(text: &[u8]) -> &[u8]
     ensures { reverse result.now ≡ unmarked (reverse text.now) }
@@ -107,7 +107,8 @@ fn before_equals(promotion: Option<u8>, text: &[u8]) -> &[u8]
 #[inline(always)]
 fn split_parts(text: &[u8]) -> Option<Parts<'_>>
     ensures target { MatchOption result
-        ((last_of Digit (stem (reverse text.now)) ≡ None) ⊎ (last_of FileLetter (after_target_rank (reverse text.now)) ≡ None))
+        ((last_of Digit (stem (reverse text.now)) ≡ None)
+        ⊎ (last_of FileLetter (after_target_rank (reverse text.now)) ≡ None))
         (λ parts. (last_of Digit (stem (reverse text.now)) ≡ Some parts.target_rank)
         × (last_of FileLetter (after_target_rank (reverse text.now)) ≡ Some parts.target_file)) }
     ensures promotion { IfSome result (λ parts. parts.promotion
@@ -211,10 +212,10 @@ pub(crate) fn pawn_takes(from: u8, file: u8, rank: u8) -> Option<ParsedSan>
     })
 }
 
-/// The text before one mark of check or mate, where it ends in one.
+/// The text before one sign of check or mate, where it ends in one.
 #[inline(always)]
-pub(crate) fn before_mark(text: &[u8]) -> &[u8]
-    ensures { IsBeforeMarks text.now result.now }
+pub(crate) fn before_check_sign(text: &[u8]) -> &[u8]
+    ensures { IsBeforeCheckSigns text.now result.now }
 {
     match text {
         [before @ .., b'+'] | [before @ .., b'#'] => before,
@@ -229,7 +230,7 @@ pub(crate) fn before_mark(text: &[u8]) -> &[u8]
 pub(crate) fn read_frequent(text: &[u8]) -> Option<ParsedSan>
     ensures { MatchOption result (Unit {0}) (λ said. IsReadSaid text.now (Some said)) }
 {
-    match before_mark(text) {
+    match before_check_sign(text) {
         [file, rank] => plainly_said(None, *file, *rank),
         [letter, file, rank] => plainly_said(Some(*letter), *file, *rank),
         [from, sign, file, rank] if *sign == b'x' => {

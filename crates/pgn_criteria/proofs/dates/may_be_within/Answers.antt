@@ -30,7 +30,12 @@ returns c =
     let day = c.in-Some-least_of.ensures in
     let good = c.requires in (
       (λ t. (
-        record { year = c.args.days.year; month = c.in-Some.field-0; day = c.in-Some-least_of.field-0 },
+        record {
+          year = c.args.days.year;
+          month = c.in-Some.field-0;
+          day =
+              c.in-Some-least_of.field-0;
+        },
         (
           year,
           refl,

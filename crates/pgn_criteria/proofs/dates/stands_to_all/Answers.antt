@@ -32,7 +32,11 @@ returns-in-Less c =
 
 pub returns-in-LessOrEqual : goal.returns-in-LessOrEqual
 returns-in-LessOrEqual c =
-    let reports = rw (c.number_of-in-LessOrEqual.ensures, c.day_number-to.ensures) at c.compares-in-LessOrEqual.ensures in
+    let reports =
+    rw (
+      c.number_of-in-LessOrEqual.ensures,
+      c.day_number-to.ensures,
+    ) at c.compares-in-LessOrEqual.ensures in
     subst (λ k. IsTrue c.compares-in-LessOrEqual.result
     ↔ StandSurely k (date_text c.args.written) c.args.days) (sym c.in-LessOrEqual.is)
     (along reports (surely_no_more (date_text c.args.written) c.args.first c.args.last c.args.days
@@ -40,7 +44,11 @@ returns-in-LessOrEqual c =
 
 pub returns-in-Greater : goal.returns-in-Greater
 returns-in-Greater c =
-    let reports = rw (c.number_of-in-Greater.ensures, c.day_number-to.ensures) at c.compares-in-Greater.ensures in
+    let reports =
+    rw (
+      c.number_of-in-Greater.ensures,
+      c.day_number-to.ensures,
+    ) at c.compares-in-Greater.ensures in
     subst (λ k. IsTrue c.compares-in-Greater.result
     ↔ StandSurely k (date_text c.args.written) c.args.days) (sym c.in-Greater.is)
     (along reports (surely_more (date_text c.args.written) c.args.first c.args.last c.args.days
@@ -48,7 +56,11 @@ returns-in-Greater c =
 
 pub returns-in-GreaterOrEqual : goal.returns-in-GreaterOrEqual
 returns-in-GreaterOrEqual c =
-    let reports = rw (c.number_of-in-GreaterOrEqual.ensures, c.day_number-from.ensures) at c.compares-in-GreaterOrEqual.ensures in
+    let reports =
+    rw (
+      c.number_of-in-GreaterOrEqual.ensures,
+      c.day_number-from.ensures,
+    ) at c.compares-in-GreaterOrEqual.ensures in
     subst (λ k. IsTrue c.compares-in-GreaterOrEqual.result
     ↔ StandSurely k (date_text c.args.written) c.args.days) (sym c.in-GreaterOrEqual.is)
     (along reports (surely_no_less (date_text c.args.written) c.args.first c.args.last c.args.days

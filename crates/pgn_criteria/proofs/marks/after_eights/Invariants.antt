@@ -3,7 +3,7 @@ use Rattle.std.specs.List.{AllByRecursion}
 use Rattle.chess.specs.declared.board.man.Side.{Side}
 use Rattle.pgn_game.specs.Public.PlyCodes.{PlyCode}
 use Rattle.pgn_criteria.specs.Public.ByMarks.{NoneMeets, IsNextMet}
-use Rattle.pgn_criteria.specs.Public.Sieves.{codes_in}
+use Rattle.pgn_criteria.specs.Public.Prefilters.{codes_in}
 use Rattle.pgn_criteria.specs.Private.Marks.{LacksMarks, Needs}
 use Rattle.pgn_criteria.proofs.marks.after_eights.Given as goal
 

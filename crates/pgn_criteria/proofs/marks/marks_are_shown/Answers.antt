@@ -1,6 +1,6 @@
 use Rattle.std.proofs.Common.{map}
 use Rattle.pgn_criteria.specs.Private.Stages.{seen}
-use Rattle.pgn_criteria.specs.Public.Sieves.{codes_in}
+use Rattle.pgn_criteria.specs.Public.Prefilters.{codes_in}
 use Rattle.pgn_criteria.proofs.MarkFacts.{shown_nowhere}
 use Rattle.pgn_criteria.proofs.marks.marks_are_shown.Goals as goal
 

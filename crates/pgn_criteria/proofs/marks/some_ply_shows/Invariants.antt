@@ -1,6 +1,6 @@
 use Rattle.std.proofs.Common.{length}
 use Rattle.std.specs.List.{AllByRecursion}
-use Rattle.pgn_criteria.specs.Public.Sieves.{codes_in}
+use Rattle.pgn_criteria.specs.Public.Prefilters.{codes_in}
 use Rattle.pgn_criteria.specs.Private.Marks.{LacksMarks}
 use Rattle.pgn_criteria.proofs.marks.some_ply_shows.Given as goal
 

@@ -22,8 +22,8 @@ returns-else-is_like t c =
     (first_and_rest c.args.word.now c.in-len1-up-word.len_at_least
     ∙ ap (λ b. b ∷ take (length c.args.word.now - 1) (drop 1 c.args.word.now))
     c.if-first-eq42.true)
-    (first_and_rest c.args.text.now c.in-len1-up.len_at_least) (sym c.is_check_mark.ensures
-    ∙ c.if-is_check_mark.false) c.if-is_like.false
+    (first_and_rest c.args.text.now c.in-len1-up.len_at_least) (sym c.is_check_sign.ensures
+    ∙ c.if-is_check_sign.false) c.if-is_like.false
     c.is_like-then-first-eq42.ensures c.is_like-else-is_like.ensures
 
 pub returns-in_default : goal.returns-in_default

@@ -1,5 +1,5 @@
 use Rattle.std.proofs.Common.{◌↔◌, ◌∙◌, IsTrue, subst}
-use Rattle.pgn_criteria.specs.Public.MoveTexts.{without_marks, IsLike}
+use Rattle.pgn_criteria.specs.Public.MoveTexts.{without_check_signs, IsLike}
 use Rattle.pgn_criteria.proofs.MoveFacts.{by_like}
 use Rattle.pgn_criteria.proofs.EndFacts.{not_gone_on}
 use Rattle.pgn_criteria.proofs.moves.goes_on_by.Goals as goal
@@ -17,5 +17,5 @@ returns c =
     c.position-position.result.now c.played-played.result c.is_like.result c.one_text.ensures
     c.position-position.ensures c.played-played.ensures c.san.ensures.text
     (subst (λ x. IsTrue c.is_like.result
-    ↔ IsLike c.args.word.now (without_marks x)) (c.as_bytes.ensures.value
+    ↔ IsLike c.args.word.now (without_check_signs x)) (c.as_bytes.ensures.value
     ∙ c.deref.ensures.0) c.is_like.ensures)

@@ -2,7 +2,7 @@ use Rattle.std.proofs.Common.{◌⊎◌, inl, inr, subst}
 use Rattle.pgn_criteria.specs.Private.Marks.{SaysOfNumbers}
 use Rattle.pgn_criteria.specs.Public.Materials.{FitsMaterial}
 use Rattle.pgn_criteria.specs.Private.Stages.{position_seen}
-use Rattle.pgn_criteria.specs.Public.Sieves.{codes_in}
+use Rattle.pgn_criteria.specs.Public.Prefilters.{codes_in}
 use Rattle.pgn_criteria.proofs.StandFacts.{nowhere_of, nowhere_either}
 use Rattle.pgn_criteria.proofs.numbers.material_may_fit.Goals as goal
 

@@ -1,5 +1,5 @@
 use Rattle.std.proofs.Common.{◌+◌, drop, map}
-use Rattle.pgn_criteria.specs.Public.Sieves.{codes_in}
+use Rattle.pgn_criteria.specs.Public.Prefilters.{codes_in}
 use Rattle.pgn_criteria.specs.Private.Marks.{SaysOfNumbers}
 use Rattle.pgn_criteria.specs.Private.Stages.{position_seen, seen}
 use Rattle.pgn_criteria.proofs.MarkFacts.{one_material, placed_of}

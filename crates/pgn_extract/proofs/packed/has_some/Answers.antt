@@ -1,7 +1,7 @@
 use Rattle.std.proofs.Common.{◌≡◌, ℕ, false, List, Option, Some, None, sym, ap, subst, ◌∙◌}
 use Rattle.std.specs.Prelude.{◌==◌, ◌/◌, ◌%◌, is_some, MatchOption}
 use Rattle.pgn_criteria.specs.Public.ByMarks.{has_marks, NoneMeets, IsNextMet}
-use Rattle.pgn_criteria.specs.Public.Sieves.{codes_in}
+use Rattle.pgn_criteria.specs.Public.Prefilters.{codes_in}
 use Rattle.pgn_extract.proofs.packed.has_some.Goals as goal
 
 -- what is so where nothing is found
@@ -12,7 +12,7 @@ none_found Y (Some a) none so = absurd (cc)
 
 pub returns-else-has : goal.returns-else-has
 returns-else-has c = λ none.
-    let set = c.args.marks.bits in
+    let set = c.args.marks.flags in
     let turn = c.args.turn in
     let raw = c.args.record.now in
     let first : has_marks set turn (raw.head % 2 == 1) (raw.head / 2 % 2 == 1) ≡ false =

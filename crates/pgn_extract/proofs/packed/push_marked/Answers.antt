@@ -10,7 +10,7 @@ returns-then-not-has_some-clause-ok c = (
   λ game replay packed own.
       let raw = c.args.record.now in
       let none = c.has_some.ensures c.if-not-has_some.true in
-      pass_whole own (record_aim (aim_of c.args.settings.now) raw) c.args.marks.bits
+      pass_whole own (record_aim (aim_of c.args.settings.now) raw) c.args.marks.flags
       (c.requires.met game replay packed own) c.in-Ok.turn
       (c.in-Ok.ensures.ok game replay packed own)
       c.args.text.now.items none.0 none.1,

@@ -1,6 +1,6 @@
 use Rattle.std.proofs.Common.{◌↔◌, ℕ, List, Option, refl, sym, subst}
 use Rattle.std.specs.Prelude.{IsTrue}
-use Rattle.pgn_criteria.specs.Public.Sieves.{MeetsSeen, NowhereSeen, codes_in}
+use Rattle.pgn_criteria.specs.Public.Prefilters.{MeetsSeen, NowhereSeen, codes_in}
 use Rattle.pgn_criteria.specs.Public.ByMarks.{has_marks}
 use Rattle.pgn_criteria.specs.Public.Meeting.{heading_of}
 use Rattle.pgn_criteria.specs.Public.Conditions.{Conditions}
@@ -13,7 +13,7 @@ use Rattle.pgn_extract.proofs.packed.push_walked.Goals as goal
 pub push_marked-requires-clause-met : goal.push_marked-requires-clause-met
 push_marked-requires-clause-met c game replay packed own P check stuck marks other ply here =
     let found = rw c.in-Some.is at c.marks_packed.ensures in
-    let r = has_marks c.in-Some.marks.bits P.turn check stuck in
+    let r = has_marks c.in-Some.marks.flags P.turn check stuck in
     let met =
     meets_at (heading_of game) other ply c.args.criteria.now P r here
     (found game replay packed own.kept own.fits own.shows P check stuck marks other ply) in

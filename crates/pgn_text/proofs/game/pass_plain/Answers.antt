@@ -7,5 +7,5 @@ returns-else-at-block g c = (
   [],
   with_none c.args.block.now c.args.at c.requires,
   λ tags items kept. subst (λ xs.
-      g.K.Visitor.kept c.args.visitor.now tags xs) (sym (append-nil items)) kept,
+      g.K.TokenVisitor.kept c.args.visitor.now tags xs) (sym (append-nil items)) kept,
 )

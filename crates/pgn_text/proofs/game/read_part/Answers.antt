@@ -24,7 +24,8 @@ returns-then-is_in g c = (
 
 pub returns-then-is_in-2 : goal.returns-then-is_in-2
 returns-then-is_in-2 g c =
-    reading_of (g.K.Visitor.kept c.args.visitor.now) (g.K.Visitor.kept c.step_after.new.visitor)
+    reading_of (g.K.TokenVisitor.kept c.args.visitor.now)
+    (g.K.TokenVisitor.kept c.step_after.new.visitor)
     depth_limit (state_of c.args.progress.now) (state_of c.step_after.new.progress)
     (kept_white c.args.file_start c.args.block.now c.args.at c.requires (sym c.is_in-2.ensures
     ∙ c.if-is_in-2.true)) refl
@@ -44,8 +45,8 @@ returns-in-Some g c = (
 
 pub returns-then-is_in-3 : goal.returns-then-is_in-3
 returns-then-is_in-3 g c =
-    reading_of (g.K.Visitor.kept c.args.visitor.now)
-    (g.K.Visitor.kept c.step_after-then-is_in-3.new.visitor) depth_limit
+    reading_of (g.K.TokenVisitor.kept c.args.visitor.now)
+    (g.K.TokenVisitor.kept c.step_after-then-is_in-3.new.visitor) depth_limit
     (state_of c.args.progress.now) (state_of c.step_after-then-is_in-3.new.progress)
     (kept_marks c.args.file_start c.args.block.now c.args.at c.run_end-end-then-is_in-3.result
     c.requires (sym c.is_in-3.ensures ∙ c.if-is_in-3.true) c.run_end-end-then-is_in-3.ensures)
@@ -54,24 +55,27 @@ returns-then-is_in-3 g c =
 
 pub returns-in-46 : goal.returns-in-46
 returns-in-46 g c =
-    reading_of (g.K.Visitor.kept c.args.visitor.now)
-    (g.K.Visitor.kept c.step_after-in-46.new.visitor) depth_limit (state_of c.args.progress.now)
+    reading_of (g.K.TokenVisitor.kept c.args.visitor.now)
+    (g.K.TokenVisitor.kept c.step_after-in-46.new.visitor) depth_limit
+    (state_of c.args.progress.now)
     (state_of c.step_after-in-46.new.progress)
     (kept_dot c.args.file_start c.args.block.now c.args.at c.requires c.in-46.is) refl
     c.step_after-in-46.result c.step_after-in-46.ensures
 
 pub returns-in-40 : goal.returns-in-40
 returns-in-40 g c =
-    reading_of (g.K.Visitor.kept c.args.visitor.now)
-    (g.K.Visitor.kept c.step_after-in-40.new.visitor) depth_limit (state_of c.args.progress.now)
+    reading_of (g.K.TokenVisitor.kept c.args.visitor.now)
+    (g.K.TokenVisitor.kept c.step_after-in-40.new.visitor) depth_limit
+    (state_of c.args.progress.now)
     (state_of c.step_after-in-40.new.progress)
     (kept_open c.args.file_start c.args.block.now c.args.at c.requires c.in-40.is) refl
     c.step_after-in-40.result c.step_after-in-40.ensures
 
 pub returns-in-41 : goal.returns-in-41
 returns-in-41 g c =
-    reading_of (g.K.Visitor.kept c.args.visitor.now)
-    (g.K.Visitor.kept c.step_after-in-41.new.visitor) depth_limit (state_of c.args.progress.now)
+    reading_of (g.K.TokenVisitor.kept c.args.visitor.now)
+    (g.K.TokenVisitor.kept c.step_after-in-41.new.visitor) depth_limit
+    (state_of c.args.progress.now)
     (state_of c.step_after-in-41.new.progress)
     (kept_close c.args.file_start c.args.block.now c.args.at c.requires c.in-41.is) refl
     c.step_after-in-41.result c.step_after-in-41.ensures

@@ -9,7 +9,8 @@ use Rattle.pgn_text.proofs.game.read_parts.Goals as goal
 
 pub loop-at-init : goal.loop-at-init
 loop-at-init g c =
-    kept_start (g.K.Visitor.kept c.args.visitor.now) depth_limit c.args.file_start c.args.block.now
+    kept_start (g.K.TokenVisitor.kept c.args.visitor.now) depth_limit c.args.file_start
+    c.args.block.now
     c.args.begin (state_of c.start-progress.result)
     c.requires.place c.start-progress.ensures
 

@@ -1,6 +1,6 @@
 use Rattle.std.proofs.Common.{subst, Option, MatchOption}
 use Rattle.chess.specs.Public.Squares.{Place}
-use Rattle.chess.specs.Shared.SetWords.{HasOnly, IsTakenFirst}
+use Rattle.chess.specs.Shared.SetBitboards.{HasOnly, IsTakenFirst}
 use Rattle.chess.proofs.LoopFacts.{fewer}
 use Rattle.chess.proofs.PlaceFacts.{true_not_false}
 use Rattle.chess.proofs.AttackerFacts.{searched_start, searched_more, searched_none, attackers_are}
@@ -11,30 +11,31 @@ pub returns-then-is_unblocked : goal.returns-then-is_unblocked
 returns-then-is_unblocked c p men =
     let only =
     subst (λ (o : Option Place).
-    MatchOption o ((s : Place) → HasOnly c.of_word-left.result s
-    → ⊥) (HasOnly c.of_word-left.result)) c.in-Some.is c.only.ensures in
+    MatchOption o ((s : Place) → HasOnly c.of_bitboard-left.result s
+    → ⊥) (HasOnly c.of_bitboard-left.result)) c.in-Some.is c.only.ensures in
     attackers_are p c.args.man c.args.target c.args.own c.pseudo_attacks_on.result c.args.occupied
-    c.of_word-left.result c.pseudo_attacks_on.ensures
-    (one_open c.args.target _ c.args.occupied c.of_word-left.result c.in-Some.square
-    c.of_word-left.ensures only (c.is_unblocked.ensures.0 c.if-is_unblocked.true)) men
+    c.of_bitboard-left.result c.pseudo_attacks_on.ensures
+    (one_open c.args.target _ c.args.occupied c.of_bitboard-left.result c.in-Some.square
+    c.of_bitboard-left.ensures only (c.is_unblocked.ensures.0 c.if-is_unblocked.true)) men
 
 pub returns-in-Some : goal.returns-in-Some
 returns-in-Some c p men =
     let only =
     subst (λ (o : Option Place).
-    MatchOption o ((s : Place) → HasOnly c.of_word-left.result s
-    → ⊥) (HasOnly c.of_word-left.result)) c.in-Some.is c.only.ensures in
+    MatchOption o ((s : Place) → HasOnly c.of_bitboard-left.result s
+    → ⊥) (HasOnly c.of_bitboard-left.result)) c.in-Some.is c.only.ensures in
     attackers_are p c.args.man c.args.target c.args.own c.pseudo_attacks_on.result c.args.occupied
     c.new.result c.pseudo_attacks_on.ensures
-    (one_blocked c.args.target _ c.args.occupied c.of_word-left.result c.new.result c.in-Some.square
-    c.of_word-left.ensures only c.new.ensures
+    (one_blocked c.args.target _ c.args.occupied c.of_bitboard-left.result c.new.result
+    c.in-Some.square
+    c.of_bitboard-left.ensures only c.new.ensures
     (λ clear_way. true_not_false _ (c.is_unblocked.ensures.1 clear_way) c.if-is_unblocked.false))
     men
 
 pub loop-square-init : goal.loop-square-init
 loop-square-init c =
-    searched_start c.args.target _ c.args.occupied c.of_word-left.result c.new-set.result
-    c.of_word-left.ensures c.new-set.ensures
+    searched_start c.args.target _ c.args.occupied c.of_bitboard-left.result c.new-set.result
+    c.of_bitboard-left.ensures c.new-set.ensures
 
 pub loop-square-preserved : goal.loop-square-preserved
 loop-square-preserved c =

@@ -1,11 +1,11 @@
 use Rattle.std.proofs.Common.{sym, subst}
-use Rattle.chess.specs.Private.BitWords.{IsWordOf}
+use Rattle.chess.specs.Private.Bitboards.{IsBitboardOf}
 use Rattle.chess.specs.Private.PseudoAttacks.{StandsBetween}
-use Rattle.chess.proofs.BetweenTable.{between_word, between_is}
+use Rattle.chess.proofs.BetweenTable.{between_bitboard, between_is}
 use Rattle.chess.proofs.board.attack_tables.between.Goals as goal
 
 pub returns : goal.returns
 returns c =
-    subst (IsWordOf (StandsBetween c.args.from c.args.to))
-    (sym (λ i. between_word (c.index.ensures.place i) (c.index-2.ensures.place i)))
+    subst (IsBitboardOf (StandsBetween c.args.from c.args.to))
+    (sym (λ i. between_bitboard (c.index.ensures.place i) (c.index-2.ensures.place i)))
     (between_is c.args.from c.args.to c.index.ensures.on_board c.index-2.ensures.on_board)

@@ -1,6 +1,6 @@
 use Rattle.std.proofs.Common.{◌≡◌, subst, true, false, Option, refl}
 use Rattle.chess.specs.Public.Squares.{Place}
-use Rattle.chess.specs.Shared.SetWords.{IsTakenFirst}
+use Rattle.chess.specs.Shared.SetBitboards.{IsTakenFirst}
 use Rattle.chess.proofs.PlaceFacts.{true_not_false}
 use Rattle.chess.proofs.LoopFacts.{fewer, left_more, left_none}
 use Rattle.chess.proofs.AttackerFacts.{IsOpenFrom, seek_start, found_open}
@@ -8,8 +8,8 @@ use Rattle.chess.proofs.board.attack_tables.has_unblocked.Goals as goal
 
 pub loop-square-init : goal.loop-square-init
 loop-square-init c =
-    seek_start c.args.target c.args.squares c.args.occupied c.of_word-left.result
-    c.of_word-left.ensures
+    seek_start c.args.target c.args.squares c.args.occupied c.of_bitboard-left.result
+    c.of_bitboard-left.ensures
 
 pub loop-square-preserved : goal.loop-square-preserved
 loop-square-preserved c =
@@ -24,14 +24,14 @@ loop-square-preserved c =
 
 pub returns-then-is_unblocked : goal.returns-then-is_unblocked
 returns-then-is_unblocked c p men =
-    let taken =
+    let capture_square =
     subst (λ (o : Option Place). IsTakenFirst c.loop-square.left c.take_first.new.self o)
     c.in-Some.is c.take_first.ensures in
     let free = (found_open p c.args.target c.args.squares c.args.occupied c.in-Some.square men).0 (
-      c.loop-square.invariant.within c.in-Some.square taken.0 taken.1,
+      c.loop-square.invariant.within c.in-Some.square capture_square.0 capture_square.1,
       c.is_unblocked.ensures.0 c.if-is_unblocked.true,
     ) in
-    ((λ e. (c.in-Some.square, taken.0, free.0, free.1)), (λ h. refl))
+    ((λ e. (c.in-Some.square, capture_square.0, free.0, free.1)), (λ h. refl))
 
 pub returns : goal.returns
 returns c p men = (

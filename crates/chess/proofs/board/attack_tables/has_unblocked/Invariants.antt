@@ -1,7 +1,7 @@
 use Rattle.std.proofs.Common.{◌≡◌, true}
 use Rattle.chess.specs.Public.Squares.{index_of}
 use Rattle.chess.specs.Public.Sets.{size_of}
-use Rattle.chess.specs.Shared.SetWords.{has_bit}
+use Rattle.chess.specs.Shared.SetBitboards.{has_bit}
 use Rattle.chess.specs.Private.MoveWords.{IsLeft}
 use Rattle.chess.proofs.AttackerFacts.{IsOpenFrom}
 use Rattle.chess.proofs.board.attack_tables.has_unblocked.Given as goal

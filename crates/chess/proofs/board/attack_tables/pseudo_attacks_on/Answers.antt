@@ -1,10 +1,10 @@
 use Rattle.std.proofs.Common.{◌≡◌, ◌∙◌, ap, sym, get_or, []}
 use Rattle.chess.specs.Public.Squares.{index_of}
-use Rattle.chess.specs.Shared.SetWords.{has_bit}
-use Rattle.chess.specs.Private.BitWords.{pseudo_attacks_row_of}
+use Rattle.chess.specs.Shared.SetBitboards.{has_bit}
+use Rattle.chess.specs.Private.Bitboards.{pseudo_attacks_row_of}
 use Rattle.chess.specs.declared.board.attack_tables.pseudo_attacks_table.TheConstants.{PSEUDO_ATTACKS}
 use Rattle.chess.proofs.TableFacts.{table_bit}
-use Rattle.chess.proofs.PseudoAttacksTable.{hits_fit}
+use Rattle.chess.proofs.PseudoAttacksTable.{attacks_fit}
 use Rattle.chess.proofs.PseudoAttackFacts.{sees, sees_is}
 use Rattle.chess.proofs.board.attack_tables.pseudo_attacks_on.Goals as goal
 
@@ -19,7 +19,8 @@ returns c s on_board =
     c.pseudo_attacks_row.ensures.row
     ∙ ap (λ n. has_bit (get_or (get_or PSEUDO_ATTACKS row []) n 0) (index_of s))
     c.index.ensures.place
-    ∙ table_bit (get_or PSEUDO_ATTACKS row []) (sees man.side man.kind) (hits_fit man.side man.kind)
+    ∙ table_bit (get_or PSEUDO_ATTACKS row []) (sees man.side man.kind)
+    (attacks_fit man.side man.kind)
     s c.args.target on_board c.index.ensures.on_board in
     let test = sees_is man.side man.kind s c.args.target in
     ((λ e. test.0 (sym bit ∙ e)), (λ f. bit ∙ test.1 f))

@@ -1,7 +1,7 @@
 use Rattle.std.proofs.Common.{◌∙◌, ap, sym, arith, Some}
 use Rattle.chess.specs.Public.Squares.{index_of}
 use Rattle.chess.specs.Shared.SetFacts.{index_of-below, false_of}
-use Rattle.chess.specs.Private.BitWords.{word_at}
+use Rattle.chess.specs.Private.Bitboards.{bitboard_at}
 use Rattle.chess.proofs.FillFacts.{common_none, common_some}
 use Rattle.std.proofs.lemmas.Bool.{true_from_ne_false}
 use Rattle.chess.proofs.BitFacts.{has_man, no_man, man_at-words}
@@ -11,7 +11,7 @@ pub returns-then-words-row-ne0 : goal.returns-then-words-row-ne0
 returns-then-words-row-ne0 c =
     let words = c.args.words.now in
     let s = c.args.square in
-    let on = c.word_of-bit.ensures.on_board in
+    let on = c.bitboard_of-bit.ensures.on_board in
     let near = c.loop-row-test.true in
     ap Some c.man_of.ensures
     ∙ sym (man_at-words words s on
@@ -19,15 +19,16 @@ returns-then-words-row-ne0 c =
     (index_of-below s on)
     (true_from_ne_false _ (λ e.
     c.if-words-row-ne0.true
-    (common_none (word_at words c.loop-row.row) c.word_of-bit.result s
-    c.word_of-bit.ensures.word e))))
+    (common_none (bitboard_at words c.loop-row.row) c.bitboard_of-bit.result s
+    c.bitboard_of-bit.ensures.bitboard e))))
 
 pub returns : goal.returns
 returns c =
     let words = c.args.words.now in
     let s = c.args.square in
     let all = c.loop-row-test.false in
-    sym (man_at-words words s c.word_of-bit.ensures.on_board
+    sym (man_at-words words s c.bitboard_of-bit.ensures.on_board
     ∙ no_man words 12 (index_of s) (λ k less. false_of _ (λ e.
-    common_some (word_at words k) c.word_of-bit.result s c.word_of-bit.ensures.word e
+    common_some (bitboard_at words k) c.bitboard_of-bit.result s
+    c.bitboard_of-bit.ensures.bitboard e
     (c.loop-row.invariant k (omega arith)))))

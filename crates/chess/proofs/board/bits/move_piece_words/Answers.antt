@@ -1,6 +1,6 @@
 use Rattle.std.proofs.Common.{◌∙◌, ap, sym, Some, None}
 use Rattle.chess.specs.Public.Placements.{with_man}
-use Rattle.chess.specs.Private.BitWords.{words_men, IsMan}
+use Rattle.chess.specs.Private.Bitboards.{words_men, IsMan}
 use Rattle.chess.proofs.OccupiedFacts.{has_square}
 use Rattle.chess.proofs.MovePieceFacts.{moved_apart, moved_men}
 use Rattle.chess.proofs.SlideFacts.{slid_put, first_empty, second_empty}
@@ -11,21 +11,25 @@ returns-clause-apart c =
     let old = c.args.words.now in
     let men = words_men old in
     let man = c.in-Some.man in
-    let on_from = c.word_of-3.ensures.on_board in
-    let on_taken = c.word_of.ensures.on_board in
-    let on_to = c.word_of-2.ensures.on_board in
-    let none = c.if-occupied-word_of-eq0.true in
-    moved_apart old c.slide.new.words c.args.taken c.args.from c.args.to (Some man) c.told-words
+    let on_from = c.bitboard_of-3.ensures.on_board in
+    let on_taken = c.bitboard_of.ensures.on_board in
+    let on_to = c.bitboard_of-2.ensures.on_board in
+    let none = c.if-occupied-bitboard_of-eq0.true in
+    moved_apart old c.slide.new.words c.args.capture_square c.args.from c.args.to
+    (Some man) c.told-words
     on_taken on_from c.requires
-    (slid_put old c.slide.new.words man c.args.from c.args.taken c.args.to c.told-words on_from
+    (slid_put old c.slide.new.words man c.args.from c.args.capture_square c.args.to
+    c.told-words on_from
     on_taken on_to c.requires
-    ((has_square (IsMan men man.side man.kind) c.squares_with.result c.word_of-3.result c.args.from
-    on_from c.word_of-3.ensures.word c.squares_with.ensures).0
-    c.if-squares_with-word_of-ne0.true)
-    (first_empty men c.occupied.result c.word_of.result c.word_of-2.result c.args.taken on_taken
-    c.occupied.ensures none c.word_of.ensures.word)
-    (second_empty men c.occupied.result c.word_of.result c.word_of-2.result c.args.to on_to
-    c.occupied.ensures none c.word_of-2.ensures.word)
+    ((has_square (IsMan men man.side man.kind) c.squares_with.result
+    c.bitboard_of-3.result c.args.from
+    on_from c.bitboard_of-3.ensures.bitboard c.squares_with.ensures).0
+    c.if-squares_with-bitboard_of-ne0.true)
+    (first_empty men c.occupied.result c.bitboard_of.result c.bitboard_of-2.result
+    c.args.capture_square on_taken
+    c.occupied.ensures none c.bitboard_of.ensures.bitboard)
+    (second_empty men c.occupied.result c.bitboard_of.result c.bitboard_of-2.result c.args.to on_to
+    c.occupied.ensures none c.bitboard_of-2.ensures.bitboard)
     c.slide.ensures)
 
 pub returns-clause-men : goal.returns-clause-men
@@ -33,21 +37,25 @@ returns-clause-men c =
     let old = c.args.words.now in
     let men = words_men old in
     let man = c.in-Some.man in
-    let on_from = c.word_of-3.ensures.on_board in
-    let on_taken = c.word_of.ensures.on_board in
-    let on_to = c.word_of-2.ensures.on_board in
-    let none = c.if-occupied-word_of-eq0.true in
-    moved_men old c.slide.new.words c.args.taken c.args.from c.args.to (Some man) c.told-words
+    let on_from = c.bitboard_of-3.ensures.on_board in
+    let on_taken = c.bitboard_of.ensures.on_board in
+    let on_to = c.bitboard_of-2.ensures.on_board in
+    let none = c.if-occupied-bitboard_of-eq0.true in
+    moved_men old c.slide.new.words c.args.capture_square c.args.from c.args.to
+    (Some man) c.told-words
     on_taken on_from on_to c.requires
-    (slid_put old c.slide.new.words man c.args.from c.args.taken c.args.to c.told-words on_from
+    (slid_put old c.slide.new.words man c.args.from c.args.capture_square c.args.to
+    c.told-words on_from
     on_taken on_to c.requires
-    ((has_square (IsMan men man.side man.kind) c.squares_with.result c.word_of-3.result c.args.from
-    on_from c.word_of-3.ensures.word c.squares_with.ensures).0
-    c.if-squares_with-word_of-ne0.true)
-    (first_empty men c.occupied.result c.word_of.result c.word_of-2.result c.args.taken on_taken
-    c.occupied.ensures none c.word_of.ensures.word)
-    (second_empty men c.occupied.result c.word_of.result c.word_of-2.result c.args.to on_to
-    c.occupied.ensures none c.word_of-2.ensures.word)
+    ((has_square (IsMan men man.side man.kind) c.squares_with.result
+    c.bitboard_of-3.result c.args.from
+    on_from c.bitboard_of-3.ensures.bitboard c.squares_with.ensures).0
+    c.if-squares_with-bitboard_of-ne0.true)
+    (first_empty men c.occupied.result c.bitboard_of.result c.bitboard_of-2.result
+    c.args.capture_square on_taken
+    c.occupied.ensures none c.bitboard_of.ensures.bitboard)
+    (second_empty men c.occupied.result c.bitboard_of.result c.bitboard_of-2.result c.args.to on_to
+    c.occupied.ensures none c.bitboard_of-2.ensures.bitboard)
     c.slide.ensures)
-    ∙ ap (with_man (with_man (with_man men c.args.taken None) c.args.from None) c.args.to)
+    ∙ ap (with_man (with_man (with_man men c.args.capture_square None) c.args.from None) c.args.to)
     (sym c.in-Some.is)

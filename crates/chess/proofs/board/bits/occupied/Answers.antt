@@ -1,5 +1,5 @@
 use Rattle.std.proofs.Common.{◌≡◌, ℕ, subst, arith}
-use Rattle.chess.proofs.BitFacts.{IsUnion, union_none, union_more, word_of_men}
+use Rattle.chess.proofs.BitFacts.{IsUnion, union_none, union_more, bitboard_of_men}
 use Rattle.chess.proofs.board.bits.occupied.Goals as goal
 
 pub loop-row-init : goal.loop-row-init
@@ -15,5 +15,5 @@ returns c =
     let past = c.loop-row-test.false in
     let end = c.loop-row.auto.row-end in
     let rows : c.loop-row.row ≡ 12 = omega arith in
-    word_of_men words c.loop-row.all c.requires
+    bitboard_of_men words c.loop-row.all c.requires
     (subst (λ (n : ℕ). IsUnion words n c.loop-row.all) rows c.loop-row.invariant)

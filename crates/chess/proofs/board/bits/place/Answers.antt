@@ -2,22 +2,24 @@ use Rattle.chess.proofs.board.bits.place.Goals as goal
 use Rattle.std.proofs.Common.{◌∙◌, ap, sym, subst, ℕ, Some, None}
 use Rattle.chess.specs.Public.Squares.{index_of}
 use Rattle.chess.specs.Public.Placements.{with_man}
-use Rattle.chess.specs.Private.BitWords.{words_men, IsCleared}
+use Rattle.chess.specs.Private.Bitboards.{words_men, IsCleared}
 use Rattle.chess.proofs.BitFacts.{put_none, put_some, put_apart, put_men}
 
 pub returns-in_default-clause-apart : goal.returns-in_default-clause-apart
 returns-in_default-clause-apart c =
     put_apart c.args.words.now c.clear.new.words (index_of c.args.square) None c.requires
     (put_none c.args.words.now c.clear.new.words (index_of c.args.square)
-    (subst (λ (w : ℕ). IsCleared c.args.words.now c.clear.new.words w) c.word_of.ensures.word
+    (subst (λ (w : ℕ). IsCleared c.args.words.now c.clear.new.words w)
+    c.bitboard_of.ensures.bitboard
     c.clear.ensures))
 
 pub returns-in_default-clause-men : goal.returns-in_default-clause-men
 returns-in_default-clause-men c =
-    put_men c.args.words.now c.clear.new.words c.args.square None c.word_of.ensures.on_board
+    put_men c.args.words.now c.clear.new.words c.args.square None c.bitboard_of.ensures.on_board
     c.requires
     (put_none c.args.words.now c.clear.new.words (index_of c.args.square)
-    (subst (λ (w : ℕ). IsCleared c.args.words.now c.clear.new.words w) c.word_of.ensures.word
+    (subst (λ (w : ℕ). IsCleared c.args.words.now c.clear.new.words w)
+    c.bitboard_of.ensures.bitboard
     c.clear.ensures))
     ∙ ap (with_man (words_men c.args.words.now) c.args.square) (sym c.in_default.is)
 
@@ -27,15 +29,17 @@ returns-clause-apart c =
     c.requires
     (put_some c.args.words.now c.clear.new.words c.set.new.words (index_of c.args.square)
     c.in-Some.man
-    (subst (λ (w : ℕ). IsCleared c.args.words.now c.clear.new.words w) c.word_of.ensures.word
+    (subst (λ (w : ℕ). IsCleared c.args.words.now c.clear.new.words w)
+    c.bitboard_of.ensures.bitboard
     c.clear.ensures) c.set.ensures)
 
 pub returns-clause-men : goal.returns-clause-men
 returns-clause-men c =
     put_men c.args.words.now c.set.new.words c.args.square (Some c.in-Some.man)
-    c.word_of.ensures.on_board c.requires
+    c.bitboard_of.ensures.on_board c.requires
     (put_some c.args.words.now c.clear.new.words c.set.new.words (index_of c.args.square)
     c.in-Some.man
-    (subst (λ (w : ℕ). IsCleared c.args.words.now c.clear.new.words w) c.word_of.ensures.word
+    (subst (λ (w : ℕ). IsCleared c.args.words.now c.clear.new.words w)
+    c.bitboard_of.ensures.bitboard
     c.clear.ensures) c.set.ensures)
     ∙ ap (with_man (words_men c.args.words.now) c.args.square) (sym c.in-Some.is)

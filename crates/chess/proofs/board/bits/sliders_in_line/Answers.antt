@@ -1,5 +1,5 @@
 use Rattle.std.proofs.Common.{bit_and}
-use Rattle.chess.specs.Private.BitWords.{IsRunner, words_men}
+use Rattle.chess.specs.Private.Bitboards.{IsRunner, words_men}
 use Rattle.chess.specs.Private.PseudoAttacks.{IsPseudoAttack}
 use Rattle.chess.proofs.AttackerFacts.{runners_seen}
 use Rattle.chess.proofs.LeftFacts.{runners_left}

@@ -1,11 +1,11 @@
-use Rattle.chess.specs.Private.BitWords.{IsMan, words_men}
+use Rattle.chess.specs.Private.Bitboards.{IsMan, words_men}
 use Rattle.chess.specs.declared.board.man.Kind.TheVariants.{Queen}
-use Rattle.chess.proofs.FillFacts.{either_word}
+use Rattle.chess.proofs.FillFacts.{either_bitboard}
 use Rattle.chess.proofs.board.bits.squares_of_runners.Goals as goal
 
 pub returns : goal.returns
 returns c =
     let men = words_men c.args.words.now in
-    either_word (IsMan men c.args.side Queen) (IsMan men c.args.side c.args.kind)
+    either_bitboard (IsMan men c.args.side Queen) (IsMan men c.args.side c.args.kind)
     c.squares_with.result c.squares_with-2.result c.squares_with.ensures
     c.squares_with-2.ensures

@@ -1,9 +1,9 @@
 use Rattle.std.proofs.Common.{◌<◌, ◌^◌, rules}
-use Rattle.chess.specs.Private.BitWords.{words_men}
-use Rattle.chess.proofs.BitFacts.{word_of_empty}
+use Rattle.chess.specs.Private.Bitboards.{words_men}
+use Rattle.chess.proofs.BitFacts.{bitboard_of_empty}
 use Rattle.chess.proofs.board.bits.unoccupied.Goals as goal
 
 pub returns : goal.returns
 returns c =
     let fits : c.occupied.result < 2 ^ 64 = search rules in
-    word_of_empty (words_men c.args.words.now) c.occupied.result c.occupied.ensures fits
+    bitboard_of_empty (words_men c.args.words.now) c.occupied.result c.occupied.ensures fits

@@ -1,6 +1,6 @@
 use Rattle.std.proofs.Common.{subst, sym, refl, rules, slice_set, Option}
 use Rattle.chess.specs.Public.Squares.{Place}
-use Rattle.chess.specs.Shared.SetWords.{IsTakenFirst}
+use Rattle.chess.specs.Shared.SetBitboards.{IsTakenFirst}
 use Rattle.chess.proofs.LoopFacts.{fewer}
 use Rattle.chess.proofs.MarkFacts.{IsMarked, marked_more, marked_all}
 use Rattle.chess.proofs.fen.write.mark.Goals as goal

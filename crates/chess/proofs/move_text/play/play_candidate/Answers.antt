@@ -1,7 +1,7 @@
 use Rattle.std.proofs.Common.{◌≡◌, ap, sym, subst, refl, Option, None, Some, Ok, Err}
 use Rattle.chess.specs.Public.Squares.{Place}
 use Rattle.chess.specs.Public.Moves.{IsPseudoLegal, IsLegal}
-use Rattle.chess.specs.Shared.SetWords.{IsTakenFirst}
+use Rattle.chess.specs.Shared.SetBitboards.{IsTakenFirst}
 use Rattle.chess.specs.Public.San.{HasRival, kind_said}
 use Rattle.chess.specs.Private.SanWords.{said_by, move_from, IsMoveSaid}
 use Rattle.chess.specs.declared.board.man.Kind.TheVariants.{Pawn}
@@ -25,22 +25,22 @@ returns-in_default-clause-answer g c =
 
 pub try_move-requires-clause-pseudo_legal : goal.try_move-requires-clause-pseudo_legal
 try_move-requires-clause-pseudo_legal g c =
-    let taken =
+    let capture_square =
     subst (λ (o : Option Place). IsTakenFirst c.args.candidates c.take_first.new.self o)
     c.in-Some.is c.take_first.ensures in
     subst (IsPseudoLegal c.args.position.now) (sym c.from-m.ensures)
-    ((c.requires.candidates c.in-Some.from).0 taken.1).1.rules
+    ((c.requires.candidates c.in-Some.from).0 capture_square.1).1.rules
 
 pub try_move-requires-clause-man : goal.try_move-requires-clause-man
 try_move-requires-clause-man g c =
-    let taken =
+    let capture_square =
     subst (λ (o : Option Place). IsTakenFirst c.args.candidates c.take_first.new.self o)
     c.in-Some.is c.take_first.ensures in
     rw (
       c.from-m.ensures,
       c.side.ensures,
       c.kind.ensures,
-    ) ((c.requires.candidates c.in-Some.from).0 taken.1).1.here
+    ) ((c.requires.candidates c.in-Some.from).0 capture_square.1).1.here
 
 pub returns-then-not-try_move-clause-answer : goal.returns-then-not-try_move-clause-answer
 returns-then-not-try_move-clause-answer g c =
@@ -75,14 +75,14 @@ pub returns-clause-written : goal.returns-clause-written
 returns-clause-written g c =
     let P = c.args.position.now in
     let said = said_by c.args.said.now in
-    let taken =
+    let capture_square =
     subst (λ (o : Option Place). IsTakenFirst c.args.candidates c.take_first.new.self o)
     c.in-Some.is c.take_first.ensures in
-    let candidate = ((c.requires.candidates c.in-Some.from).0 taken.1).1 in
+    let candidate = ((c.requires.candidates c.in-Some.from).0 capture_square.1).1 in
     let lone : (kind_said said.letter ≡ Pawn → ⊥)
     → ¬ HasRival P (move_from said c.in-Some.from) (λ s. Unit {0}) = λ piece.
     no_rival P said c.args.candidates c.take_first.new.self c.in-Some.from c.invariant.ensures piece
-    (c.requires.asked piece) c.requires.candidates taken
+    (c.requires.asked piece) c.requires.candidates capture_square
     (λ some. true_not_false c.has_some.result (c.has_some.ensures.1 some) c.if-has_some.false) in
     c.write.ensures P (ap (λ (m : Move). m.castle) c.from-m.ensures)
     (rw (c.from-m.ensures, c.side.ensures, c.kind.ensures) candidate.here) c.takes-takes.ensures

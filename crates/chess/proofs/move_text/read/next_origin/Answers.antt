@@ -2,7 +2,7 @@ use Rattle.std.proofs.Common.{◌≡◌, sym, subst, true, Option}
 use Rattle.chess.specs.Public.Squares.{Place}
 use Rattle.chess.specs.Public.Moves.{IsLegal}
 use Rattle.chess.specs.Public.Sets.{is_in}
-use Rattle.chess.specs.Shared.SetWords.{IsTakenFirst}
+use Rattle.chess.specs.Shared.SetBitboards.{IsTakenFirst}
 use Rattle.chess.specs.Private.SanWords.{CanGoSaid, said_by}
 use Rattle.chess.proofs.PlaceFacts.{true_not_false}
 use Rattle.chess.proofs.LoopFacts.{fewer, left_start, left_more, left_none}

@@ -1,6 +1,6 @@
 use Rattle.std.proofs.Common.{subst, Option}
 use Rattle.chess.specs.Public.Squares.{Place}
-use Rattle.chess.specs.Shared.SetWords.{IsTakenFirst}
+use Rattle.chess.specs.Shared.SetBitboards.{IsTakenFirst}
 use Rattle.chess.specs.Public.San.{IsRival}
 use Rattle.chess.proofs.LoopFacts.{fewer, sifted_none}
 use Rattle.chess.proofs.SanTextFacts.{rivals_start, rivals_more}

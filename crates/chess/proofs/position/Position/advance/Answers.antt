@@ -18,9 +18,9 @@ invariant_of-self g c =
     ap (λ (Q : State). Q.men) c.self.view_is in
     let men : g.B.Board.men c.move_piece.new.self ≡ men_after P m =
     c.move_piece.ensures
-    ∙ men_plainly P m c.becoming-arriving.result c.taken_by-taken.result
+    ∙ men_plainly P m c.becoming-arriving.result c.capture_square_of-capture_square.result
     (g.B.Board.men c.self.inside.board) c.requires.plain old c.becoming-arriving.ensures
-    c.taken_by-taken.ensures in
+    c.capture_square_of-capture_square.ensures in
     let rights : c.end_rights.new.rights ≡ rights_after P.rights m =
     c.end_rights.ensures
     ∙ ap (λ (r : CastlingRights).

@@ -1,6 +1,6 @@
 use Rattle.std.proofs.Common.{◌≡◌, subst, true, false, Option, Some, refl}
 use Rattle.chess.specs.Public.Squares.{Place}
-use Rattle.chess.specs.Shared.SetWords.{IsTakenFirst}
+use Rattle.chess.specs.Shared.SetBitboards.{IsTakenFirst}
 use Rattle.chess.specs.Private.MoveWords.{IsMover, CanLeave}
 use Rattle.chess.proofs.PlaceFacts.{true_not_false}
 use Rattle.chess.proofs.LoopFacts.{fewer, left_more, left_none}
@@ -19,13 +19,13 @@ loop-from-preserved g c =
 
 pub returns-then-can_leave : goal.returns-then-can_leave
 returns-then-can_leave g c =
-    let taken : IsTakenFirst c.loop-from.left c.take_first.new.self (Some c.in-Some.from) =
+    let capture_square : IsTakenFirst c.loop-from.left c.take_first.new.self (Some c.in-Some.from) =
     subst (λ (o : Option Place). IsTakenFirst c.loop-from.left c.take_first.new.self o) c.in-Some.is
     c.take_first.ensures in (
       (λ e. (
         c.in-Some.from,
-        taken.0,
-        c.loop-from.invariant.within c.in-Some.from taken.0 taken.1,
+        capture_square.0,
+        c.loop-from.invariant.within c.in-Some.from capture_square.0 capture_square.1,
         c.can_leave.ensures.0 c.if-can_leave.true,
       )),
       (λ h. refl),

@@ -11,8 +11,8 @@ returns g c =
     let old : g.B.Board.men c.self.inside.board ≡ P.men =
     ap (λ (Q : State). Q.men) c.self.view_is in
     check_after P m (record { sound = c.invariant.ensures; rules = c.requires.pseudo_legal })
-    c.becoming-arriving.result c.taken_by-taken.result
+    c.becoming-arriving.result c.capture_square_of-capture_square.result
     c.king_after-king.result (g.B.Board.men c.self.inside.board) c.attacked_after.result
-    c.requires.plain old c.becoming-arriving.ensures c.taken_by-taken.ensures
+    c.requires.plain old c.becoming-arriving.ensures c.capture_square_of-capture_square.ensures
     (subst (λ side. IsOnlyKing (men_after P m) side c.king_after-king.result) c.side.ensures
     c.king_after-king.ensures) c.attacked_after.ensures

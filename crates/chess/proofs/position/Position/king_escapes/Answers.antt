@@ -2,7 +2,7 @@ use Rattle.std.proofs.Common.{subst, Option, None}
 use Rattle.chess.specs.Public.Squares.{Place}
 use Rattle.chess.specs.Public.Attacks.{IsNear}
 use Rattle.chess.specs.Public.Positions.{IsOnlyKing}
-use Rattle.chess.specs.Shared.SetWords.{IsTakenFirst}
+use Rattle.chess.specs.Shared.SetBitboards.{IsTakenFirst}
 use Rattle.chess.specs.declared.board.man.Side.{Side}
 use Rattle.chess.proofs.LoopFacts.{fewer, left_start, left_more}
 use Rattle.chess.proofs.position.Position.king_escapes.Goals as goal
@@ -22,12 +22,12 @@ loop-to-preserved g c =
 
 pub king_steps-requires : goal.king_steps-requires
 king_steps-requires g c =
-    let taken = c.in-Some.ensures in
+    let capture_square = c.in-Some.ensures in
     record {
       king = subst (λ (side : Side).
           IsOnlyKing c.args.self.now.men side c.king-king.result) c.side.ensures
           c.king-king.ensures;
-      near = c.loop-to.invariant.within c.in-Some.to taken.0 taken.1;
+      near = c.loop-to.invariant.within c.in-Some.to capture_square.0 capture_square.1;
     }
 
 pub returns-then-king_steps : goal.returns-then-king_steps

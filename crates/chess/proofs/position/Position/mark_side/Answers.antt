@@ -1,5 +1,5 @@
 use Rattle.std.proofs.Common.{◌+◌, arith}
-use Rattle.chess.specs.Private.BitWords.{number_of_side}
+use Rattle.chess.specs.Private.Bitboards.{number_of_side}
 use Rattle.chess.proofs.MarkFacts.{below_same}
 use Rattle.chess.proofs.position.Position.mark_side.Goals as goal
 

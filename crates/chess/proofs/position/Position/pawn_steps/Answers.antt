@@ -3,7 +3,7 @@ use Rattle.chess.specs.Public.Squares.{Place}
 use Rattle.chess.specs.Public.Placements.{man_at}
 use Rattle.chess.specs.Public.Moves.{Promotes}
 use Rattle.chess.specs.Private.MoveWords.{IsMover}
-use Rattle.chess.specs.Shared.SetWords.{IsTakenFirst}
+use Rattle.chess.specs.Shared.SetBitboards.{IsTakenFirst}
 use Rattle.chess.specs.declared.board.man.Side.{Side}
 use Rattle.chess.specs.declared.board.man.Kind.TheVariants.{Pawn}
 use Rattle.chess.proofs.LoopFacts.{fewer, left_start, left_more}
@@ -27,14 +27,14 @@ loop-from-preserved g c =
     (λ clash. clash)
 
 pub ahead_of_pawn-to-requires : goal.ahead_of_pawn-to-requires
-ahead_of_pawn-to-requires g c = let taken = c.in-Some.ensures in
-    c.loop-from.invariant.within c.in-Some.from taken.0 taken.1
+ahead_of_pawn-to-requires g c = let capture_square = c.in-Some.ensures in
+    c.loop-from.invariant.within c.in-Some.from capture_square.0 capture_square.1
 
 pub can_step-requires : goal.can_step-requires
 can_step-requires g c =
-    let taken = c.in-Some.ensures in
+    let capture_square = c.in-Some.ensures in
     record {
-      pawn = c.loop-from.invariant.within c.in-Some.from taken.0 taken.1;
+      pawn = c.loop-from.invariant.within c.in-Some.from capture_square.0 capture_square.1;
       step = (
         c.ahead_of_pawn-to.ensures.file,
         c.ahead_of_pawn-to.ensures.rank,

@@ -1,6 +1,6 @@
 use Rattle.std.proofs.Common.{subst, Option}
 use Rattle.chess.specs.Public.Squares.{Place}
-use Rattle.chess.specs.Shared.SetWords.{IsTakenFirst}
+use Rattle.chess.specs.Shared.SetBitboards.{IsTakenFirst}
 use Rattle.chess.specs.Public.Moves.{CanGo}
 use Rattle.chess.proofs.LoopFacts.{fewer, sifted_start, sifted_more, sifted_none}
 use Rattle.chess.proofs.position.Position.targets.Goals as goal

@@ -18,14 +18,15 @@ pub returns-in-Some : goal.returns-in-Some
 returns-in-Some g c =
     met_mirror (g.S.Seen.men c.args.position.now) (g.S.Seen.turn c.args.position.now)
     (g.S.Seen.checked c.args.position.now) (g.S.Seen.stuck c.args.position.now)
-    c.args.self.now.positions c.in-Some.form c.is_met.result c.is_met-in-Some.result
+    c.args.self.now.positions c.in-Some.planned c.is_met.result c.is_met-in-Some.result
     (subst (λ x. IsTrue c.is_met.result
     ↔ AllSaid (g.S.Seen.men c.args.position.now) (g.S.Seen.turn c.args.position.now)
     (g.S.Seen.checked c.args.position.now) (g.S.Seen.stuck c.args.position.now) x)
     (ap (λ (a : Conditions). a.positions) c.self.view_is) c.is_met.ensures) c.if-is_met.false
-    (subst (AreMirrored c.in-Some.form) (ap (λ (a : Conditions). a.positions) c.self.view_is)
+    (subst (AreMirrored c.in-Some.planned) (ap (λ (a : Conditions). a.positions) c.self.view_is)
     (subst (λ o.
-    MatchOption o (AreFixed c.self.inside.plain) (λ form. AreMirrored form c.self.inside.plain))
+    MatchOption o (AreFixed c.self.inside.plain) (λ planned.
+    AreMirrored planned c.self.inside.plain))
     c.in-Some.is c.self.invariant))
     c.is_met-in-Some.ensures
 
@@ -40,5 +41,6 @@ returns-in-None g c =
     (ap (λ (a : Conditions). a.positions) c.self.view_is) c.is_met.ensures) c.if-is_met.false
     (subst AreFixed (ap (λ (a : Conditions). a.positions) c.self.view_is)
     (subst (λ o.
-    MatchOption o (AreFixed c.self.inside.plain) (λ form. AreMirrored form c.self.inside.plain))
+    MatchOption o (AreFixed c.self.inside.plain) (λ planned.
+    AreMirrored planned c.self.inside.plain))
     c.in-None.is c.self.invariant))

@@ -25,7 +25,8 @@ returns-in-None c =
     (fixed_marks c.marks.result c.args.self.now.positions
     (subst AreFixed positions
     (subst (λ o.
-    MatchOption o (AreFixed c.self.inside.plain) (λ form. AreMirrored form c.self.inside.plain))
+    MatchOption o (AreFixed c.self.inside.plain) (λ planned.
+    AreMirrored planned c.self.inside.plain))
     c.in-None.is c.self.invariant))
     (subst (λ x.
     IfSome c.marks.result (λ set. (men : Placement)

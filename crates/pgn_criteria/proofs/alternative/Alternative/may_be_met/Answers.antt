@@ -1,9 +1,9 @@
 use Rattle.std.proofs.Common.{MatchOption, ap, subst}
-use Rattle.pgn_criteria.specs.Public.Sieves.{NowhereSeen, codes_in}
+use Rattle.pgn_criteria.specs.Public.Prefilters.{NowhereSeen, codes_in}
 use Rattle.pgn_criteria.specs.Public.Conditions.{Conditions}
 use Rattle.pgn_criteria.specs.Private.Marks.{FitsSeen}
 use Rattle.pgn_criteria.specs.Private.Stages.{AllOfPatterns, AreFixed, AreMirrored}
-use Rattle.pgn_criteria.specs.Private.Tracks.{FitsPlaced, Nowhere}
+use Rattle.pgn_criteria.specs.Private.PrefilterTests.{FitsPlaced, Nowhere}
 use Rattle.pgn_criteria.proofs.MarkFacts.{placed_seen}
 use Rattle.pgn_criteria.proofs.PlacedFacts.{fixed_patterns, nowhere_mirrored}
 use Rattle.pgn_criteria.proofs.StandFacts.{nowhere_of}
@@ -24,10 +24,11 @@ returns-in-Some g c = λ none.
     (g.S.Seen.turn c.args.start.now) (g.S.Seen.checked c.args.start.now)
     (g.S.Seen.stuck c.args.start.now)
     (codes_in c.args.plies.now)
-    (nowhere_mirrored c.in-Some.form c.args.self.now.positions
-    (subst (AreMirrored c.in-Some.form) (ap (λ (a : Conditions). a.positions) c.self.view_is)
+    (nowhere_mirrored c.in-Some.planned c.args.self.now.positions
+    (subst (AreMirrored c.in-Some.planned) (ap (λ (a : Conditions). a.positions) c.self.view_is)
     (subst (λ o.
-    MatchOption o (AreFixed c.self.inside.plain) (λ form. AreMirrored form c.self.inside.plain))
+    MatchOption o (AreFixed c.self.inside.plain) (λ planned.
+    AreMirrored planned c.self.inside.plain))
     c.in-Some.is c.self.invariant))
     (g.S.Seen.men c.args.start.now) (codes_in c.args.plies.now)
     (subst (λ conditions.
@@ -48,7 +49,8 @@ returns-in-None g c = λ none.
     (fixed_patterns c.args.self.now.positions
     (subst AreFixed (ap (λ (a : Conditions). a.positions) c.self.view_is)
     (subst (λ o.
-    MatchOption o (AreFixed c.self.inside.plain) (λ form. AreMirrored form c.self.inside.plain))
+    MatchOption o (AreFixed c.self.inside.plain) (λ planned.
+    AreMirrored planned c.self.inside.plain))
     c.in-None.is c.self.invariant)))
     (subst (λ conditions.
     Nowhere (λ p. AllOfPatterns p conditions) (g.S.Seen.men c.args.start.now)

@@ -8,6 +8,6 @@ use Rattle.pgn_criteria.proofs.by_marks.MarkSet.has_told.Goals as goal
 
 pub returns : goal.returns
 returns c =
-    ap (λ n. n == 1) (shr_and_one c.args.self.bits (c.place_of.result + c.args.a / 64)
-    ∙ ap (λ n. bit_at c.args.self.bits n) (ap (λ n. n + c.args.a / 64) c.place_of.ensures
+    ap (λ n. n == 1) (shr_and_one c.args.self.flags (c.place_of.result + c.args.a / 64)
+    ∙ ap (λ n. bit_at c.args.self.flags n) (ap (λ n. n + c.args.a / 64) c.place_of.ensures
     ∙ ap (λ n. first_place c.args.turn + n) (sym (told_number c.args.a (omega arith)))))

@@ -2,16 +2,16 @@ use Rattle.std.proofs.Common.{List, length}
 use Rattle.chess.specs.declared.board.man.Side.{Side}
 use Rattle.pgn_game.specs.Public.PlyCodes.{PlyCode}
 use Rattle.pgn_criteria.specs.Public.ByMarks.{NoneMeets, IsNextMet}
-use Rattle.pgn_criteria.specs.Public.Sieves.{codes_in}
+use Rattle.pgn_criteria.specs.Public.Prefilters.{codes_in}
 use Rattle.pgn_criteria.proofs.by_marks.MarkSet.next.Given as goal
 
 abbrev pub invariant-loop-rest : goal.invariant-loop-rest
 invariant-loop-rest l = record {
-  none : NoneMeets l.self.bits l.side (codes_in l.rest)
-      → NoneMeets l.self.bits l.fn.turn (codes_in l.plies);
+  none : NoneMeets l.self.flags l.side (codes_in l.rest)
+      → NoneMeets l.self.flags l.fn.turn (codes_in l.plies);
   found : (side : Side) (left : List PlyCode)
-      → IsNextMet l.self.bits l.side (codes_in l.rest) side left
-      → IsNextMet l.self.bits l.fn.turn (codes_in l.plies) side left;
+      → IsNextMet l.self.flags l.side (codes_in l.rest) side left
+      → IsNextMet l.self.flags l.fn.turn (codes_in l.plies) side left;
 }
 
 abbrev pub decreases-loop-rest : goal.decreases-loop-rest

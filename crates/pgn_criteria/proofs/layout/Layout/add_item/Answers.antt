@@ -15,7 +15,8 @@ returns-in_ok-add_run-in-Some-Run-default c =
     let some = c.in-Some-Run-default in
     let items = c.args.items.now in
     let after = some.after.now in
-    let next = subst (λ (i : Item). IsNextItem items i after) some.field-0-0-is some.ensures.next in (
+    let next =
+    subst (λ (i : Item). IsNextItem items i after) some.field-0-0-is some.ensures.next in (
       omega arith,
       some.ensures.shorter,
       lays_step (λ p. CanBeSplit (items_of items) (drop taken (row p rank))) (λ p.
@@ -38,7 +39,8 @@ returns-else-size-taken c =
     let some = c.in-Some-Many-default in
     let items = c.args.items.now in
     let after = some.after.now in
-    let next = subst (λ (i : Item). IsNextItem items i after) some.field-0-0-is some.ensures.next in (
+    let next =
+    subst (λ (i : Item). IsNextItem items i after) some.field-0-0-is some.ensures.next in (
       omega arith,
       some.ensures.shorter,
       lays_same (λ p. CanBeSplit (items_of items) (drop taken (row p rank))) (λ p.

@@ -22,14 +22,14 @@ loop-alternative-preserved g c =
           let so_far = c.loop-alternative.invariant.held P check stuck marks replay ply in
           elim c.if-is_of_heading.branch [
             | then-is_of_heading w ↦
-                rw w.bits-is
-                (held_on heading replay ply P check stuck marks c.loop-alternative.bits
+                rw w.flags-is
+                (held_on heading replay ply P check stuck marks c.loop-alternative.flags
                 c.in-Some.own (drop i all) (drop (i + 1) all) c.args.self.now own front so_far
                 (c.is_of_heading.ensures.0 w.if-is_of_heading.true) tells.0
                 (tells.1 P.men P.turn check stuck))
             | else-is_of_heading w ↦
-                rw w.bits-is
-                (held_without heading replay ply P check stuck marks c.loop-alternative.bits
+                rw w.flags-is
+                (held_without heading replay ply P check stuck marks c.loop-alternative.flags
                 c.in-Some.own (drop i all) (drop (i + 1) all) c.args.self.now own front so_far
                 c.is_of_heading.result w.if-is_of_heading.false c.is_of_heading.ensures)
           ];
@@ -40,7 +40,7 @@ returns g c P check stuck marks replay ply =
     let heading : Heading = g.H.Headed.heading c.args.game.now in
     let all = c.deref-alternative-items.result.now in
     let end : c.loop-alternative.alternative-index ≡ length all = omega arith in
-    held_end heading replay ply P check stuck marks c.loop-alternative.bits
+    held_end heading replay ply P check stuck marks c.loop-alternative.flags
     (drop c.loop-alternative.alternative-index all) c.args.self.now
     (ap (λ n. drop n all) end ∙ drop-length all)
     (c.loop-alternative.invariant.held P check stuck marks replay ply)

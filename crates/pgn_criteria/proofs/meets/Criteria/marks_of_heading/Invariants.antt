@@ -11,7 +11,7 @@ abbrev pub invariant-loop-alternative : goal.invariant-loop-alternative
 invariant-loop-alternative g l = record {
   good : AllGood (drop l.alternative-index l.alternative-items);
   held : (P : State) (check stuck : Bool) → AreMarks P check stuck → (replay : Replay) (ply : ℕ)
-      → (IsTrue (has_marks l.bits P.turn check stuck)
+      → (IsTrue (has_marks l.flags P.turn check stuck)
       ⊎ SomeHold (g.H.Headed.heading l.game) replay ply P
       (drop l.alternative-index l.alternative-items))
       ↔ SomeHold (g.H.Headed.heading l.game) replay ply P l.self;

@@ -19,5 +19,5 @@ returns c =
     let heading : heading_of_raw c.args.record.now ≡ heading_of game =
     ap heading_of_raw (sym shows) ∙ raw_heading packed fits
     ∙ text_heading packed.name packed.number packed.offset game replay packed is in
-    subst (λ (h : Heading). AreMetByMarks marks.bits h c.args.self.now) heading met)
+    subst (λ (h : Heading). AreMetByMarks marks.flags h c.args.self.now) heading met)
     c.marks_of_heading.ensures

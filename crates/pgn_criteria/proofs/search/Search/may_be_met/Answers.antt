@@ -1,6 +1,6 @@
 use Rattle.std.proofs.Common.{◌≡◌, ◌+◌, [], length, drop, map, subst, sym, ap, ◌∙◌, arith}
 use Rattle.std.proofs.Math.Seq.{drop-length}
-use Rattle.pgn_criteria.specs.Public.Sieves.{MeetsSeen, NowhereSeen, codes_in}
+use Rattle.pgn_criteria.specs.Public.Prefilters.{MeetsSeen, NowhereSeen, codes_in}
 use Rattle.pgn_criteria.specs.Private.Stages.{on_positions}
 use Rattle.pgn_criteria.proofs.MarkFacts.{none_seen, one_nowhere}
 use Rattle.pgn_criteria.proofs.MeetFacts.{alternatives_from}

@@ -5,11 +5,11 @@ use Rattle.pgn_game.proofs.exports.comment.put_later.Given as goal
 
 abbrev pub invariant-loop-next : goal.invariant-loop-next
 invariant-loop-next l = record {
-  text : HasLeft l.fn.pen l.pen l.fn.out.items l.out.items
+  text : HasLeft l.fn.wrapper l.wrapper l.fn.out.items l.out.items
       (closed (map later_word (found_words l.fn.first)))
       (closed (map later_word (found_words l.next)));
   kept : (some : List ℕ) × (l.out.items ≡ l.fn.out.items ++ some);
-  width : l.pen.width ≡ l.fn.pen.width;
+  width : l.wrapper.width ≡ l.fn.wrapper.width;
   bare : IsFoundBare l.next;
 }
 

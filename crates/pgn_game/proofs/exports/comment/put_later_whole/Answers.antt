@@ -1,7 +1,7 @@
 use Rattle.std.proofs.Common.{◌≡◌, ◌++◌, ◌∷◌, false, sym, ap, ◌∙◌}
 use Rattle.pgn_game.specs.Public.Comments.{words_in, unbraced}
 use Rattle.pgn_game.specs.Private.CommentWords.{found_words, tied_words}
-use Rattle.pgn_game.specs.Private.Pens.{after_tokens}
+use Rattle.pgn_game.specs.Private.LineWrappers.{after_tokens}
 use Rattle.pgn_game.proofs.CommandFacts.{words_left}
 use Rattle.pgn_game.proofs.MovetextFacts.{grown_twice}
 use Rattle.pgn_game.proofs.exports.comment.put_later_whole.Goals as goal
@@ -13,7 +13,7 @@ loop-next-preserved c =
     let guarded = c.guarded.result in
     let puts = c.in_ok-next.ensures.text in
     let left = tied_words false (found_words c.in_ok-next.next) in
-    let pen = c.loop-next.pen in
+    let wrapper = c.loop-next.wrapper in
     let out = c.loop-next.out.items in
     let words : tied_words false (found_words c.loop-next.next) ≡ puts.0 ∷ left =
     ap (λ next. tied_words false (found_words next)) c.in-Some.is
@@ -22,7 +22,8 @@ loop-next-preserved c =
     c.is_in_command-inside.ensures c.guarded.ensures.text puts.2 in
     record {
       text = λ more. puts.1 (left ++ more)
-          ∙ ap (λ tokens. out ++ after_tokens pen.width pen.begun pen.column (tokens ++ more))
+          ∙ ap (λ tokens. out
+          ++ after_tokens wrapper.width wrapper.begun wrapper.column (tokens ++ more))
           (sym words) ∙ kept.text more;
       kept = grown_twice c.args.out.now.items out c.put_tied.new.out.items kept.kept
           c.in_ok-next.ensures.kept;

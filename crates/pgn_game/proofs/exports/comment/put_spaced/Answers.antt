@@ -1,9 +1,9 @@
 use Rattle.std.proofs.Common.{◌≡◌, ◌+◌, ◌≤◌, ◌++◌, ◌∷◌, [], length, ap, sym, ◌∙◌, subst, arith}
 use Rattle.std.proofs.Common.{append_assoc, length-append}
 use Rattle.pgn_game.specs.Public.Comments.{comment_tokens}
-use Rattle.pgn_game.specs.Private.Pens.{HasPut}
+use Rattle.pgn_game.specs.Private.LineWrappers.{HasPut}
 use Rattle.pgn_game.proofs.CommandFacts.{joined_comment}
-use Rattle.pgn_game.proofs.PenFacts.{put_at_once}
+use Rattle.pgn_game.proofs.LineWrapperFacts.{put_at_once}
 use Rattle.pgn_game.proofs.exports.comment.put_spaced.Goals as goal
 
 pub returns-clause-text : goal.returns-clause-text
@@ -13,16 +13,16 @@ returns-clause-text c commands =
     let rest = text ++ 125 ∷ [] in
     let size = length-append text (125 ∷ []) in
     let long : length (123 ∷ rest) ≡ length text + 2 = omega arith in
-    let fits : c.args.pen.now.column + 1 + length (123 ∷ rest) ≤ c.args.pen.now.width =
+    let fits : c.args.wrapper.now.column + 1 + length (123 ∷ rest) ≤ c.args.wrapper.now.width =
     omega (arith, long, c.requires.room) in
     let whole : begun ++ (123 ∷ rest) ≡ c.push-2.new.self.items =
     sym (c.in_ok-push-2.ensures.items
     ∙ ap (λ x. x ++ 125 ∷ []) (c.in_ok-extend_from_slice.ensures.items
     ∙ ap (λ x. x ++ text) c.in_ok-push.ensures.items)
     ∙ append_assoc (begun ++ 123 ∷ []) text (125 ∷ []) ∙ append_assoc begun (123 ∷ []) rest) in
-    put_at_once c.args.pen.now c.start.new.self c.args.out.now.items c.push-2.new.self.items
+    put_at_once c.args.wrapper.now c.start.new.self c.args.out.now.items c.push-2.new.self.items
     (comment_tokens commands text) 123 rest (joined_comment commands text
     ∙ c.requires.spaced) c.requires.begun fits
     (subst (λ after.
-    HasPut c.args.pen.now c.start.new.self c.args.out.now.items after ((123 ∷ rest) ∷ [])) whole
+    HasPut c.args.wrapper.now c.start.new.self c.args.out.now.items after ((123 ∷ rest) ∷ [])) whole
     (c.in_ok-start.ensures.text (123 ∷ rest) long))

@@ -2,9 +2,9 @@ use Rattle.std.proofs.Common.{◌≡◌, ◌∷◌, [], false, true, sym, subst}
 use Rattle.std.proofs.lemmas.Result.{on_ok_weaker}
 use Rattle.pgn_game.specs.Public.Comments.{words_in, comment_tokens}
 use Rattle.pgn_game.specs.Private.CommentWords.{found_words, tied_words}
-use Rattle.pgn_game.specs.Private.Pens.{HasPut}
+use Rattle.pgn_game.specs.Private.LineWrappers.{HasPut}
 use Rattle.pgn_game.proofs.CommandFacts.{whole_comment}
-use Rattle.pgn_game.proofs.PenFacts.{put_both}
+use Rattle.pgn_game.proofs.LineWrapperFacts.{put_both}
 use Rattle.pgn_game.proofs.exports.comment.put_whole.Goals as goal
 
 pub returns-clause-text : goal.returns-clause-text
@@ -20,7 +20,9 @@ returns-clause-text c =
     let between = c.put_tied.new.out.items in
     let after = c.put_later_whole.new.out.items in
     on_ok_weaker c.put_later_whole.result
-    (λ laid. subst (HasPut c.args.pen.now c.put_later_whole.new.pen before_it after) (sym all)
-    (put_both c.args.pen.now c.put_tied.new.pen c.put_later_whole.new.pen before_it between after
+    (λ laid.
+    subst (HasPut c.args.wrapper.now c.put_later_whole.new.wrapper before_it after) (sym all)
+    (put_both c.args.wrapper.now c.put_tied.new.wrapper c.put_later_whole.new.wrapper
+    before_it between after
     (puts.0 ∷ []) left puts.1 laid))
     c.put_later_whole.ensures.text

@@ -2,11 +2,11 @@ use Rattle.std.proofs.Common.{ℕ, ◌∷◌, ◌++◌, [], true, false, Vec, Gl
 use Rattle.std.proofs.lemmas.Option.{IfSome_then}
 use Rattle.std.proofs.lemmas.Result.{err_from_is_err_and}
 use Rattle.pgn_game.specs.Private.LineWalks.{Stops}
-use Rattle.pgn_game.specs.Private.Pens.{HasPut, after_tokens}
+use Rattle.pgn_game.specs.Private.LineWrappers.{HasPut, after_tokens}
 use Rattle.pgn_game.specs.Private.Steps.{StopsAt, WalksOn, shown_items}
 use Rattle.pgn_game.specs.declared.exports.movetext.MovetextWriter.{MovetextWriter}
-use Rattle.pgn_game.proofs.PenFacts.{put_both}
-use Rattle.pgn_game.proofs.MovetextFacts.{grown_twice, laid_first, pen_writes}
+use Rattle.pgn_game.proofs.LineWrapperFacts.{put_both}
+use Rattle.pgn_game.proofs.MovetextFacts.{grown_twice, laid_first, wrapper_writes}
 use Rattle.pgn_game.proofs.MovetextLines.{written_tokens, written_fault}
 use Rattle.pgn_game.proofs.exports.movetext.put_movetext.Goals as goal
 
@@ -51,9 +51,9 @@ returns-clause-text c =
     let style = c.args.style.now in
     let game = c.args.game.now in
     let stack = c.new-stack.result in
-    let pen = c.new-2.result in
+    let wrapper = c.new-2.result in
     let first : MovetextWriter =
-    record { out = c.replace.result; pen = pen; apart = true; style = style } in
+    record { out = c.replace.result; wrapper = wrapper; apart = true; style = style } in
     let last = c.walk-walked.new.visitor in
     let walked = c.in_ok-walked.ensures.walked in
     let written =
@@ -67,16 +67,16 @@ returns-clause-text c =
       after_tokens style.width false 0 tokens,
       (written.line, written.own, written.spells, written.tokens, refl),
       laid_first style.width tokens,
-      pen_writes pen c.put.new.self style.width c.args.out.now.items c.put.new.out.items
+      wrapper_writes wrapper c.put.new.self style.width c.args.out.now.items c.put.new.out.items
           c.finish.new.out.items tokens
           c.new-2.ensures.width c.new-2.ensures.begun c.new-2.ensures.column
-          (put_both pen last.pen c.put.new.self c.args.out.now.items last.out.items
+          (put_both wrapper last.wrapper c.put.new.self c.args.out.now.items last.out.items
           c.put.new.out.items written.own (game.result ∷ [])
           (subst (λ (v : Vec ℕ Global).
-          HasPut pen last.pen v.items last.out.items written.own) c.replace.ensures.value
+          HasPut wrapper last.wrapper v.items last.out.items written.own) c.replace.ensures.value
           written.put)
           (subst (λ token.
-          HasPut last.pen c.put.new.self last.out.items c.put.new.out.items (token ∷ []))
+          HasPut last.wrapper c.put.new.self last.out.items c.put.new.out.items (token ∷ []))
           c.result.ensures c.in_ok-put.ensures.text))
           c.in_ok-finish.ensures.text,
     )

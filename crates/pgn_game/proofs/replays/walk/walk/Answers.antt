@@ -15,7 +15,7 @@ loop-element-init g c =
       sticks = λ fault on. on;
       within = (omega (arith, c.requires.begun.0), subst (AreWithin 0) (sym c.requires.begun.1) tt);
       depth = omega arith;
-      kept = ([], sym (append-nil (g.V.Visitor.text c.args.visitor.now)));
+      kept = ([], sym (append-nil (g.V.StepVisitor.text c.args.visitor.now)));
     }
 
 pub step-requires : goal.step-requires
@@ -78,7 +78,7 @@ loop-element-preserved g c =
     record {
       done = (
         done.0 ++ first.0 ∷ [],
-        visits_one_more g.V.Visitor.does done.0 _ _ _ first.0 done.1 first.1,
+        visits_one_more g.V.StepVisitor.does done.0 _ _ _ first.0 done.1 first.1,
         λ more on. subst
             (WalksOn c.args.stack.now (shown_items c.args.variations 0 (map item_of elements)))
             (sym (append_assoc done.0 (first.0 ∷ []) more))
@@ -94,7 +94,8 @@ loop-element-preserved g c =
       kept = (
         l.invariant.kept.0 ++ stepped.kept.0,
         stepped.kept.1 ∙ ap (λ bytes. bytes ++ stepped.kept.0) l.invariant.kept.1
-            ∙ append_assoc (g.V.Visitor.text c.args.visitor.now) l.invariant.kept.0 stepped.kept.0,
+            ∙ append_assoc (g.V.StepVisitor.text c.args.visitor.now) l.invariant.kept.0
+            stepped.kept.0,
       );
     }
 

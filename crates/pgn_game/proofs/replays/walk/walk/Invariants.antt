@@ -7,7 +7,7 @@ use Rattle.pgn_game.proofs.replays.walk.walk.Given as goal
 abbrev pub invariant-loop-element : goal.invariant-loop-element
 invariant-loop-element g l =
     record {
-      done : (steps : List Step) × Visits g.V.Visitor.does l.fn.visitor steps l.visitor
+      done : (steps : List Step) × Visits g.V.StepVisitor.does l.fn.visitor steps l.visitor
           × ((more : List Step)
           → WalksOn l.stack
           (shown_items l.shown.variations l.shown.depth
@@ -21,5 +21,6 @@ invariant-loop-element g l =
           → StopsAt l.fn.stack (shown_items l.variations 0 (map item_of l.elements)) fault;
       within : IsWithin l.element-index l.stack;
       depth : l.shown.depth ≤ l.element-index;
-      kept : (some : List ℕ) × (g.V.Visitor.text l.visitor ≡ g.V.Visitor.text l.fn.visitor ++ some);
+      kept : (some : List ℕ)
+          × (g.V.StepVisitor.text l.visitor ≡ g.V.StepVisitor.text l.fn.visitor ++ some);
     }

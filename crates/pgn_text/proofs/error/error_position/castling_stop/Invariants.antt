@@ -1,13 +1,13 @@
 use Rattle.std.proofs.Common.{length, ◌-◌, ◌≡◌, ◌+◌, ◌≤◌, [], drop}
-use Rattle.pgn_text.specs.Public.Bytes.{is_check_mark}
+use Rattle.pgn_text.specs.Public.Bytes.{is_check_sign}
 use Rattle.pgn_text.specs.Private.PartFronts.{front_length}
 use Rattle.pgn_text.proofs.error.error_position.castling_stop.Given as goal
 
 abbrev pub invariant-loop-count : goal.invariant-loop-count
 invariant-loop-count l = record {
   within : l.count ≤ length l.text;
-  so_far : front_length is_check_mark l.word l.text
-      ≡ l.count + front_length is_check_mark [] (drop l.count l.text);
+  so_far : front_length is_check_sign l.word l.text
+      ≡ l.count + front_length is_check_sign [] (drop l.count l.text);
 }
 
 abbrev pub decreases-loop-count : goal.decreases-loop-count

@@ -1,5 +1,5 @@
 use Rattle.chess.specs.Shared.CellFacts.{on_board-men_of}
-use Rattle.chess.specs.Private.BitWords.{words_men, man_in}
+use Rattle.chess.specs.Private.Bitboards.{words_men, man_in}
 use Rattle.chess.proofs.FileFacts.{all_bits}
 use Rattle.chess.proofs.LeftFacts.{all_left}
 use Rattle.chess.proofs.board.bits.BitsBoard.attacked.Goals as goal
@@ -7,6 +7,6 @@ use Rattle.chess.proofs.board.bits.BitsBoard.attacked.Goals as goal
 pub returns : goal.returns
 returns c =
     let men = words_men c.args.self.now.words in
-    c.is_hit.ensures men
+    c.is_attacked.ensures men
     (all_left men c.args.side _ (on_board-men_of (man_in c.args.self.now.words)) all_bits)
     c.occupied.ensures

@@ -1,5 +1,5 @@
 use Rattle.std.proofs.Common.{sym, ◌∙◌}
-use Rattle.chess.specs.Private.BitWords.{words_men}
+use Rattle.chess.specs.Private.Bitboards.{words_men}
 use Rattle.chess.proofs.BoardFacts.{no_reach}
 use Rattle.chess.proofs.board.bits.BitsBoard.reach.Goals as goal
 

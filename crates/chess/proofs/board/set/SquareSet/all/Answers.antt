@@ -2,4 +2,4 @@ use Rattle.chess.proofs.FileFacts.{all_squares}
 use Rattle.chess.proofs.board.set.SquareSet.all.Goals as goal
 
 pub returns : goal.returns
-returns c = all_squares c.of_word.result c.of_word.ensures
+returns c = all_squares c.of_bitboard.result c.of_bitboard.ensures

@@ -6,23 +6,25 @@ use Rattle.std.specs.Int.{trailing_zeros}
 use Rattle.chess.specs.Shared.SquareFacts.{index_of-square_at}
 use Rattle.chess.specs.Public.Squares.{Place, IsOnBoard, index_of, square_at}
 use Rattle.chess.specs.Public.Sets.{is_in}
-use Rattle.chess.specs.Shared.SetWords.{has_bit}
+use Rattle.chess.specs.Shared.SetBitboards.{has_bit}
 use Rattle.chess.specs.Shared.SetFacts.{is_in-places_of}
 use Rattle.chess.proofs.PlaceFacts.{true_not_false}
 use Rattle.chess.proofs.board.set.SquareSet.has_some.Goals as goal
 
 pub returns : goal.returns
 returns c =
-    let word = c.self.inside.word in
-    let at = trailing_zeros w64 word in
-    let shown : (s : Place) → IsOnBoard s → is_in c.args.self.now s ≡ has_bit word (index_of s) =
+    let bitboard = c.self.inside.bitboard in
+    let at = trailing_zeros w64 bitboard in
+    let shown : (s : Place) → IsOnBoard s → is_in c.args.self.now s
+    ≡ has_bit bitboard (index_of s) =
     λ s on_board.
-    ap (λ set. is_in set s) (sym c.self.view_is) ∙ is_in-places_of (has_bit word) s on_board in (
-      (λ e. elim (cases_eq word 0) [
+    ap (λ set. is_in set s) (sym c.self.view_is)
+    ∙ is_in-places_of (has_bit bitboard) s on_board in (
+      (λ e. elim (cases_eq bitboard 0) [
         | inl zero ↦ absurd
-            (true_not_false (not (nat_eq word 0)) e (ap (λ n. not (nat_eq n 0)) zero))
+            (true_not_false (not (nat_eq bitboard 0)) e (ap (λ n. not (nat_eq n 0)) zero))
         | inr some ↦
-            let found = bit_at-trailing_zeros w64 word (omega arith) c.self.invariant in
+            let found = bit_at-trailing_zeros w64 bitboard (omega arith) c.self.invariant in
             let near = found.0 in
             let on_board : IsOnBoard (square_at at) =
             record {
@@ -35,11 +37,11 @@ returns c =
               square_at at,
               on_board,
               shown (square_at at) on_board
-                  ∙ ap (has_bit word) (index_of-square_at at found.0)
+                  ∙ ap (has_bit bitboard) (index_of-square_at at found.0)
                   ∙ ap (λ n. nat_eq n 1) found.1,
             )
       ]),
-      (λ h. elim (cases_eq word 0) [
+      (λ h. elim (cases_eq bitboard 0) [
         | inl zero ↦ absurd (true_not_false (is_in c.args.self.now h.0) h.2
             (shown h.0 h.1 ∙ ap (λ n. has_bit n (index_of h.0)) zero
             ∙ ap (λ n. nat_eq n 1) (bit_at-zero (index_of h.0))))

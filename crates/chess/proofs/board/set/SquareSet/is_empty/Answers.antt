@@ -1,20 +1,21 @@
 use Rattle.std.proofs.Common.{arith, sym, ap, ◌∙◌, ◌≡◌}
 use Rattle.std.proofs.lemmas.Bool.Decides.{nat_tests}
-use Rattle.chess.specs.Shared.SetWords.{places_of, has_bit}
-use Rattle.chess.specs.Shared.SetFacts.{empty_word, not_empty_word}
+use Rattle.chess.specs.Shared.SetBitboards.{places_of, has_bit}
+use Rattle.chess.specs.Shared.SetFacts.{empty_bitboard, not_empty_bitboard}
 use Rattle.chess.proofs.board.set.SquareSet.is_empty.Goals as goal
 use Rattle.std.proofs.lemmas.Bool.{cases_eq}
 use Rattle.std.proofs.Common.{inl, inr}
 
 pub returns : goal.returns
 returns c =
-    let word = c.self.inside.word in (
+    let bitboard = c.self.inside.bitboard in (
       (λ e.
-          let zero : word ≡ 0 = grind (arith, nat_tests) in
-          sym c.self.view_is ∙ ap (λ n. places_of (has_bit n)) zero ∙ empty_word),
-      (λ e. elim (cases_eq word 0) [
+          let zero : bitboard ≡ 0 = grind (arith, nat_tests) in
+          sym c.self.view_is ∙ ap (λ n. places_of (has_bit n)) zero ∙ empty_bitboard),
+      (λ e. elim (cases_eq bitboard 0) [
         | inl zero ↦ grind (arith, nat_tests)
-        | inr some ↦ absurd (not_empty_word word (omega arith) c.self.invariant (c.self.view_is
+        | inr some ↦ absurd
+            (not_empty_bitboard bitboard (omega arith) c.self.invariant (c.self.view_is
             ∙ e))
       ]),
     )

@@ -6,7 +6,7 @@ use Rattle.std.proofs.lemmas.Nat.Bits.{bit_at_and, bit_at-lt, same_from_bits_bel
 use Rattle.chess.specs.Public.Squares.{Place, index_of, square_at}
 use Rattle.chess.specs.Shared.SquareFacts.{index_of-square_at}
 use Rattle.chess.specs.Public.Sets.{is_in}
-use Rattle.chess.specs.Shared.SetWords.{has_bit, places_of}
+use Rattle.chess.specs.Shared.SetBitboards.{has_bit, places_of}
 use Rattle.chess.specs.Shared.SetFacts.{is_in-places_of, on_board-places_of, on_board-square_at}
 use Rattle.chess.proofs.board.set.SquareSet.is_within.Goals as goal
 
@@ -50,8 +50,8 @@ then_within own other fits reports =
 
 pub returns : goal.returns
 returns c =
-    let own = c.self.inside.word in
-    let other = c.other.inside.word in
+    let own = c.self.inside.bitboard in
+    let other = c.other.inside.bitboard in
     let shown : (s : Place) → is_in (places_of (has_bit own)) s ≡ is_in c.args.self.now s =
     λ s. ap (λ set. is_in set s) c.self.view_is in
     let reports : (s : Place) → is_in (places_of (has_bit other)) s ≡ is_in c.args.other.now s =

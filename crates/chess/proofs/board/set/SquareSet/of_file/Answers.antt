@@ -4,8 +4,9 @@ use Rattle.chess.proofs.board.set.SquareSet.of_file.Goals as goal
 
 pub returns-then-file-lt1 : goal.returns-then-file-lt1
 returns-then-file-lt1 c =
-    no_file c.args.file c.of_word.result c.then-file-lt1.either c.of_word.ensures
+    no_file c.args.file c.of_bitboard.result c.then-file-lt1.either c.of_bitboard.ensures
 
 pub returns : goal.returns
 returns c =
-    file_squares c.args.file c.of_word-2.result (omega arith) (omega arith) c.of_word-2.ensures
+    file_squares c.args.file c.of_bitboard-2.result (omega arith) (omega arith)
+    c.of_bitboard-2.ensures

@@ -7,7 +7,7 @@ use Rattle.chess.proofs.board.set.SquareSet.remove.Goals as goal
 
 pub returns : goal.returns
 returns c s =
-    clear_bit c.self.inside.word c.index.result s (omega (arith, c.index.ensures.below))
+    clear_bit c.self.inside.bitboard c.index.result s (omega (arith, c.index.ensures.below))
     ∙ ap (λ set. is_in set s && not (same_square s (square_at c.index.result))) c.self.view_is
     ∙ ap (λ n. is_in c.args.self.now s && not (same_square s (square_at n))) c.index.ensures.place
     ∙ ap (λ (t : Place). is_in c.args.self.now s

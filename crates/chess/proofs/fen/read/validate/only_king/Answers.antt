@@ -1,6 +1,6 @@
 use Rattle.std.proofs.Common.{subst, Option}
 use Rattle.chess.specs.Public.Squares.{Place}
-use Rattle.chess.specs.Shared.SetWords.{IsTakenFirst}
+use Rattle.chess.specs.Shared.SetBitboards.{IsTakenFirst}
 use Rattle.chess.proofs.FenFacts.{no_king, one_king}
 use Rattle.chess.proofs.fen.read.validate.only_king.Goals as goal
 

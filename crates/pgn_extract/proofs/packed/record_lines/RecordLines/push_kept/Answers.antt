@@ -75,7 +75,8 @@ returns c = (
       subst (λ (r : Replay). IsReplay Main (tag_in fen_tag game.tags) game.elements r) same
       own.is_replay in
       let at = c.loop-ply.invariant.looked game replay packed own in
-      let whole = looks_whole at (omega (arith, met.each, c.len.ensures, c.loop-ply-test.false)) in (
+      let whole =
+      looks_whole at (omega (arith, met.each, c.len.ensures, c.loop-ply-test.false)) in (
         at.finds.found,
         subst (λ (r : Replay).
             AreListed (record_aim (aim_of c.args.self.now.settings.now) raw) (raw_id raw)

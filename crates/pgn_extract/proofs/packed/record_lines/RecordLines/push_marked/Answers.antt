@@ -2,7 +2,7 @@ use Rattle.std.proofs.Common.{◌≡◌, ◌-◌, ◌++◌, ℕ, List, length, t
 use Rattle.std.proofs.Common.{◌∙◌, arith}
 use Rattle.std.specs.Prelude.{◌==◌, ◌/◌, ◌%◌}
 use Rattle.pgn_criteria.specs.Public.ByMarks.{has_marks}
-use Rattle.pgn_criteria.specs.Public.Sieves.{codes_in}
+use Rattle.pgn_criteria.specs.Public.Prefilters.{codes_in}
 use Rattle.pgn_extract.specs.Public.Aims.{aim_of}
 use Rattle.pgn_extract.specs.Private.Packed.{raw_id, record_aim}
 use Rattle.pgn_extract.proofs.MarkedFacts.{IsMarkedTo, size_of, codes_count, next_shorter}
@@ -14,7 +14,7 @@ pub loop-is_open-init : goal.loop-is_open-init
 loop-is_open-init c =
     let raw = c.args.self.now.raw.now in
     let aim = record_aim (aim_of c.args.self.now.settings.now) raw in
-    let set = c.args.marks.bits in
+    let set = c.args.marks.flags in
     let met : c.has-is_met.result
     ≡ has_marks set c.args.turn (raw.head % 2 == 1) (raw.head / 2 % 2 == 1) =
     c.has-is_met.ensures
@@ -37,7 +37,7 @@ pub overflow_sub-plies : goal.overflow_sub-plies
 overflow_sub-plies c =
     let rest = codes_in c.loop-is_open.rest.now in
     let less =
-    next_shorter c.args.marks.bits rest c.loop-is_open.side c.in-Some.next
+    next_shorter c.args.marks.flags rest c.loop-is_open.side c.in-Some.next
     (codes_in c.in-Some.after.now) c.in-Some.ensures in
     let all = codes_count c.plies-plies.result.now in
     let left = codes_count c.in-Some.after.now in
@@ -46,14 +46,14 @@ overflow_sub-plies c =
 
 pub loop-is_open-smaller : goal.loop-is_open-smaller
 loop-is_open-smaller c =
-    next_shorter c.args.marks.bits (codes_in c.loop-is_open.rest.now) c.loop-is_open.side
+    next_shorter c.args.marks.flags (codes_in c.loop-is_open.rest.now) c.loop-is_open.side
     c.in-Some.next (codes_in c.in-Some.after.now) c.in-Some.ensures
 
 pub loop-is_open-preserved : goal.loop-is_open-preserved
 loop-is_open-preserved c =
     let raw = c.args.self.now.raw.now in
     let aim = record_aim (aim_of c.args.self.now.settings.now) raw in
-    let set = c.args.marks.bits in
+    let set = c.args.marks.flags in
     let start = c.args.text.now.items in
     let rest = codes_in c.loop-is_open.rest.now in
     let after = codes_in c.in-Some.after.now in
@@ -94,7 +94,7 @@ returns-in_default c = (
       let raw = c.args.self.now.raw.now in
       let aim = record_aim (aim_of c.args.self.now.settings.now) raw in
       let rest = codes_in c.loop-is_open.rest.now in
-      pass_all own aim c.args.marks.bits (c.requires.met game replay packed own) rest
+      pass_all own aim c.args.marks.flags (c.requires.met game replay packed own) rest
       c.loop-is_open.side
       (subst (λ on.
       IsMarkedTo aim (raw_id raw) game replay packed c.loop-is_open.side rest
@@ -109,7 +109,7 @@ returns c = (
   λ game replay packed own.
       let raw = c.args.self.now.raw.now in
       let aim = record_aim (aim_of c.args.self.now.settings.now) raw in
-      marked_enough own aim c.args.marks.bits (c.requires.met game replay packed own)
+      marked_enough own aim c.args.marks.flags (c.requires.met game replay packed own)
       (codes_in c.loop-is_open.rest.now) c.loop-is_open.side
       (c.loop-is_open.invariant.marked game replay packed own) c.loop-is_open-test.false,
 )

@@ -1,5 +1,5 @@
 use Rattle.std.proofs.Common.{◌≤◌, length}
-use Rattle.pgn_criteria.specs.Public.Sieves.{codes_in}
+use Rattle.pgn_criteria.specs.Public.Prefilters.{codes_in}
 use Rattle.pgn_extract.specs.Public.Aims.{aim_of}
 use Rattle.pgn_extract.specs.Private.Packed.{raw_id, EachOfRecord, record_aim, Grows}
 use Rattle.pgn_extract.proofs.MarkedFacts.{IsMarkedTo}

@@ -1,0 +1,9 @@
+use Rattle.std.proofs.Common.{◌∙◌, sym, ap}
+use Rattle.chess.specs.Public.Sets.{is_in}
+use Rattle.chess.specs.Shared.SetBitboards.{has_bit}
+use Rattle.chess.specs.Shared.SetFacts.{is_in-places_of}
+use Rattle.chess.proofs.board.set.SquareSet.bitboard.Goals as goal
+
+pub returns : goal.returns
+returns c s on = sym (is_in-places_of (has_bit c.self.inside.bitboard) s on)
+    ∙ ap (λ set. is_in set s) c.self.view_is

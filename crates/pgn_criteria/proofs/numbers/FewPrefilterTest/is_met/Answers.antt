@@ -1,0 +1,14 @@
+use Rattle.std.proofs.Common.{◌≡◌, ◌≤◌, ℕ, IsTrue, arith, ◌∙◌}
+use Rattle.std.specs.Prelude.{nat_le}
+use Rattle.std.proofs.lemmas.Bool.Decides.{nat_tests}
+use Rattle.pgn_criteria.specs.Public.Materials.{count_of}
+use Rattle.pgn_criteria.proofs.CountFacts.{counted}
+use Rattle.pgn_criteria.proofs.numbers.FewPrefilterTest.is_met.Goals as goal
+
+by_test : (n m size most : ℕ) → n ≡ size → m ≡ most → size ≤ most → IsTrue (nat_le n m)
+by_test n m size most here there few = grind (arith, nat_tests)
+
+pub returns : goal.returns
+returns c = λ man men his known few.
+    by_test c.count.result c.from.result (count_of men man) c.args.self.now.most (c.count.ensures
+    ∙ counted men man c.args.squares.now his) c.from.ensures few

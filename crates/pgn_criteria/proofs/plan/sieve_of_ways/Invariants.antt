@@ -1,8 +1,0 @@
-use Rattle.std.proofs.Common.{drop}
-use Rattle.chess.specs.Public.Placements.{Placement}
-use Rattle.pgn_criteria.specs.Private.Planning.{AllEither}
-use Rattle.pgn_criteria.proofs.plan.sieve_of_ways.Given as goal
-
-abbrev pub invariant-loop-ways : goal.invariant-loop-ways
-invariant-loop-ways l = (men : Placement) → AllEither men l.all
-    → AllEither men (drop l.ways-index l.all)

@@ -1,9 +1,0 @@
-use Rattle.std.proofs.Common.{drop}
-use Rattle.chess.specs.Public.Placements.{Placement}
-use Rattle.pgn_criteria.specs.Private.Layouts.{AllStand}
-use Rattle.pgn_criteria.specs.Private.Tracks.{StaysOn}
-use Rattle.pgn_criteria.proofs.sieve.Stand.add_all.Given as goal
-
-abbrev pub invariant-loop-asked : goal.invariant-loop-asked
-invariant-loop-asked l = (men : Placement) → AllStand men l.all → StaysOn l.fn.self l.man men
-    → StaysOn l.self l.man men × AllStand men (drop l.asked-index l.all)

@@ -1,7 +1,0 @@
-use Rattle.pgn_criteria.proofs.TrackFacts.{has_his_number}
-use Rattle.pgn_criteria.proofs.track.has_number.Goals as goal
-
-pub returns : goal.returns
-returns c =
-    λ man his. has_his_number man c.args.own c.number_of.result c.args.number
-    c.number_of.ensures.number his

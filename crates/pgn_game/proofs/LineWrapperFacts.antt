@@ -1,0 +1,72 @@
+-- Tokens that a wrapper wrote one after another.
+use Rattle.std.proofs.Common.{◌≡◌, ◌+◌, ◌≤◌, ℕ, true, List, [], ◌∷◌, ◌++◌, length, sym, ap, subst}
+use Rattle.std.proofs.Common.{◌∙◌, arith, append_assoc, length-append}
+use Rattle.std.specs.Prelude.{nat_le}
+use Rattle.std.proofs.lemmas.Bool.Decides.{nat_tests}
+use Rattle.pgn_game.specs.Private.LineWrappers.{HasPut, added, parted, column_after, after_tokens}
+use Rattle.pgn_game.specs.Public.TextLines.{joined}
+use Rattle.pgn_game.specs.declared.exports.line_wrapper.LineWrapper.{LineWrapper}
+
+-- what was written in two goes is written in one
+pub put_both : (old middle new : LineWrapper) (before between after : List ℕ)
+    (first second : List (List ℕ))
+    → HasPut old middle before between first → HasPut middle new between after second
+    → HasPut old new before after (first ++ second)
+put_both old middle new before between after first second one other more =
+    other more ∙ one (second ++ more)
+    ∙ ap (λ tokens. before ++ after_tokens old.width old.begun old.column tokens)
+    (sym (append_assoc first second more))
+
+within : (a b : ℕ) → a ≤ b → nat_le a b ≡ true
+within a b low = grind (arith, nat_tests)
+
+-- tokens that stand together in the line that is begun are laid as one
+in_one_line : (width column : ℕ) (first : List ℕ) (rest more : List (List ℕ))
+    → column + 1 + length (joined (first ∷ rest)) ≤ width
+    → added width column (first ∷ (rest ++ more))
+    ≡ 32 ∷ (joined (first ∷ rest)
+    ++ added width (column + 1 + length (joined (first ∷ rest))) more)
+in_one_line width column first [] more fits =
+    ap (λ t. parted t first ++ added width (column_after t column (length first)) more)
+    (within (column + 1 + length first) width fits)
+in_one_line width column first (next ∷ rest) more fits =
+    let after = joined (next ∷ rest) in
+    let size = length-append first (32 ∷ after) in
+    let one_more : length (32 ∷ after) ≡ length after + 1 = omega arith in
+    let fits_first : column + 1 + length first ≤ width = omega arith in
+    let fits_rest : column + 1 + length first + 1 + length after ≤ width = omega arith in
+    let end : column + 1 + length first + 1 + length after
+    ≡ column + 1 + length (first ++ (32 ∷ after)) = omega arith in
+    ap (λ t. parted t first
+    ++ added width (column_after t column (length first)) (next ∷ (rest ++ more)))
+    (within (column + 1 + length first) width fits_first)
+    ∙ ap (λ x. 32 ∷ (first ++ x))
+    (in_one_line width (column + 1 + length first) next rest more fits_rest)
+    ∙ ap (λ x. 32
+    ∷ x) (sym (append_assoc first (32
+    ∷ after) (added width (column + 1 + length first + 1 + length after) more)))
+    ∙ ap (λ n. 32 ∷ ((first ++ (32 ∷ after)) ++ added width n more)) end
+
+put_joined : (old new : LineWrapper) (before after : List ℕ) (first : List ℕ) (rest : List (List ℕ))
+    → old.begun ≡ true
+    → old.column + 1 + length (joined (first ∷ rest)) ≤ old.width
+    → HasPut old new before after (joined (first ∷ rest) ∷ [])
+    → HasPut old new before after (first ∷ rest)
+put_joined old new before after first rest begun fits put more =
+    put more
+    ∙ ap (λ b. before ++ after_tokens old.width b old.column (joined (first ∷ rest) ∷ more))
+    begun
+    ∙ ap (λ x. before ++ x)
+    (in_one_line old.width old.column (joined (first ∷ rest)) [] more fits
+    ∙ sym (in_one_line old.width old.column first rest more fits))
+    ∙ sym (ap (λ b. before ++ after_tokens old.width b old.column (first ∷ (rest ++ more))) begun)
+
+pub put_at_once : (old new : LineWrapper) (before after : List ℕ) (tokens : List (List ℕ)) (b : ℕ)
+    (text : List ℕ) → joined tokens ≡ b ∷ text → old.begun ≡ true
+    → old.column + 1 + length (b ∷ text) ≤ old.width → HasPut old new before after ((b ∷ text) ∷ [])
+    → HasPut old new before after tokens
+put_at_once old new before after [] b text is begun fits put = absurd (cc)
+put_at_once old new before after (first ∷ rest) b text is begun fits put =
+    put_joined old new before after first rest begun
+    (subst (λ x. old.column + 1 + length x ≤ old.width) (sym is) fits)
+    (subst (λ x. HasPut old new before after (x ∷ [])) (sym is) put)

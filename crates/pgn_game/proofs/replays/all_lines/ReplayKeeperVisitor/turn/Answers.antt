@@ -1,4 +1,0 @@
-use Rattle.pgn_game.proofs.replays.all_lines.ReplayKeeperVisitor.turn.Goals as goal
-
-pub keep-requires : goal.keep-requires
-keep-requires c = record { says = (c.args.position.now, c.args.word.now, c.in_ok-turn.ensures.0) }
