@@ -121,12 +121,17 @@ _pgn_extract_command() {
         mapfile -t COMPREPLY < <(compgen -W "first longest-tags" -- "$word")
         return
         ;;
+    --by)
+        mapfile -t COMPREPLY < <(compgen -W "year eco player event White Black Round Site Result" -- "$word")
+        return
+        ;;
     --plies | --least | --jobs | --part | --sshlogin) return ;;
     esac
     case ${COMP_WORDS[0]##*/} in
     pgn-mend) options+=' --dry-run --latin-1' ;;
     pgn-tree) options+=' --plies --least --criteria --where' ;;
-    pgn-unique) options+=' --keep --report --keep-faulty' ;;
+    pgn-unique) options+=' --keep --report --keep-faulty --against --keys --near --drop-near' ;;
+    pgn-split) options+=' --by --to --force' ;;
     pgn-extract-parallel) _pgn_extract && options='--jobs --part --sshlogin' ;;
     esac
     if [[ $word == -* ]]; then
@@ -136,4 +141,4 @@ _pgn_extract_command() {
     fi
 }
 complete -o filenames -F _pgn_extract pgn-extract pgn-extract-proved
-complete -o filenames -F _pgn_extract_command pgn-extract-parallel pgn-mend pgn-tree pgn-unique
+complete -o filenames -F _pgn_extract_command pgn-extract-parallel pgn-mend pgn-split pgn-tree pgn-unique
