@@ -1,5 +1,5 @@
 //! The plies of a game that is replayed which meet criteria, found at once.
-ghost use Rattle.std.specs.Prelude.{◌≡◌, ◌∷◌, ◌++◌, [], ℕ, List, IfOk};
+ghost use Rattle.std.specs.Prelude.{◌≡◌, ◌∷◌, ◌++◌, [], ℕ, List, IfOk, length};
 ghost use Rattle.chess.specs.Public.Positions.{State};
 ghost use Rattle.pgn_text.specs.Public.GameTexts.{GameText, tag_in};
 ghost use Rattle.pgn_game.specs.Public.CodeLines.{IsLegalLine};
@@ -98,7 +98,9 @@ impl Criteria {
     ) -> Result<Vec<bool>, AllocError>
         requires shows { IsRawOfGame raw.now }
         requires legal { (start : State) × IsLegalLine start replayed.now }
-        ensures { IfOk result (λ met. (game : GameText) (replay : Replay) (packed : PackedGame)
+        ensures each { IfOk result (λ met.
+            length met.items ≡ length replayed.now.positions) }
+        ensures met { IfOk result (λ met. (game : GameText) (replay : Replay) (packed : PackedGame)
             → IsPacked packed.name packed.number packed.offset game replay packed
             → FitsRecord packed → raw_of packed ≡ raw.now
             → AreMet (heading_of game) replayed.now self.now met.items) }

@@ -1,10 +1,11 @@
 -- The entries of a line that are found so far, and one more position of it.
 use Rattle.std.proofs.Common.{◌≡◌, ◌⊎◌, ◌↔◌, ℕ, ◌+◌, ◌<◌, ◌≤◌, Bool, true, false, List, [], ◌∷◌}
-use Rattle.std.proofs.Common.{◌++◌, length, Option, Some, IsTrue, refl, sym, ap, ◌∙◌, subst}
+use Rattle.std.proofs.Common.{◌++◌, length, drop, Option, Some, IsTrue, refl, sym, ap, ◌∙◌, subst}
 use Rattle.std.proofs.Common.{append_assoc, append-nil, length-append, inl, inr, not, arith}
 use Rattle.std.proofs.lemmas.Bool.{cases_lt, both_ways, not-false, false≢true}
 use Rattle.std.proofs.lemmas.Option.{slice_get_within}
 use Rattle.std.specs.List.{slice_get}
+use Rattle.std.proofs.Math.Seq.{drop-append_seam}
 use Rattle.std.proofs.Common.{Result, Ok, Err, OnOk, IfErr}
 use Rattle.std.specs.Prelude.{MatchResult}
 use Rattle.chess.specs.Public.Positions.{State}
@@ -13,16 +14,20 @@ use Rattle.pgn_game.specs.Public.Faults.{Fault, IsFault}
 use Rattle.pgn_game.specs.Public.Starts.{fen_tag}
 use Rattle.pgn_game.specs.Public.Replays.{Replay}
 use Rattle.pgn_game.specs.declared.replays.replayer.Lines.TheVariants.{Main}
-use Rattle.pgn_criteria.specs.Public.Meeting.{heading_of}
-use Rattle.pgn_extract.specs.Public.Aims.{Aim, GameId, IsMet, IsWanted, IsEntry}
+use Rattle.pgn_criteria.specs.Public.Conditions.{Conditions}
+use Rattle.pgn_criteria.specs.Public.Meeting.{Heading, SomeHold, heading_of}
+use Rattle.pgn_criteria.proofs.MeetFacts.{meets_at}
+use Rattle.pgn_extract.specs.Public.Aims.{Aim, GameId, IsWanted, IsEntry}
 use Rattle.pgn_extract.specs.Public.GameReports.{plies_of, AreChosen, AreListed}
 use Rattle.pgn_extract.specs.Public.GameReports.AreChosen.{none, keep, leave}
 use Rattle.pgn_extract.specs.Public.Listing.{Entry, AreFields, entry_line, listing}
-use Rattle.pgn_extract.specs.Private.Finding.{IsOfGame, named_mark, AddsEntries, StopsAtFault}
-use Rattle.pgn_extract.specs.Private.Lines.{EachReplay, MeetsHere, GoesTo, NoneAfter, IsNeverMet}
-use Rattle.pgn_extract.specs.Private.Lines.{Finds, HandsOn, marked_lines, or_some}
+use Rattle.pgn_extract.specs.Private.Finding.{IsOfGame, AsksFor, named_mark, AddsEntries}
+use Rattle.pgn_extract.specs.Private.Finding.{StopsAtFault}
+use Rattle.pgn_extract.specs.Private.Lines.{EachReplay, MeetsHere, GoesTo, IsNeverMet}
+use Rattle.pgn_extract.specs.Private.Lines.{Finds, HandsOn, NoneBefore, Stands, marked_lines}
+use Rattle.pgn_extract.specs.Private.Lines.{or_some}
 use Rattle.pgn_extract.proofs.Chosen.{entry_at}
-use Rattle.pgn_extract.proofs.Picks.{leaves_all}
+use Rattle.pgn_extract.proofs.Picks.{leaves, leaves_all}
 
 pub at_seam : (before : List State) (P : State) (rest : List State)
     → slice_get (before ++ P ∷ rest) (length before) ≡ Some P
@@ -36,23 +41,51 @@ seam_within positions before P rest is =
     slice_get_within positions (length before) P
     (ap (λ ps. slice_get ps (length before)) is ∙ at_seam before P rest)
 
--- no position is asked yet: where it isn't on, nothing is met from here on
-pub finds_none : (aim : Aim) (id : GameId) (game : GameText) (Got : List Entry → Type 0) (P : State)
-    (on : Bool) → Got [] → (on ≡ false → IsNeverMet aim game [] P)
-    → ((replay : Replay) → IsOfGame game replay
-    → (rest : List State) × (replay.positions ≡ P ∷ rest))
-    → Finds aim id game Got [] on
-finds_none aim id game Got P on got off starts = record {
+-- before the first position none is wanted
+pub none_yet : (aim : Aim) (game : GameText) → NoneBefore aim game []
+none_yet aim game replay own n less = absurd (omega (arith, less))
+
+-- no position is asked yet, and none that is passed is wanted: where it isn't on, nothing is met
+-- from here on
+pub finds_none : (aim : Aim) (id : GameId) (game : GameText) (Got : List Entry → Type 0)
+    (before : List State) (P : State) (on : Bool) → Got []
+    → (on ≡ false → IsNeverMet aim game before P) → Stands game before P
+    → NoneBefore aim game before → Finds aim id game Got before on
+finds_none aim id game Got before P on got off stands unwanted = record {
   found = [];
   got = got;
   completes = λ replay own rest is later chosen.
-      subst (λ ps. AreChosen id (IsEntry aim (heading_of game) replay)
-      (AreFields aim.fields replay) (plies_of 0 ps) later) (sym is) chosen;
-  quiet = λ is first replay own rest at n less. absurd (omega arith);
+      leaves id (IsEntry aim (heading_of game) replay) (AreFields aim.fields replay) 0
+      (length before) replay.positions later
+      (λ n low high entry. unwanted replay own n (omega (arith, high)) entry.0)
+      (subst (λ n. AreChosen id (IsEntry aim (heading_of game) replay)
+      (AreFields aim.fields replay) (plies_of n (drop (length before) replay.positions)) later)
+      here
+      (subst (λ ps. AreChosen id (IsEntry aim (heading_of game) replay)
+      (AreFields aim.fields replay) (plies_of (length before) ps) later)
+      (sym (ap (drop (length before)) is ∙ drop-append_seam before rest)) chosen));
+  quiet = λ is first replay own rest at. unwanted replay own;
   shut = λ is replay own rest at n low within entry.
-      let (later, from) = starts replay own in
+      let (later, from) = stands replay own in
       off is replay own later from n low within entry.0.2;
 }
+  where
+    here : length before ≡ 0 + length before
+    here = omega arith
+
+-- what is asked of a position tells whether it is met
+pub met_here : (aim : Aim) (game : GameText) (asked : List Conditions) → AsksFor aim game asked
+    → (before : List State) (P : State) (r : Bool)
+    → ((heading : Heading) (replay : Replay) (ply : ℕ)
+    → IsTrue r ↔ SomeHold heading replay ply P asked) → MeetsHere r aim game before P
+met_here aim game asked asks before P r says replay own rest is =
+    let n = length before in
+    let here : slice_get replay.positions n ≡ Some P =
+    ap (λ ps. slice_get ps n) is ∙ at_seam before P rest in
+    let met =
+    meets_at (heading_of game) replay n asked P r here (says (heading_of game) replay n) in
+    let same = asks replay own n (seam_within replay.positions before P rest is) in
+    (λ t. same.0 (met.0 t), λ meets. met.1 (same.1 meets))
 
 -- one more position
 module _ {aim : Aim} {id : GameId} {game : GameText} {Got : List Entry → Type 0}
@@ -337,6 +370,11 @@ pub on_result : {T E : Type 0} (r : Result T E) (P : Type 0) (Q : E → Type 0) 
     → MatchResult r (λ _. P) Q
 on_result (Ok x) P Q done fails = done
 on_result (Err e) P Q done fails = fails
+
+pub on_ok_both : {T E : Type 0} (P Q : Type 0) (r : Result T E) → OnOk r P → OnOk r Q
+    → OnOk r (P × Q)
+on_ok_both P Q (Ok x) this that = (this, that)
+on_ok_both P Q (Err e) this that = tt
 
 -- the fault of a game whose text grew
 pub stops_of : (game : GameText) (old new : List ℕ) (own : Fault)

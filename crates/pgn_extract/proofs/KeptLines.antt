@@ -1,9 +1,9 @@
 -- A line that is kept stands at a position of the game, and goes on by one ply.
 use Rattle.std.proofs.Common.{◌≡◌, ◌↔◌, ◌+◌, ◌-◌, ◌<◌, ◌≤◌, ℕ, zero, suc, List, [], ◌∷◌, ◌++◌}
 use Rattle.std.proofs.Common.{length, Option, Some, Bool, true, false, IsTrue, refl, sym, ap, ◌∙◌}
-use Rattle.std.proofs.Common.{subst, append_assoc, append-nil, length-append, arith}
+use Rattle.std.proofs.Common.{subst, append_assoc, length-append, arith}
 use Rattle.std.specs.List.{slice_get}
-use Rattle.std.proofs.lemmas.Option.{same_Some, slice_get-get_or}
+use Rattle.std.proofs.lemmas.Option.{same_Some}
 use Rattle.chess.specs.Public.Moves.{after, IsLegal}
 use Rattle.chess.specs.Public.Positions.{State}
 use Rattle.chess.specs.declared.moves.Move.{Move}
@@ -19,13 +19,89 @@ use Rattle.pgn_extract.specs.Public.Aims.{Aim, GameId, IsMet, IsWanted, IsEntry}
 use Rattle.pgn_extract.specs.Public.Listing.{AreFields}
 use Rattle.pgn_extract.specs.Private.KeptLines.{IsKeptWith}
 use Rattle.pgn_extract.specs.Private.Finding.{IsOfGame, IsChosen}
-use Rattle.pgn_extract.specs.Private.Lines.{Stands, GoesTo, MeetsHere, ShowsFields, HandsOn}
+use Rattle.pgn_extract.specs.Private.Lines.{GoesTo, MeetsHere, ShowsFields, HandsOn}
 use Rattle.pgn_extract.specs.Private.Lines.{or_some}
 use Rattle.pgn_extract.specs.declared.settings.Fields.{Fields}
 use Rattle.pgn_extract.proofs.Finds.{some_chosen}
-use Rattle.pgn_extract.proofs.KeptFacts.{met_there, fields_there}
 use Rattle.pgn_extract.proofs.PackedFacts.{line_begins}
-use Rattle.pgn_extract.proofs.Sought.{one_main}
+use Rattle.pgn_extract.proofs.OneMain.{one_main, stands_main}
+use Rattle.std.proofs.Common.{None}
+use Rattle.std.proofs.lemmas.Bool.{false≢true}
+use Rattle.std.proofs.lemmas.Option.{slice_get_within, slice_get_past}
+use Rattle.std.specs.Prelude.{is_some, MatchOption, codes}
+use Rattle.chess.specs.Public.San.{IsSan}
+use Rattle.pgn_criteria.specs.Public.Meeting.{Heading, Meets, IsFirst}
+use Rattle.pgn_criteria.specs.Public.Conditions.{Conditions}
+use Rattle.pgn_criteria.proofs.OpeningFacts.{met_alike}
+use Rattle.pgn_extract.specs.Public.Exports.{HasEntry}
+use Rattle.pgn_extract.specs.Private.Finding.{ShowsPosition}
+use Rattle.pgn_extract.specs.Public.Listing.{IsFenField, IsNextMove, IsNextField}
+use Rattle.pgn_extract.proofs.FieldTexts.{IsTextAt}
+
+-- replays with the same positions and moves meet the same criteria
+pub met_there : (criteria : Option (List Conditions)) (heading : Heading) (kept other : Replay)
+    → kept.positions ≡ other.positions → kept.played ≡ other.played
+    → (ply : ℕ) → IsMet criteria heading kept ply → IsMet criteria heading other ply
+met_there None heading kept other positions played ply met = tt
+met_there (Some alternatives) heading kept other positions played ply met =
+    met_alike heading kept other positions played ply alternatives met
+
+-- and show the same
+fen_alike : (fen : Bool) (kept other : Replay) → kept.positions ≡ other.positions
+    → (ply : ℕ) (shown : List ℕ) → IsFenField fen kept ply shown → IsFenField fen other ply shown
+fen_alike false kept other same ply shown bare = bare
+fen_alike true kept other same ply shown (position, text, here, is, whole) =
+    (position, text, ap (λ ps. slice_get ps ply) (sym same) ∙ here, is, whole)
+
+next_alike : (next : Bool) (kept other : Replay) → kept.positions ≡ other.positions
+    → kept.played ≡ other.played
+    → (ply : ℕ) (shown : List ℕ) → IsNextField next kept ply shown
+    → IsNextField next other ply shown
+next_alike false kept other positions played ply shown bare = bare
+next_alike true kept other positions played ply shown (text, is, whole) = (
+  text,
+  subst (λ ms. IsNextMove other.positions ms ply text) played
+      (subst (λ ps. IsNextMove ps kept.played ply text) positions is),
+  whole,
+)
+
+pub fields_there : (fields : Fields) (kept other : Replay) → kept.positions ≡ other.positions
+    → kept.played ≡ other.played
+    → (ply : ℕ) (shown : List ℕ) → AreFields fields kept ply shown
+    → AreFields fields other ply shown
+fields_there fields kept other positions played ply shown (fen, next, of_fen, of_next, whole) = (
+  fen,
+  next,
+  fen_alike fields.fen kept other positions ply fen of_fen,
+  next_alike fields.next kept other positions played ply next of_next,
+  whole,
+)
+
+-- what is shown of a position that is kept, and of the move that is played there or of none
+pub position_shown : (fen : Bool) (replay : Replay) (ply : ℕ) (P : State) (shown : List ℕ)
+    → slice_get replay.positions ply ≡ Some P
+    → ShowsPosition fen P shown → IsFenField fen replay ply shown
+position_shown false replay ply P shown here bare = bare
+position_shown true replay ply P shown here (text, of, whole) = (P, text, here, of, whole)
+
+pub next_played : (replay : Replay) (ply : ℕ) (P : State) (m : Move) (text : List ℕ)
+    → slice_get replay.positions ply ≡ Some P
+    → slice_get replay.played ply ≡ Some m → IsSan P m text
+    → IsNextMove replay.positions replay.played ply text
+next_played replay ply P m text here played san =
+    subst (λ (o : Option Move).
+    MatchOption o (text ≡ codes "-") (IsTextAt replay.positions ply text)) (sym played) (
+      P,
+      here,
+      san,
+    )
+
+pub none_played : (replay : Replay) (ply : ℕ) → length replay.played ≤ ply
+    → IsNextMove replay.positions replay.played ply (codes "-")
+none_played replay ply past =
+    subst (λ (o : Option Move).
+    MatchOption o (codes "-" ≡ codes "-") (IsTextAt replay.positions ply (codes "-")))
+    (sym (slice_get_past replay.played ply past)) refl
 
 -- each move of a legal line is legal in the position before it
 pub legal_at : (start : State) (moves : List Move) (n : ℕ) (P : State) (m : Move)
@@ -57,12 +133,6 @@ module _ (game : GameText) (kept : Replay)
     },
   )
 
-  pub stands_kept : (before : List State) (P : State) (rest : List State)
-      → kept.positions ≡ before ++ P ∷ rest
-      → Stands game before P
-  stands_kept before P rest parts replay own =
-      (rest, sym (one_main game kept replay (Main, is) own).0 ∙ parts)
-
   pub begins_kept : (met : List Bool) (aim : Aim) → length met ≡ length kept.positions
       → ((n : ℕ) (r : Bool) → slice_get met n ≡ Some r
       → IsTrue r ↔ IsMet aim.criteria (heading_of game) kept n)
@@ -78,7 +148,7 @@ module _ (game : GameText) (kept : Replay)
           rest = rest;
           parts = parts;
           count = refl;
-          stands = stands_kept [] is.start rest parts;
+          stands = stands_main game kept is [] is.start rest parts;
         },
       )
 
@@ -144,7 +214,7 @@ module _ (kept : Replay) (met : List Bool) (ply : ℕ) (aim : Aim) (game : GameT
               parts = all;
               count = let grown = length-append before (P ∷ []) in let count = at.count in
                   omega (arith, grown, count);
-              stands = stands_kept game kept at.is_replay (before ++ P ∷ []) Q rest all;
+              stands = stands_main game kept at.is_replay (before ++ P ∷ []) Q rest all;
             },
             λ replay own later is n low high. absurd (omega (arith, low, high)),
           )
@@ -176,27 +246,96 @@ entry_alike aim game kept other own also n entry = (
         let same = one_main game one two is of in
         (low, high, met_there aim.criteria (heading_of game) one two same.0 same.1 m met)
 
--- what is handed on tells whether the game has an entry
+-- where no number is the least that has a fact, none has it
+none_least : (P : ℕ → Type 0) (size : ℕ)
+    → ((n : ℕ) → n < size → P n → ((m : ℕ) → m < n → P m → ⊥) → ⊥)
+    → (most n : ℕ) → n < most → n < size → P n → ⊥
+none_least P size least zero n less within holds = absurd (omega (arith, less))
+none_least P size least (suc most) n less within holds =
+    least n within holds
+    (λ m under. none_least P size least most m (omega (arith, less, under))
+    (omega (arith, under, within)))
+
+so_true : (b : Bool) → (b ≡ false → ⊥) → IsTrue b
+so_true true never = refl
+so_true false never = absurd (never refl)
+
+-- the first entry that is handed on tells whether the game has one
 pub tells_some : (aim : Aim) (id : GameId) (game : GameText) (found : Bool)
-    → HandsOn aim id game (λ got. found ≡ or_some false got)
+    → HandsOn (record aim { first = true }) id game (λ got. found ≡ or_some false got)
     → IsChosen aim game found
 tells_some aim id game found (replay, is, entries, listed, told) = (
   (replay, is),
   λ other own.
-      let same = one_main game replay other (Main, is) own in
-      let some =
-      some_chosen id (IsEntry aim (heading_of game) replay) (AreFields aim.fields replay) 0
-      replay.positions entries listed in (
+      let same = one_main game replay other (Main, is) own in (
         λ t. let (n, low, high, entry) = some.0 (subst IsTrue told t) in (
           n,
           subst (λ ps. n < length ps) same.0 (omega (arith, high)),
-          entry_alike aim game replay other (Main, is) own n entry,
+          entry_alike aim game replay other (Main, is) own n (entry.0, λ only. entry.1 refl),
         ),
-        λ (n, within, entry). subst IsTrue (sym told) (some.1 (
-          n,
-          omega arith,
-          (let less = subst (λ ps. n < length ps) (sym same.0) within in omega (arith, less)),
-          entry_alike aim game other replay own (Main, is) n entry,
-        )),
+        λ (n, within, entry). so_true found (λ fails.
+            none_least (IsWanted aim (heading_of game) replay) (length replay.positions)
+            (λ m less wanted first.
+            let t = some.1 (m, omega arith, omega (arith, less), (wanted, λ only. first)) in
+            false≢true (sym fails ∙ told ∙ t))
+            (n + 1) n (omega arith)
+            (let less = subst (λ ps. n < length ps) (sym same.0) within in omega (arith, less))
+            (entry_alike aim game other replay own (Main, is) n entry).0),
       ),
 )
+  where
+    some : IsTrue (or_some false entries)
+        ↔ ((n : ℕ) × (0 ≤ n) × (n < 0 + length replay.positions)
+        × IsEntry (record aim { first = true }) (heading_of game) replay n)
+    some =
+        some_chosen id (IsEntry (record aim { first = true }) (heading_of game) replay)
+        (AreFields aim.fields replay) 0 replay.positions entries listed
+
+-- the first ply that meets the criteria is an entry, and where none does the game has none
+pub first_entry : (aim : Aim) (game : GameText) (kept other : Replay) → IsOfGame game kept
+    → IsOfGame game other → (alternatives : List Conditions)
+    → aim.criteria ≡ Some alternatives → (found : Option ℕ)
+    → IsFirst (λ n. Meets (heading_of game) kept n alternatives) aim.min_ply aim.max_ply found
+    → IsTrue (is_some found) ↔ HasEntry aim (heading_of game) other
+first_entry aim game kept other own also alternatives given found first = of found first
+  where
+    here : (n : ℕ) → Meets (heading_of game) kept n alternatives
+        → IsMet aim.criteria (heading_of game) other n
+    here n met =
+        let same = one_main game kept other own also in
+        subst (λ (c : Option (List Conditions)).
+        IsMet c (heading_of game) other n) (sym given)
+        (met_alike (heading_of game) kept other same.0 same.1 n alternatives met)
+
+    back : (n : ℕ) → IsMet aim.criteria (heading_of game) other n
+        → Meets (heading_of game) kept n alternatives
+    back n met =
+        let same = one_main game other kept also own in
+        met_alike (heading_of game) other kept same.0 same.1 n alternatives
+        (subst (λ (c : Option (List Conditions)). IsMet c (heading_of game) other n) given met)
+
+    there : (n : ℕ) → Meets (heading_of game) kept n alternatives → n < length other.positions
+    there n met =
+        let same = one_main game kept other own also in
+        subst (λ ps. n < length ps) same.0 (slice_get_within kept.positions n met.position met.here)
+
+    of : (found : Option ℕ)
+        → IsFirst (λ n. Meets (heading_of game) kept n alternatives) aim.min_ply aim.max_ply found
+        → IsTrue (is_some found) ↔ HasEntry aim (heading_of game) other
+    of None none = (
+      λ t. absurd (false≢true t),
+      λ has. let wanted = has.2.0 in
+          absurd (none has.0 wanted.0 wanted.1 (back has.0 wanted.2)),
+    )
+    of (Some n) least = (
+      λ t. (
+        n,
+        there n least.2,
+        (
+          (least.0, least.1, here n least.2),
+          λ only m less wanted.
+              least.3 m wanted.0 less (back m wanted.2),
+        ),
+      ),
+      λ has. refl,
+    )

@@ -21,10 +21,10 @@ pub mod Gathered
 pub mod GameVerdict
 pub mod Indexed
 pub mod JoinedParts
-pub mod KeptFacts
 pub mod KeptLines
 pub mod PackedFacts
 pub mod PlayedFacts
+pub mod WalkedLines
 pub mod KeptPackedFacts
 pub mod Listed
 pub mod OneExports
@@ -34,8 +34,6 @@ pub mod PackTaken
 pub mod PackFits
 mod ShownNames
 pub mod SearchFacts
-pub mod Sifted
-pub mod MarkedFacts
 pub mod MarkOrder
 pub mod MarkLineFacts
 pub mod LinesOfMarks
@@ -44,7 +42,6 @@ pub mod OneOfThree
 pub mod OneReport
 pub mod OneVerdict
 pub mod Picks
-pub mod Found
 pub mod RestOfBlock
 pub mod Resumed
 pub mod RunProgress
@@ -65,7 +62,7 @@ pub mod RunEnds
 pub mod NoteOnce
 pub mod FirstExports
 pub mod PartsReported
-pub mod Sought
+pub mod OneMain
 pub mod TwoFiles
 pub mod RequestFacts
 pub mod RequestExamples

@@ -1,5 +1,5 @@
 -- A line that is played stands at a position of the game, and goes on by a move.
-use Rattle.std.proofs.Common.{◌≡◌, ◌+◌, ◌<◌, ◌≤◌, ℕ, List, [], ◌∷◌, ◌++◌, length, Option, None}
+use Rattle.std.proofs.Common.{◌≡◌, ◌+◌, ℕ, List, [], ◌∷◌, ◌++◌, length, Option, None}
 use Rattle.std.proofs.Common.{true, false, Bool, refl, sym, ap, ◌∙◌, subst, append_assoc}
 use Rattle.std.proofs.Common.{append-nil, length-append, inr, arith}
 use Rattle.chess.specs.Public.Positions.{State}
@@ -14,16 +14,211 @@ use Rattle.pgn_game.specs.Public.Starts.{fen_tag}
 use Rattle.pgn_game.specs.declared.replays.replayer.Lines.TheVariants.{Main}
 use Rattle.pgn_criteria.specs.Public.Meeting.{heading_of, SomeHold}
 use Rattle.pgn_criteria.specs.Public.Conditions.{Conditions}
-use Rattle.pgn_extract.specs.Public.Aims.{Aim, IsWanted}
-use Rattle.pgn_extract.specs.Private.Finding.{AsksFor, IsOfGame, IsPlayedTo, ShowsHere, StopsInLine}
+use Rattle.pgn_extract.specs.Public.Aims.{Aim}
+use Rattle.pgn_extract.specs.Private.Finding.{AsksFor, IsPlayedTo, ShowsHere, StopsInLine}
 use Rattle.pgn_extract.specs.Private.Lines.{Stands, GoesTo, NoneAfter, Where, ShowsFields, HasFault}
 use Rattle.pgn_extract.specs.Private.Lines.{IsNeverMet, Fails, aim_with}
 use Rattle.pgn_extract.specs.Public.Listing.{AreFields}
 use Rattle.pgn_extract.specs.declared.settings.Fields.{Fields}
-use Rattle.pgn_extract.specs.declared.settings.Settings.{Settings}
+use Rattle.pgn_extract.specs.declared.entries.finding.Finder.{Finder}
 use Rattle.pgn_extract.specs.Private.PlayedLines.{IsPlayedWith}
-use Rattle.pgn_extract.proofs.Found.{played_none, played_on, played_all, left_of, shows_there}
+use Rattle.pgn_extract.proofs.Finds.{at_seam}
 use Rattle.pgn_extract.proofs.PackedFacts.{line_begins}
+use Rattle.std.specs.List.{slice_get}
+use Rattle.std.specs.Prelude.{MatchOption, codes}
+use Rattle.std.proofs.Common.{Some}
+use Rattle.chess.specs.Public.Moves.{after}
+use Rattle.chess.specs.Public.San.{IsSan}
+use Rattle.pgn_game.specs.Public.MainLines.{main_words}
+use Rattle.pgn_game.specs.Public.PlayedLines.{IsNextText}
+use Rattle.pgn_game.specs.Public.Replays.{IsReplay, IsSomeReplay}
+use Rattle.pgn_game.proofs.OneReplay.{one_move, one_start}
+use Rattle.pgn_extract.specs.Private.Finding.{GoesOnWith, ShowsPosition, ShowsNext}
+use Rattle.pgn_extract.specs.Public.Listing.{IsFenField, IsNextMove, IsNextField}
+
+-- what is left after one more move
+goes_after : {old new : PlayedLine} (word : PlaysWord old new) (before positions : List State)
+    (played all : List Move)
+    → GoesOnWith old before played positions all
+    → GoesOnWith new (before ++ old.position ∷ []) (played ++ word.m ∷ []) positions all
+goes_after {old} {new} word before positions played all (later, more, line, positions_is, all_is) =
+    let split : IsMainLine old.position (word.word ∷ new.words) later more =
+    subst (λ ws. IsMainLine old.position ws later more) word.words line in
+    let same : split.0 ≡ word.m = one_move old.position word.word split.0 word.m split.5 word.named
+    in (
+      split.1,
+      split.2,
+      subst (λ s. IsMainLine s new.words split.1 split.2) (ap (λ k. after old.position k) same
+          ∙ sym word.position) split.6,
+      positions_is ∙ ap (λ ps. before ++ ps) split.3
+          ∙ sym (append_assoc before (old.position ∷ []) split.1),
+      all_is ∙ ap (λ ms. played ++ ms) (split.4 ∙ ap (λ k. k ∷ split.2) same)
+          ∙ sym (append_assoc played (word.m ∷ []) split.2),
+    )
+
+-- the line at its start
+pub played_none : {fen : Option (List ℕ)} {items : List Item} {line : PlayedLine}
+    → IsBegun fen items line → IsPlayedTo fen items line [] []
+played_none {fen} {items} {line} begun = record {
+  start = line.position;
+  is_start = begun.start;
+  count = sym begun.plies;
+  moves = sym begun.plies;
+  parts = λ positions all is. (
+    positions,
+    all,
+    subst (λ ws. IsMainLine line.position ws positions all) (sym begun.words) is,
+    refl,
+    refl,
+  );
+  completes = λ later more is. subst (λ ws. IsMainLine line.position ws later more) begun.words is;
+  faults = λ fault met. subst (λ ws. IsMoveFault line.position 0 ws fault) begun.words
+      (subst (λ n. IsMoveFault line.position n line.words fault) begun.plies met);
+}
+
+-- after one more move
+pub played_on : {fen : Option (List ℕ)} {items : List Item} {old new : PlayedLine}
+    {before : List State} {played : List Move}
+    → IsPlayedTo fen items old before played → (word : PlaysWord old new)
+    → IsPlayedTo fen items new (before ++ old.position ∷ []) (played ++ word.m ∷ [])
+played_on {fen} {items} {old} {new} {before} {played} to word = record {
+  start = to.start;
+  is_start = to.is_start;
+  count = length-append before (old.position ∷ []) ∙ ap (λ n. n + 1) to.count ∙ sym word.plies;
+  moves = length-append played (word.m ∷ []) ∙ ap (λ n. n + 1) to.moves ∙ sym word.plies;
+  parts = λ positions all is. goes_after word before positions played all
+      (to.parts positions all is);
+  completes = λ later more line.
+      subst (λ ps. IsMainLine to.start (main_words items 0) ps ((played ++ word.m ∷ []) ++ more))
+      (sym (append_assoc before (old.position ∷ []) later))
+      (subst (λ ms. IsMainLine to.start (main_words items 0) (before ++ old.position ∷ later) ms)
+      (sym (append_assoc played (word.m ∷ []) more))
+      (to.completes (old.position ∷ later) (word.m ∷ more)
+      (subst (λ ws. IsMainLine old.position ws (old.position ∷ later) (word.m ∷ more))
+      (sym word.words) (
+        word.m,
+        later,
+        more,
+        refl,
+        refl,
+        word.named,
+        subst (λ s. IsMainLine s new.words later more) word.position line,
+      ))));
+  faults = λ fault met. to.faults fault
+      (subst (λ ws. IsMoveFault old.position old.plies ws fault) (sym word.words)
+      (inr (
+        word.m,
+        word.named,
+        subst (λ s. IsMoveFault s (old.plies + 1) new.words fault) word.position
+            (subst (λ n. IsMoveFault new.position n new.words fault) word.plies met),
+      )));
+}
+
+-- after the last
+pub played_all : {fen : Option (List ℕ)} {items : List Item} {line : PlayedLine}
+    {before : List State} {played : List Move}
+    → IsPlayedTo fen items line before played → line.words ≡ []
+    → IsReplay Main fen items
+    (record { positions = before ++ line.position ∷ []; played = played; turns = [] })
+played_all {fen} {items} {line} {before} {played} to ends = record {
+  start = to.start;
+  is_start = to.is_start;
+  line = subst (λ ms. IsMainLine to.start (main_words items 0) (before ++ line.position ∷ []) ms)
+      (append-nil played)
+      (to.completes (line.position
+      ∷ []) [] (subst (λ ws. IsMainLine line.position ws (line.position ∷ []) []) (sym ends)
+      (refl, refl)));
+  turns = refl;
+}
+
+-- what is shown of a position that is reached is shown of its ply
+fen_there : (fen : Bool) (replay : Replay) (before : List State) (P : State) (rest : List State)
+    (shown : List ℕ) → replay.positions ≡ before ++ P ∷ rest
+    → ShowsPosition fen P shown → IsFenField fen replay (length before) shown
+fen_there false replay before P rest shown is bare = bare
+fen_there true replay before P rest shown is (text, of, whole) =
+    (P, text, ap (λ ps. slice_get ps (length before)) is ∙ at_seam before P rest, of, whole)
+
+-- the first move that is left of a line is the one that its next word names
+next_left : (P : State) (words : List (List ℕ)) (later : List State) (more : List Move)
+    (text : List ℕ) → IsMainLine P words later more
+    → IsNextText P words text → IsNextMove later more 0 text
+next_left P [] later more text line is =
+    subst (λ (ms : List Move). IsNextMove later ms 0 text) (sym line.1) is
+next_left P (word ∷ words) later more text (m, rest, others, later_is, more_is, named, line) (
+  own,
+  also,
+  spells,
+) =
+    subst (λ (ms : List Move). IsNextMove later ms 0 text) (sym more_is) (
+      P,
+      ap (λ ps. slice_get ps 0) later_is,
+      subst (λ k. IsSan P k text) (one_move P word own m also named) spells,
+    )
+
+at_end : {A : Type 0} (before more : List A)
+    → slice_get (before ++ more) (length before) ≡ slice_get more 0
+at_end [] more = refl
+at_end (first ∷ before) more = at_end before more
+
+-- after so many positions and moves it is the move at their ply
+next_after : (before later : List State) (played more : List Move) (text : List ℕ)
+    → length played ≡ length before
+    → IsNextMove later more 0 text
+    → IsNextMove (before ++ later) (played ++ more) (length before) text
+next_after before later played more text same is =
+    let move : slice_get (played ++ more) (length before) ≡ slice_get more 0 =
+    ap (λ n. slice_get (played ++ more) n) (sym same) ∙ at_end played more in
+    let of : Option Move → Option State → Type 0 =
+    λ a b. MatchOption a (text ≡ codes "-") (λ m. (position : State) × (b ≡ Some position)
+    × IsSan position m text) in
+    subst (λ a. of a (slice_get (before ++ later) (length before))) (sym move)
+    (subst (λ b. of (slice_get more 0) b) (sym (at_end before later)) is)
+
+-- a replay of the game goes on with what is left of the line
+pub left_of : {fen : Option (List ℕ)} {items : List Item} {line : PlayedLine} {before : List State}
+    {played : List Move} → IsPlayedTo fen items line before played
+    → (replay : Replay) → IsSomeReplay fen items replay
+    → GoesOnWith line before played replay.positions replay.played
+left_of {fen} {items} to replay (lines, is) =
+    to.parts replay.positions replay.played
+    (subst (λ s. IsMainLine s (main_words items 0) replay.positions replay.played)
+    (one_start fen is.start to.start is.is_start to.is_start) is.line)
+
+next_there : (next : Bool) {fen : Option (List ℕ)} {items : List Item} {line : PlayedLine}
+    {before : List State} {played : List Move}
+    → IsPlayedTo fen items line before played → (replay : Replay) → IsSomeReplay fen items replay
+    → (shown : List ℕ)
+    → ShowsNext next line shown → IsNextField next replay (length before) shown
+next_there false to replay own shown bare = bare
+next_there true {line = line} {before = before} {played =
+    played} to replay own shown (text, of, whole) =
+    let left = left_of to replay own in
+    let here : IsNextMove (before ++ left.0) (played ++ left.1) (length before) text =
+    next_after before left.0 played left.1 text (to.moves
+    ∙ sym to.count) (next_left line.position line.words left.0 left.1 text left.2 of) in (
+      text,
+      subst (λ (ms : List Move). IsNextMove replay.positions ms (length before) text) (sym left.4)
+          (subst (λ (ps : List State). IsNextMove ps (played ++ left.1) (length before) text)
+          (sym left.3) here),
+      whole,
+    )
+
+-- what is shown where the line stands is what its ply shows
+pub shows_there : (fields : Fields) {fen : Option (List ℕ)} {items : List Item} {line : PlayedLine}
+    {before : List State} {played : List Move}
+    → IsPlayedTo fen items line before played → (replay : Replay) → IsSomeReplay fen items replay
+    → (rest : List State)
+    → replay.positions ≡ before ++ line.position ∷ rest → (shown : List ℕ)
+    → ShowsHere fields line shown → AreFields fields replay (length before) shown
+shows_there fields {line = line} {before =
+    before} to replay own rest is shown (fen, next, of_fen, of_next, whole) = (
+      fen,
+      next,
+      fen_there fields.fen replay before line.position rest fen is of_fen,
+      next_there fields.next to replay own next of_next,
+      whole,
+    )
 
 -- each replay of the game has the positions up to the one that is reached
 pub stands_there : (game : GameText) (line : PlayedLine) (before : List State) (played : List Move)
@@ -149,12 +344,12 @@ never_met line asked none aim game before P at replay own rest is n low within m
     no_hold P m (first ∷ more) empty hold = absurd (omega arith)
 
 -- a fault from the start on is that of the game
-pub fails_at_start : (settings : Settings) (fields : Fields) (game : GameText) (line : PlayedLine)
+pub fails_at_start : (finder : Finder) (game : GameText) (line : PlayedLine)
     (asked : List Conditions)
-    → IsPlayedWith line asked (aim_with settings fields None) game [] line.position
+    → IsPlayedWith line asked (aim_with finder None) game [] line.position
     → (Grew : Type 0) (fault : Fault)
-    → Fails (λ aim own before P. IsPlayedWith line asked aim own before P) settings fields fault
+    → Fails (λ aim own before P. IsPlayedWith line asked aim own before P) finder fault
     × Grew
     → IsFault Main (tag_in fen_tag game.tags) game.elements fault × Grew
-fails_at_start settings fields game line asked at Grew fault (fails, grew) =
+fails_at_start finder game line asked at Grew fault (fails, grew) =
     (fails None game line.position at, grew)

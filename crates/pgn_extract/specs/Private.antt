@@ -5,7 +5,6 @@ pub mod Finding
 pub mod Packed
 pub mod SearchSteps
 pub mod KeptPacked
-pub mod MarkedPacked
 pub mod RunParts
 pub mod NoteTexts
 pub mod MoveNotes
@@ -18,3 +17,4 @@ pub mod KeptLines
 pub mod Lines
 pub mod Sinks
 pub mod PlayedLines
+pub mod WalkedLines

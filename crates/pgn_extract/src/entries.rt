@@ -58,6 +58,7 @@ pub fn push_entries<'a>(
     push_named_mark(&mut mark, &settings.name, own)?;
     let finder = Finder {
         settings,
+        first: settings.first,
         fields: settings.fields,
         mark,
     };
@@ -100,6 +101,7 @@ pub fn has_entry<'a>(
     };
     let finder = Finder {
         settings,
+        first: true,
         fields: Fields::NONE,
         mark: Vec::new(alloc),
     };

@@ -1,36 +1,39 @@
 //! The entries of a packed game: a walk over the codes of its plies shows its positions.
-ghost use Rattle.std.specs.Prelude.{◌≡◌, ◌≢◌, ◌+◌, ◌<◌, ◌≤◌, ◌++◌, ◌==◌, ◌/◌, ◌%◌, ℕ, length, true};
-ghost use Rattle.std.specs.Prelude.{false, Some, None, codes, OnOk, IfOk, IfErr};
+ghost use Rattle.std.specs.Prelude.{◌≡◌, ◌≢◌, ◌++◌, true, Some, None, codes, OnOk, IfOk, IfErr};
+ghost use Rattle.std.specs.Prelude.{MatchOption};
 ghost use Rattle.pgn_text.specs.Public.GameTexts.{tag_in};
 ghost use Rattle.pgn_game.specs.Public.Faults.{Fault};
 ghost use Rattle.pgn_game.specs.Public.Replays.{fault_of};
 ghost use Rattle.pgn_game.specs.Public.Starts.{fen_tag};
 ghost use Rattle.pgn_game.specs.Public.PackReading.{IsRawOfGame};
-ghost use Rattle.pgn_extract.specs.Public.Aims.{aim_of};
-ghost use Rattle.pgn_extract.specs.Private.Finding.{named_mark, AsksFor};
+ghost use Rattle.pgn_extract.specs.Public.Aims.{Aim, aim_of};
+ghost use Rattle.pgn_extract.specs.Private.Finding.{named_mark};
 ghost use Rattle.pgn_extract.specs.Public.Index.{mark_line, titled};
 ghost use Rattle.pgn_extract.specs.Public.Listing.{is_plain};
-ghost use Rattle.pgn_criteria.specs.Public.ByMarks.{has_marks, NoneMeets};
 ghost use Rattle.pgn_criteria.specs.Public.Meeting.{heading_of};
 ghost use Rattle.pgn_criteria.specs.Public.Prefilters.{codes_in};
-ghost use Rattle.pgn_extract.specs.Private.MarkedPacked.{StartsWith, AreMetWith};
 ghost use Rattle.pgn_extract.specs.Private.Packed.{raw_id, PutsRecord, LeavesRecord, EachOfRecord};
-ghost use Rattle.pgn_extract.specs.Private.Packed.{HasNoText, record_aim, Grows, ShowsInitial};
-ghost use Rattle.pgn_extract.specs.Private.Packed.{StartsThere, GoesOnSeen, ListsRecord};
+ghost use Rattle.pgn_extract.specs.Private.Packed.{HasNoText, ShowsInitial, StartsThere};
+ghost use Rattle.pgn_extract.specs.Private.Packed.{StartsWith};
+ghost use Rattle.pgn_extract.specs.Private.Packed.{NoneInRecord, StandsInRecord, ListsRecord};
+ghost use Rattle.pgn_extract.specs.Private.WalkedLines.{AreMetWith, IsMarkedWith};
 
 mod kept_packed;
-mod marked_packed;
-mod record_lines;
+mod marked;
 pub(crate) mod searching;
+mod walked;
 
+use crate::entries::finding::Finder;
+use crate::entries::line::Line;
 use crate::entries::listing::push_lines;
 use crate::marks::GameId;
-use crate::output::texts::{MARK_ROOM, push_entry, push_mark};
+use crate::output::texts::{MARK_ROOM, push_mark};
 use crate::packed::kept_packed::push_kept_record;
-use crate::packed::record_lines::RecordLines;
+use crate::packed::marked::Marked;
+use crate::packed::walked::Walked;
 use crate::settings::{Mode, Settings};
 use chess::{Bits, Board, Side};
-use pgn_criteria::{Criteria, MarkSet, Search, Seen, Walk};
+use pgn_criteria::{Criteria, MarkSet, Seen, Walk};
 use pgn_game::pack::RawRecord;
 use pgn_game::{GameFault, given_position};
 use pgn_text::is_contents;
@@ -133,68 +136,30 @@ fn begin(alloc: Global, walk: &mut Walk<Bits>, record: &RawRecord<'_>) -> Result
     }
 }
 
-/// What is asked of the positions of a packed game, and what the lines of its entries begin with.
-#[derive(Drop)]
-struct Walker<'s, 'r, 'a> {
-    settings: &'s Settings,
-    record: &'r RawRecord<'a>,
-    search: Search<'a>,
-    mark: Vec<u8>,
-}
-
-impl<'s, 'r, 'a> Walker<'s, 'r, 'a> {
-    /// Adds the line of the ply whose position the walk shows, if it is an entry. Answers whether a
-    /// later one may be one.
-    #[inline(always)]
-    fn ask(
-        &self,
-        text: &mut Vec<u8>,
-        walk: &Walk<Bits>,
-        ply: usize,
-        is_open: bool,
-    ) -> Result<bool, AllocError>
-        requires plain { is_plain self.now.settings.now.fields ≡ true }
-        requires marked { self.now.mark.items
-            ≡ named_mark self.now.record.now.name (raw_id self.now.record.now) }
-        ensures { IfOk result (λ still. Grows text.old.items text.new.items
-            × GoesOnSeen (record_aim (aim_of self.now.settings.now) self.now.record.now)
-            (raw_id self.now.record.now)
-            self.now.search walk.now ply text.old.items text.new.items is_open still) }
-    {
-        if !is_open || ply > self.settings.max_ply as usize {
-            return Ok(false);
-        }
-        if ply < (self.settings.min_ply as usize) || !self.search.is_met(walk) {
-            return Ok(true);
-        }
-        push_entry(text, &self.mark, ply)?;
-        Ok(!self.settings.first)
-    }
-
-    /// Walks over the plies of the game, and adds the lines of its entries. It goes no further than
-    /// an entry may stand.
-    fn walk(&self, text: &mut Vec<u8>, walk: &mut Walk<Bits>) -> Result<(), AllocError>
-        requires plain { is_plain self.now.settings.now.fields ≡ true }
-        requires marked { self.now.mark.items
-            ≡ named_mark self.now.record.now.name (raw_id self.now.record.now) }
-        requires asks { EachOfRecord self.now.record.now (λ game replay packed.
-            AsksFor (aim_of self.now.settings.now) game self.now.search) }
-        requires starts { StartsThere self.now.record.now walk.old }
-        ensures { OnOk result
-            (ListsRecord (aim_of self.now.settings.now) self.now.record.now text.old.items
-            text.new.items) }
-    {
-        let plies = self.record.plies();
-        let mut is_open = self.ask(text, walk, 0, !self.search.is_empty())?;
-        for ply in 0..plies.len() / 3 {
-            if !is_open {
-                return Ok(());
-            }
-            walk.step(plies[3 * ply], plies[3 * ply + 1], plies[3 * ply + 2]);
-            is_open = self.ask(text, walk, ply + 1, is_open)?;
-        }
-        Ok(())
-    }
+/// Goes through the line of a packed game, and adds the lines of its entries.
+#[inline(never)]
+fn push_found<L: Line + Drop>(
+    text: &mut Vec<u8>,
+    alloc: Global,
+    settings: &Settings,
+    record: &RawRecord<'_>,
+    start: L,
+) -> Result<(), L::Fault>
+    requires valid { L.Valid start }
+    requires stands { StandsInRecord (L.At start) (aim_of settings.now) record.now }
+    ensures { OnOk result
+        (ListsRecord (aim_of settings.now) record.now text.old.items text.new.items) }
+{
+    let mut mark = Vec::with_capacity(alloc, MARK_ROOM)?;
+    push_record_mark(&mut mark, record)?;
+    let finder = Finder {
+        settings,
+        first: settings.first,
+        fields: settings.fields,
+        mark,
+    };
+    let mut line = start;
+    finder.find(&mut line, text, true)
 }
 
 /// The side to move where the game of the record starts.
@@ -213,15 +178,40 @@ fn side_at_start(alloc: Global, record: &RawRecord<'_>) -> Result<Side, PackedFa
     }
 }
 
-/// Whether the set has the marks of the start of the game, where that side is to move, or of a
-/// position after a ply.
-fn has_some(marks: MarkSet, turn: Side, record: &RawRecord<'_>) -> bool
-    ensures { result ≡ false
-        → (has_marks marks.flags turn (record.now.head % 2 == 1) (record.now.head / 2 % 2 == 1)
-        ≡ false) × NoneMeets marks.flags turn (codes_in record.now.plies) }
+/// The line of the game at its first position with one of the marks, if it has one. At its start
+/// that side is to move.
+#[inline(always)]
+fn first_marked<'p>(marks: MarkSet, turn: Side, record: &RawRecord<'p>) -> Option<Marked<'p>>
+    requires starts { StartsWith record.now turn }
+    ensures { (aim : Aim) → is_plain aim.fields ≡ true
+        → EachOfRecord record.now (λ game replay packed.
+        AreMetWith marks.flags (heading_of game) aim.criteria)
+        → MatchOption result (NoneInRecord aim record.now)
+        (λ line. StandsInRecord (λ own game before P.
+        IsMarkedWith line.marks.flags line.side (codes_in line.left.now) line.ply own game before P)
+        aim record.now) }
 {
-    marks.has(turn, record.in_check(), record.is_stuck())
-        || marks.next(turn, record.plies()).is_some()
+    let all = record.plies();
+    let plies = all.len() / 3;
+    if marks.has(turn, record.in_check(), record.is_stuck()) {
+        return Some(Marked {
+            marks,
+            side: turn,
+            left: all,
+            ply: 0,
+            plies,
+        });
+    }
+    let Some((side, left)) = marks.next(turn, all) else {
+        return None;
+    };
+    Some(Marked {
+        marks,
+        side,
+        left,
+        ply: plies - left.len() / 3,
+        plies,
+    })
 }
 
 /// Adds the lines of the entries of a packed game whose positions meet the criteria where they have
@@ -245,17 +235,10 @@ fn push_marked(
         Ok(turn) => turn,
         Err(fault) => return Err(fault),
     };
-    if !has_some(marks, turn, record) {
+    let Some(line) = first_marked(marks, turn, record) else {
         return Ok(());
-    }
-    let mut mark = Vec::with_capacity(alloc, MARK_ROOM)?;
-    push_record_mark(&mut mark, record)?;
-    let lines = RecordLines {
-        settings,
-        raw: record,
-        mark,
     };
-    lines.push_marked(text, marks, turn)?;
+    push_found(text, alloc, settings, record, line)?;
     Ok(())
 }
 
@@ -290,15 +273,13 @@ fn push_walked<'a>(
     if !search.may_be_met(&walk, record.plies()) {
         return Ok(());
     }
-    let mut mark = Vec::with_capacity(alloc, MARK_ROOM)?;
-    push_record_mark(&mut mark, record)?;
-    let walker = Walker {
-        settings,
-        record,
+    let line = Walked {
+        walk,
         search,
-        mark,
+        left: record.plies(),
+        ply: 0,
     };
-    walker.walk(text, &mut walk)?;
+    push_found(text, alloc, settings, record, line)?;
     Ok(())
 }
 

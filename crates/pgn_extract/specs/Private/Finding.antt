@@ -1,7 +1,7 @@
 -- The entries of a game, found while its main line is played: what is found so far, and what is
 -- left completes the whole.
-use Rattle.std.specs.Prelude.{◌≡◌, ◌↔◌, ◌<◌, ◌≤◌, ◌++◌, ◌∷◌, ℕ, Bool, true, false, List, [], length}
-use Rattle.std.specs.Prelude.{Option, Some, None, MatchOption, IsTrue, codes}
+use Rattle.std.specs.Prelude.{◌≡◌, ◌↔◌, ◌<◌, ◌++◌, ◌∷◌, ℕ, Bool, true, false, List, [], length}
+use Rattle.std.specs.Prelude.{Option, IsTrue, codes}
 use Rattle.chess.specs.Public.Fen.{IsFen}
 use Rattle.chess.specs.Public.Positions.{State}
 use Rattle.chess.specs.declared.moves.Move.{Move}
@@ -14,12 +14,12 @@ use Rattle.pgn_game.specs.Public.Replays.{Replay, IsReplay, IsSomeReplay, IsSoun
 use Rattle.pgn_game.specs.Public.Starts.{fen_tag, IsStart}
 use Rattle.pgn_game.specs.declared.replays.replayer.Lines.TheVariants.{Main}
 use Rattle.pgn_criteria.specs.Public.Meeting.{heading_of, Meets}
-use Rattle.pgn_criteria.specs.Public.Conditions.{Conditions, no_conditions}
-use Rattle.pgn_extract.specs.Public.Aims.{Aim, GameId, IsMet, IsWanted, IsEntry}
+use Rattle.pgn_criteria.specs.Public.Conditions.{Conditions}
+use Rattle.pgn_extract.specs.Public.Aims.{Aim, GameId, IsMet}
 use Rattle.pgn_extract.specs.Public.Exports.{HasEntry}
-use Rattle.pgn_extract.specs.Public.GameReports.{plies_of, AreChosen, AreListed}
+use Rattle.pgn_extract.specs.Public.GameReports.{AreListed}
 use Rattle.pgn_extract.specs.Public.Index.{mark, titled}
-use Rattle.pgn_extract.specs.Public.Listing.{Entry, AreFields, listing}
+use Rattle.pgn_extract.specs.Public.Listing.{Entry, listing}
 use Rattle.pgn_extract.specs.declared.settings.Fields.{Fields}
 
 -- the mark that a line begins with, after the name of its file where lines have one: `NAME:N@O`
@@ -30,21 +30,11 @@ named_mark name id = titled (codes ":") name ++ mark id
 abbrev pub IsOfGame : GameText → Replay → Type 0
 IsOfGame game replay = IsSomeReplay (tag_in fen_tag game.tags) game.elements replay
 
--- it is a replay of some game
-abbrev pub IsOfSomeGame : Replay → Type 0
-IsOfSomeGame replay = (game : GameText) × IsOfGame game replay
-
 -- a game is asked in place of the criteria: the same plies of its main line are met
 abbrev pub AsksFor : Aim → GameText → List Conditions → Type 0
 AsksFor aim game asked =
     (replay : Replay) → IsOfGame game replay → (ply : ℕ) → ply < length replay.positions
     → Meets (heading_of game) replay ply asked ↔ IsMet aim.criteria (heading_of game) replay ply
-
--- what is asked where criteria may be missing: then every position is met, by one alternative
--- without conditions
-abbrev pub asked_of : Option (List Conditions) → List Conditions
-asked_of None = no_conditions ∷ []
-asked_of (Some asked) = asked
 
 -- what is shown of a position where its text is asked for
 abbrev pub ShowsPosition : Bool → State → List ℕ → Type 0
@@ -105,72 +95,9 @@ pub record IsPlayedTo (fen : Option (List ℕ)) (items : List Item) (line : Play
   pub faults : (fault : Fault) → IsMoveFault line.position line.plies line.words fault
       → IsMoveFault start 0 (main_words items 0) fault
 
--- the entries at these positions are found, and their lines added; once it isn't on, no later ply
--- is an entry
-pub record Finds (aim : Aim) (id : GameId) (game : GameText) (asked : List State) (old new : List ℕ)
-    (on : Bool) : Type 0 where
-  pub found : List Entry
-  pub written : new ≡ old ++ listing aim.name found
-  pub completes : (replay : Replay) → IsOfGame game replay → (rest : List State)
-      → replay.positions ≡ asked ++ rest → (later : List Entry)
-      → AreChosen id (IsEntry aim (heading_of game) replay) (AreFields aim.fields replay)
-      (plies_of (length asked) rest) later
-      → AreListed aim id (heading_of game) replay (found ++ later)
-  pub quiet : on ≡ true → aim.first ≡ true → (replay : Replay) → IsOfGame game replay
-      → (rest : List State) → replay.positions ≡ asked ++ rest
-      → (n : ℕ) → n < length asked → IsWanted aim (heading_of game) replay n → ⊥
-  pub shut : on ≡ false → (replay : Replay) → IsOfGame game replay → (rest : List State)
-      → replay.positions ≡ asked ++ rest
-      → (n : ℕ) → length asked ≤ n → n < length replay.positions
-      → IsEntry aim (heading_of game) replay n → ⊥
-
--- at the next position no entry is left out
-abbrev pub GoesOn : Aim → GameId → List Conditions → PlayedLine → List ℕ → List ℕ → Bool → Bool
-    → Type 0
-GoesOn aim id asked line old new on still =
-    (game : GameText) → AsksFor aim game asked
-    → (before : List State) (played : List Move) (text : List ℕ)
-    → IsPlayedTo (tag_in fen_tag game.tags) game.elements line before played
-    → Finds aim id game before text old on
-    → Finds aim id game (before ++ line.position ∷ []) text new still
-
--- the main line of the game is kept, and after so many plies, of which it is said whether they are
--- met, no entry is left out
-abbrev pub GoesOnAt : Aim → GameId → Replay → ℕ → Bool → List ℕ → List ℕ → Bool → Bool → Type 0
-GoesOnAt aim id kept ply met old new on still =
-    (game : GameText) → IsOfGame game kept
-    → (IsTrue met ↔ IsMet aim.criteria (heading_of game) kept ply)
-    → (before : List State) (P : State) (rest : List State) → kept.positions ≡ before ++ P ∷ rest
-    → length before ≡ ply
-    → (text : List ℕ) → Finds aim id game before text old on
-    → Finds aim id game (before ++ P ∷ []) text new still
-
 -- the main line of the game is sound, and has an entry or has none
 abbrev pub IsChosen : Aim → GameText → Bool → Type 0
 IsChosen aim game has =
     IsSoundGame Main (tag_in fen_tag game.tags) game.elements
     × ((replay : Replay) → IsOfGame game replay
     → IsTrue has ↔ HasEntry aim (heading_of game) replay)
-
--- the position that is reached is wanted or not
-abbrev pub WantsHere : Aim → List Conditions → PlayedLine → Bool → Type 0
-WantsHere aim asked line wanted =
-    (game : GameText) → AsksFor aim game asked → (before : List State) → length before ≡ line.plies
-    → (replay : Replay) → IsOfGame game replay → (rest : List State)
-    → replay.positions ≡ before ++ line.position ∷ rest
-    → IsTrue wanted ↔ IsWanted aim (heading_of game) replay (length before)
-
--- of these positions this is the first that is wanted
-abbrev pub IsFirstWanted : Aim → GameText → List State → Option ℕ → Type 0
-IsFirstWanted aim game asked found =
-    (replay : Replay) → IsOfGame game replay → (rest : List State)
-    → replay.positions ≡ asked ++ rest → MatchOption found
-    ((n : ℕ) → n < length asked → IsWanted aim (heading_of game) replay n → ⊥)
-    (λ n. (n < length asked) × IsWanted aim (heading_of game) replay n
-    × ((m : ℕ) → m < n → IsWanted aim (heading_of game) replay m → ⊥))
-
-abbrev pub SeeksOn : Aim → List Conditions → PlayedLine → Option ℕ → Option ℕ → Type 0
-SeeksOn aim asked line found next =
-    (game : GameText) → AsksFor aim game asked → (before : List State) → length before ≡ line.plies
-    → IsFirstWanted aim game before found
-    → IsFirstWanted aim game (before ++ line.position ∷ []) next

@@ -13,7 +13,7 @@ use Rattle.pgn_extract.specs.Public.Aims.{Aim, GameId, IsMet, IsWanted, IsEntry,
 use Rattle.pgn_extract.specs.Public.GameReports.{plies_of, AreChosen, AreListed}
 use Rattle.pgn_extract.specs.Public.Listing.{Entry, AreFields}
 use Rattle.pgn_extract.specs.declared.settings.Fields.{Fields}
-use Rattle.pgn_extract.specs.declared.settings.Settings.{Settings}
+use Rattle.pgn_extract.specs.declared.entries.finding.Finder.{Finder}
 use Rattle.pgn_extract.specs.Private.Finding.{IsOfGame}
 
 -- so it is of each replay of the game that has these positions, then this one, and then others
@@ -66,6 +66,12 @@ NoneAfter aim game before P =
     (n : ℕ) → length before < n → n < length replay.positions
     → IsWanted aim (heading_of game) replay n → ⊥)
 
+-- none of the positions that are passed is wanted
+abbrev pub NoneBefore : Aim → GameText → List State → Type 0
+NoneBefore aim game before =
+    (replay : Replay) → IsOfGame game replay → (n : ℕ) → n < length before
+    → IsWanted aim (heading_of game) replay n → ⊥
+
 -- the line goes on, past positions that are not wanted; or it is sound and at its end, or none is
 -- wanted that follows, or no more is asked for
 abbrev pub GoesTo : (Aim → GameText → List State → State → Type 0) → Bool → Bool
@@ -103,27 +109,32 @@ pub record Finds (aim : Aim) (id : GameId) (game : GameText) (Got : List Entry �
       → (n : ℕ) → length asked ≤ n → n < length replay.positions
       → IsEntry aim (heading_of game) replay n → ⊥
 
--- what settings ask, with these fields, under whatever name
-abbrev pub aim_with : Settings → Fields → Option (List ℕ) → Aim
-aim_with settings fields name = record (aim_of settings) { fields = fields; name = name }
+-- what a finder looks for, under whatever name
+abbrev pub aim_with : Finder → Option (List ℕ) → Aim
+aim_with finder name =
+    record (aim_of finder.settings.now) {
+      first = finder.first;
+      fields =
+          finder.fields;
+      name = name;
+    }
 
 -- at the position that is reached no entry is left out
-abbrev pub Asks : {S : Type 0} → (S → List Entry → S → Type 0) → Settings → Fields
+abbrev pub Asks : {S : Type 0} → (S → List Entry → S → Type 0) → Finder
     → (Aim → GameText → List State → State → Type 0) → S → S → Bool → Bool → Type 0
-Asks {S} Gets settings fields At old new on still =
+Asks {S} Gets finder At old new on still =
     (name : Option (List ℕ)) (id : GameId) (game : GameText) (before : List State) (P : State)
-    → At (aim_with settings fields name) game before P → (start : S)
-    → Finds (aim_with settings fields name) id game (λ got. Gets start got old) before on
-    → Finds (aim_with settings fields name) id game (λ got. Gets start got new)
+    → At (aim_with finder name) game before P → (start : S)
+    → Finds (aim_with finder name) id game (λ got. Gets start got old) before on
+    → Finds (aim_with finder name) id game (λ got. Gets start got new)
     (before ++ P ∷ []) still
 
 -- each game at whose start the line stands has this fault
-abbrev pub Fails : (Aim → GameText → List State → State → Type 0) → Settings → Fields → Fault
-    → Type 0
-Fails At settings fields fault =
+abbrev pub Fails : (Aim → GameText → List State → State → Type 0) → Finder → Fault → Type 0
+Fails At finder fault =
     (name : Option (List ℕ)) (game : GameText) (P : State)
-    → At (aim_with settings fields name) game [] P
-    → HasFault fault (aim_with settings fields name) game [] P
+    → At (aim_with finder name) game [] P
+    → HasFault fault (aim_with finder name) game [] P
 
 -- the main line of the game is sound, and its entries are handed on
 abbrev pub HandsOn : Aim → GameId → GameText → (List Entry → Type 0) → Type 0

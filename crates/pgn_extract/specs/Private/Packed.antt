@@ -1,9 +1,10 @@
 -- The lines of a packed game: in the mode of the index its mark, else those of the entries of the
 -- text that it was packed from.
-use Rattle.std.specs.Prelude.{◌≡◌, ◌++◌, ◌∷◌, ℕ, Bool, List, [], length, Some, ◌==◌, ◌/◌, ◌%◌}
+use Rattle.std.specs.Prelude.{◌≡◌, ◌<◌, ◌++◌, ℕ, List, length, Some, ◌==◌, ◌/◌, ◌%◌}
 use Rattle.std.specs.List.{slice_get}
 use Rattle.chess.specs.Public.Positions.{State}
 use Rattle.chess.specs.Public.Start.{initial}
+use Rattle.chess.specs.declared.board.man.Side.{Side}
 use Rattle.pgn_text.specs.Public.GameTexts.{GameText, IsGameText, tag_in}
 use Rattle.pgn_game.specs.Public.PackReading.{RawRecord, raw_of}
 use Rattle.pgn_game.specs.Public.PackedGames.{PackedGame, FitsRecord, IsPacked}
@@ -12,9 +13,8 @@ use Rattle.pgn_game.specs.Public.Starts.{fen_tag}
 use Rattle.pgn_game.specs.declared.replays.replayer.Lines.TheVariants.{Main}
 use Rattle.pgn_criteria.specs.Public.Meeting.{heading_of}
 use Rattle.pgn_criteria.specs.Public.Walks.{Sight, IsSightOf}
-use Rattle.pgn_criteria.specs.Public.Conditions.{Conditions}
-use Rattle.pgn_extract.specs.Public.Aims.{Aim, GameId}
-use Rattle.pgn_extract.specs.Private.Finding.{AsksFor, Finds}
+use Rattle.pgn_extract.specs.Public.Aims.{Aim, GameId, IsWanted}
+use Rattle.pgn_extract.specs.Private.Lines.{NoneBefore}
 use Rattle.pgn_extract.specs.Public.GameReports.{AreListed}
 use Rattle.pgn_extract.specs.Public.Listing.{Entry, listing}
 use Rattle.pgn_extract.specs.Public.Searching.{AreRecordLines, IsOfNoGame}
@@ -75,20 +75,17 @@ pub record ShowsInitial (raw : RawRecord) (sight : Sight) : Type 0 where
   pub turn : sight.turn ≡ initial.turn
   pub marks : HasItsMarks raw sight
 
+-- each game that has the record starts with this side to move
+abbrev pub StartsWith : RawRecord → Side → Type 0
+StartsWith raw turn =
+    EachOfRecord raw (λ game replay packed. (P : State) × (slice_get replay.positions 0 ≡ Some P)
+    × (P.turn ≡ turn))
+
 -- the position is seen from which each game that has the record starts
 abbrev pub StartsThere : RawRecord → Sight → Type 0
 StartsThere raw sight =
     EachOfRecord raw (λ game replay packed. (P : State) × (slice_get replay.positions 0 ≡ Some P)
     × IsSightOf P sight)
-
--- at the position that is seen no entry is left out
-abbrev pub GoesOnSeen : Aim → GameId → List Conditions → Sight → ℕ → List ℕ → List ℕ → Bool → Bool
-    → Type 0
-GoesOnSeen aim id asked sight ply old new on still =
-    (game : GameText) → AsksFor aim game asked → (before : List State) (P : State)
-    → length before ≡ ply → IsSightOf P sight
-    → (text : List ℕ) → Finds aim id game before text old on
-    → Finds aim id game (before ++ P ∷ []) text new still
 
 -- the lines of the entries of each game that has the record are added
 abbrev pub ListsRecord : Aim → RawRecord → List ℕ → List ℕ → Type 0
@@ -96,3 +93,16 @@ ListsRecord aim raw old new =
     Grows old new × EachOfRecord raw (λ game replay packed.
     (entries : List Entry) × AreListed aim (raw_id raw) (heading_of game) replay entries
     × (new ≡ old ++ listing raw.name entries))
+
+-- the line stands at a position of each game that has the record, and none is wanted before it
+abbrev pub StandsInRecord : (Aim → GameText → List State → State → Type 0) → Aim → RawRecord
+    → Type 0
+StandsInRecord At aim raw =
+    EachOfRecord raw (λ game replay packed. (before : List State) × (P : State)
+    × At (record_aim aim raw) game before P × NoneBefore (record_aim aim raw) game before)
+
+-- no ply of a game that has the record is wanted
+abbrev pub NoneInRecord : Aim → RawRecord → Type 0
+NoneInRecord aim raw =
+    EachOfRecord raw (λ game replay packed. (n : ℕ) → n < length replay.positions
+    → IsWanted aim (heading_of game) replay n → ⊥)

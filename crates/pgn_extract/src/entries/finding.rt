@@ -1,20 +1,22 @@
 //! The entries of a main line, handed to a sink.
-ghost use Rattle.std.specs.Prelude.{◌≡◌, ℕ, List, [], false, Option, OnOk, IfErr, IfOk, IfSome};
+ghost use Rattle.std.specs.Prelude.{◌≡◌, ℕ, List, false, Option, OnOk, IfErr, IfOk, IfSome};
 ghost use Rattle.chess.specs.Public.Positions.{State};
 ghost use Rattle.pgn_text.specs.Public.GameTexts.{GameText};
 ghost use Rattle.pgn_extract.specs.Public.Aims.{GameId};
 ghost use Rattle.pgn_extract.specs.Private.Lines.{Where, HasFault, IsNeverMet, Asks, aim_with};
-ghost use Rattle.pgn_extract.specs.Private.Lines.{HandsOn, Fails};
+ghost use Rattle.pgn_extract.specs.Private.Lines.{HandsOn, Fails, NoneBefore};
 
 use crate::entries::line::Line;
 use crate::entries::sink::Sink;
 use crate::settings::{Fields, Settings};
 
-/// What is looked for in a main line: the bounds of settings, what is shown of each entry, and what
-/// its line begins with.
+/// What is looked for in a main line: plies within the bounds of settings that meet the criteria,
+/// or
+/// only the first of them; what is shown of each entry, and what its line begins with.
 #[derive(Drop)]
 pub(crate) struct Finder<'s> {
     pub(crate) settings: &'s Settings,
+    pub(crate) first: bool,
     pub(crate) fields: Fields,
     pub(crate) mark: Vec<u8>,
 }
@@ -25,9 +27,8 @@ impl<'s> Finder<'s> {
     fn ask<L: Line, S: Sink>(&self, line: &L, sink: &mut S, is_open: bool) -> Result<bool, L::Fault>
         requires takes { S.Takes self.now.fields }
         requires valid { L.Valid line.now }
-        ensures asked { IfOk result
-            (Asks (S.Gets self.now.mark.items) self.now.settings.now self.now.fields
-            (L.At line.now) sink.old sink.new is_open) }
+        ensures asked { IfOk result (Asks (S.Gets self.now.mark.items) self.now (L.At line.now)
+            sink.old sink.new is_open) }
         ensures fault { IfErr result (λ fault. IfSome (L.fault_of fault)
             (λ own. Where (L.At line.now) (HasFault own) × S.Grew sink.old sink.new)) }
         ensures kept { OnOk result (S.Grew sink.old sink.new) }
@@ -40,10 +41,11 @@ impl<'s> Finder<'s> {
             return Ok(true);
         }
         sink.put(&self.mark, line, self.fields)?;
-        Ok(!self.settings.first)
+        Ok(!self.first)
     }
 
-    /// Goes through the line, and hands on its entries. Where it is not open, nothing is met.
+    /// Goes on through the line from where it stands, before which none is wanted, and hands on its
+    /// entries. Where it is not open, nothing is met.
     #[inline(always)]
     pub(crate) fn find<L: Line, S: Sink>(
         &self,
@@ -54,14 +56,16 @@ impl<'s> Finder<'s> {
         requires takes { S.Takes self.now.fields }
         requires valid { L.Valid line.old }
         requires open { is_open ≡ false → Where (L.At line.old) IsNeverMet }
-        ensures found { OnOk result
-            ((name : Option (List ℕ)) (id : GameId) (game : GameText) (P : State)
-            → L.At line.old (aim_with self.now.settings.now self.now.fields name) game [] P
-            → HandsOn (aim_with self.now.settings.now self.now.fields name) id game
+        ensures found { OnOk result ((name : Option (List ℕ)) (id : GameId) (game : GameText)
+            (before : List State) (P : State)
+            → L.At line.old (aim_with self.now name) game before P
+            → NoneBefore (aim_with self.now name) game before
+            → HandsOn (aim_with self.now name) id game
             (λ got. S.Gets self.now.mark.items sink.old got sink.new)) }
         ensures fault { IfErr result (λ fault. IfSome (L.fault_of fault)
-            (λ own. Fails (L.At line.old) self.now.settings.now self.now.fields own
+            (λ own. Fails (L.At line.old) self.now own
             × S.Grew sink.old sink.new)) }
+        ensures kept { OnOk result (S.Grew sink.old sink.new) }
     {
         let mut is_open = self.ask(line, sink, is_open)?;
         while line.advance(is_open)? {

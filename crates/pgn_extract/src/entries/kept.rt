@@ -51,9 +51,9 @@ fn push_played(
 /// A main line that is kept, with what is known of each of its positions: whether it is met.
 #[derive(Drop)]
 pub(crate) struct Kept {
-    replayed: Replayed,
-    met: Vec<bool>,
-    ply: usize,
+    pub(crate) replayed: Replayed,
+    pub(crate) met: Vec<bool>,
+    pub(crate) ply: usize,
     ghost within: { ply < length met.items },
     ghost sized: { length met.items ≡ length replayed.played + 1 },
 }

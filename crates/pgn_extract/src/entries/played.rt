@@ -17,6 +17,7 @@ ghost use Rattle.pgn_extract.specs.Private.PlayedLines.{IsPlayedWith};
 use crate::entries::finding::Finder;
 use crate::entries::line::Line;
 use crate::entries::sink::Sink;
+use crate::output::texts::push_blank;
 use crate::settings::Fields;
 use pgn_criteria::Search;
 use pgn_game::{GameFault, GamePosition, MainLine};
@@ -84,7 +85,7 @@ pub(crate) fn push_fen(
         × (text.new.items ≡ text.old.items ++ shown)) }
 {
     if is_asked {
-        text.push(b' ')?;
+        push_blank(text)?;
         text.extend_from_slice(position.fen().as_bytes())?;
     }
     Ok(())
@@ -107,7 +108,7 @@ fn push_next<'a>(
     if !is_asked {
         return Ok(());
     }
-    text.extend_from_slice(b" ")?;
+    push_blank(text)?;
     line.push_next(text)
 }
 
@@ -168,7 +169,7 @@ pub(crate) fn find_played<'a, Q: Question, S: Sink>(
     requires takes { S.Takes finder.now.fields }
     requires asks { AsksFor (aim_of finder.now.settings.now) game.now (Q.asked question) }
     ensures found { OnOk result ((name : Option (List ℕ)) (id : GameId)
-        → HandsOn (aim_with finder.now.settings.now finder.now.fields name) id game.now
+        → HandsOn (aim_with finder.now name) id game.now
         (λ got. S.Gets finder.now.mark.items sink.old got sink.new)) }
     ensures fault { IfErr result (λ fault. IfSome (fault_of fault)
         (λ own. IsFault Main (tag_in fen_tag game.now.tags) game.now.elements own

@@ -8,7 +8,7 @@ ghost use Rattle.pgn_extract.specs.Private.Sinks.{PutsHere, lines_none, lines_mo
 ghost use Rattle.pgn_extract.specs.Private.Sinks.{grows_none, grows_more};
 
 use crate::entries::line::Line;
-use crate::output::texts::push_ply;
+use crate::output::texts::{end_line, push_ply};
 use crate::settings::Fields;
 
 /// What entries are handed to.
@@ -60,7 +60,7 @@ impl Sink for Vec<u8> {
     fn put<L: Line>(&mut self, mark: &[u8], line: &L, fields: Fields) -> Result<(), L::Fault> {
         push_ply(self, mark, line.ply())?;
         line.push_fields(self, fields)?;
-        self.extend_from_slice(b"\n")?;
+        end_line(self)?;
         Ok(())
     }
 

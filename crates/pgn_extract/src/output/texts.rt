@@ -1,5 +1,6 @@
 //! What a run writes, byte by byte: marks, the lines of entries, and the lines of faulty games.
 ghost use Rattle.std.specs.Prelude.{◌≡◌, ◌+◌, ◌<◌, Some, [], ◌∷◌, ◌++◌, codes, decimal, OnOk};
+ghost use Rattle.std.specs.Prelude.{OnErr};
 ghost use Rattle.pgn_game.specs.Public.Faults.{Fault};
 ghost use Rattle.pgn_game.specs.Public.Replays.{fault_of};
 ghost use Rattle.pgn_extract.specs.Private.Finding.{named_mark};
@@ -72,26 +73,43 @@ pub fn push_mark_line(
     Ok(())
 }
 
+/// Appends how the line of an entry begins: the mark of its game, a space and the ply.
+#[inline(always)]
+pub fn push_ply(text: &mut Vec<u8>, mark: &[u8], ply: usize) -> Result<(), AllocError>
+    ensures { OnOk result (text.new.items ≡ text.old.items ++ (mark.now ++ 32 ∷ decimal ply)) }
+{
+    let mut buffer = Buffer::new();
+    text.extend_from_slice(mark)?;
+    push_blank(text)?;
+    text.extend_from_slice(buffer.format(ply).as_bytes())
+}
+
+/// Appends a blank.
+#[inline(always)]
+pub fn push_blank(text: &mut Vec<u8>) -> Result<(), AllocError>
+    ensures added { OnOk result (text.new.items ≡ text.old.items ++ 32 ∷ []) }
+    ensures left { OnErr result (text.new.items ≡ text.old.items) }
+{
+    text.push(b' ')?;
+    Ok(())
+}
+
+/// Ends a line.
+#[inline(always)]
+pub fn end_line(text: &mut Vec<u8>) -> Result<(), AllocError>
+    ensures { OnOk result (text.new.items ≡ text.old.items ++ 10 ∷ []) }
+{
+    text.push(b'\n')?;
+    Ok(())
+}
+
 /// Appends the line of an entry: the mark of its game, a space and the ply.
 pub fn push_entry(text: &mut Vec<u8>, mark: &[u8], ply: usize) -> Result<(), AllocError>
     ensures { OnOk result (text.new.items ≡ text.old.items
         ++ (mark.now ++ 32 ∷ decimal ply ++ 10 ∷ [])) }
 {
-    let mut buffer = Buffer::new();
-    text.extend_from_slice(mark)?;
-    text.push(b' ')?;
-    text.extend_from_slice(buffer.format(ply).as_bytes())?;
-    text.push(b'\n')?;
-    Ok(())
-}
-
-/// Appends how the line of an entry begins: the mark of its game, a space and the ply.
-pub fn push_ply(text: &mut Vec<u8>, mark: &[u8], ply: usize) -> Result<(), AllocError>
-    ensures { OnOk result (text.new.items ≡ text.old.items ++ (mark.now ++ 32 ∷ decimal ply)) }
-{
-    text.extend_from_slice(mark)?;
-    text.extend_from_slice(b" ")?;
-    push_number(text, ply)
+    push_ply(text, mark, ply)?;
+    end_line(text)
 }
 
 /// Makes the line of an entry that of the entry at the next ply.

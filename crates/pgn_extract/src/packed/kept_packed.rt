@@ -5,20 +5,18 @@ ghost use Rattle.pgn_text.specs.Public.GameTexts.{tag_in};
 ghost use Rattle.pgn_game.specs.Public.Starts.{fen_tag};
 ghost use Rattle.pgn_game.specs.Public.PackReading.{IsRawOfGame};
 ghost use Rattle.pgn_extract.specs.Public.Aims.{aim_of};
-ghost use Rattle.pgn_extract.specs.Private.Finding.{named_mark};
 ghost use Rattle.pgn_extract.specs.Private.KeptPacked.{IsStartOf, IsKeptOf};
 ghost use Rattle.pgn_extract.specs.Public.Listing.{is_plain};
-ghost use Rattle.pgn_extract.specs.Private.Packed.{raw_id, EachOfRecord, HasNoText, ListsRecord};
+ghost use Rattle.pgn_extract.specs.Private.Packed.{EachOfRecord, HasNoText, ListsRecord};
 
-use crate::output::texts::MARK_ROOM;
-use crate::packed::record_lines::RecordLines;
-use crate::packed::{PackedFault, push_record_mark, start_fault};
+use crate::entries::kept::Kept;
+use crate::packed::{PackedFault, push_found, start_fault};
 use crate::settings::Settings;
 use pgn_criteria::Criteria;
 use pgn_game::pack::{CodesError, RawRecord, replay_codes};
 use pgn_game::{GamePosition, Replayed, given_position};
 use pgn_text::is_contents;
-use std::alloc::{AllocError, Global};
+use std::alloc::Global;
 
 /// Replays the line of the record from the position.
 fn replay_from(
@@ -68,36 +66,6 @@ fn replay_record(alloc: Global, raw: &RawRecord<'_>) -> Result<Replayed, PackedF
     }
 }
 
-impl<'s, 'r, 'a> RecordLines<'s, 'r, 'a> {
-    /// Adds the lines of the entries of the game, whose line is replayed.
-    fn push_kept(
-        &self,
-        alloc: Global,
-        text: &mut Vec<u8>,
-        criteria: &'a Criteria,
-        replayed: &Replayed,
-    ) -> Result<(), AllocError>
-        requires plain { is_plain self.now.settings.now.fields ≡ true }
-        requires criteria { self.now.settings.now.criteria ≡ Some criteria.now }
-        requires shows { IsRawOfGame self.now.raw.now }
-        requires kept { IsKeptOf self.now.raw.now replayed.now }
-        requires marked { self.now.mark.items
-            ≡ named_mark self.now.raw.now.name (raw_id self.now.raw.now) }
-        ensures { OnOk result
-            (ListsRecord (aim_of self.now.settings.now) self.now.raw.now text.old.items
-            text.new.items) }
-    {
-        let met = criteria.met_packed(alloc, self.raw, replayed)?;
-        let mut is_open = true;
-        let mut ply = 0;
-        while ply < met.len() {
-            is_open = self.ask(text, ply, met[ply], is_open)?;
-            ply += 1;
-        }
-        Ok(())
-    }
-}
-
 /// Adds the lines of the entries of a packed game by criteria. The positions of its line are kept
 /// meanwhile.
 pub fn push_kept_record<'a>(
@@ -119,13 +87,12 @@ pub fn push_kept_record<'a>(
         Ok(replayed) => replayed,
         Err(fault) => return Err(fault),
     };
-    let mut mark = Vec::with_capacity(alloc, MARK_ROOM)?;
-    push_record_mark(&mut mark, raw)?;
-    let lines = RecordLines {
-        settings,
-        raw,
-        mark,
+    let met = criteria.met_packed(alloc, raw, &replayed)?;
+    let line = Kept {
+        replayed,
+        met,
+        ply: 0,
     };
-    lines.push_kept(alloc, text, criteria, &replayed)?;
+    push_found(text, alloc, settings, raw, line)?;
     Ok(())
 }

@@ -1,9 +1,8 @@
 use Rattle.std.proofs.Common.{None, false}
 use Rattle.pgn_extract.specs.Public.Aims.{GameId, aim_of}
-use Rattle.pgn_extract.specs.Private.Lines.{aim_with}
 use Rattle.pgn_extract.proofs.KeptLines.{tells_some}
 use Rattle.pgn_extract.proofs.Picks.{asks_given}
-use Rattle.pgn_extract.proofs.Sought.{within_entry}
+use Rattle.pgn_extract.proofs.OneMain.{within_entry}
 use Rattle.pgn_extract.proofs.entries.has_entry.Goals as goal
 
 pub find_played-requires-clause-asks : goal.find_played-requires-clause-asks
@@ -25,6 +24,9 @@ any_id = record { number = 0; offset = 0 }
 
 pub returns : goal.returns
 returns c =
-    tells_some (aim_with c.args.settings.now (record { fen = false; next = false }) None) any_id
+    tells_some (record (aim_of c.args.settings.now) {
+      fields = record { fen = false; next = false };
+      name = None;
+    }) any_id
     c.args.game.now c.find_played.new.sink
     (c.in_ok-find_played.ensures.found None any_id)

@@ -1,10 +1,10 @@
-use Rattle.std.proofs.Common.{◌≡◌, ◌++◌, ap, ◌∙◌, IfSome}
+use Rattle.std.proofs.Common.{◌≡◌, ◌++◌, [], ap, ◌∙◌, IfSome}
 use Rattle.std.proofs.lemmas.Option.{IfSome_then}
 use Rattle.std.proofs.lemmas.Result.{on_ok_weaker, MatchResult-weaker}
 use Rattle.pgn_extract.specs.Public.Aims.{aim_of}
 use Rattle.pgn_game.specs.Public.Replays.{fault_of}
 use Rattle.pgn_extract.specs.Private.Finding.{named_mark, AddsEntries, StopsAtFault}
-use Rattle.pgn_extract.proofs.Finds.{adds_lines, on_result, stops_of}
+use Rattle.pgn_extract.proofs.Finds.{adds_lines, none_yet, on_result, stops_of}
 use Rattle.pgn_extract.proofs.Picks.{asks_given, none_given}
 use Rattle.pgn_extract.proofs.entries.push_entries.Goals as goal
 
@@ -48,7 +48,8 @@ returns-in_default-2 c =
     let at = c.in_ok-line.ensures.1 (aim_of settings) c.in-Some.is in
     adds_lines (aim_of settings) id c.args.game.now c.push_named_mark.new.text.items
     c.args.text.now.items c.find.new.sink.items marked
-    (c.in_ok-find.ensures.found settings.name id c.args.game.now at.0 at.1)
+    (c.in_ok-find.ensures.found settings.name id c.args.game.now [] at.0 at.1
+    (none_yet (aim_of settings) c.args.game.now))
 
 pub returns : goal.returns
 returns c =

@@ -1,4 +1,4 @@
-use Rattle.std.proofs.Common.{◌↔◌, ℕ, List, Option, refl, sym, subst}
+use Rattle.std.proofs.Common.{◌↔◌, List, Option, refl, sym, subst}
 use Rattle.std.specs.Prelude.{IsTrue}
 use Rattle.pgn_criteria.specs.Public.Prefilters.{MeetsSeen, NowhereSeen, codes_in}
 use Rattle.pgn_criteria.specs.Public.ByMarks.{has_marks}
@@ -6,8 +6,9 @@ use Rattle.pgn_criteria.specs.Public.Meeting.{heading_of}
 use Rattle.pgn_criteria.specs.Public.Conditions.{Conditions}
 use Rattle.pgn_criteria.proofs.MeetFacts.{meets_at}
 use Rattle.pgn_extract.specs.Public.Aims.{aim_of, IsMet}
-use Rattle.pgn_extract.proofs.Picks.{same_met}
-use Rattle.pgn_extract.proofs.Sifted.{lists_nothing}
+use Rattle.pgn_extract.proofs.PackedFacts.{lists_none}
+use Rattle.pgn_extract.proofs.Picks.{asks_alike}
+use Rattle.pgn_extract.proofs.WalkedLines.{walks_record, none_in_walk}
 use Rattle.pgn_extract.proofs.packed.push_walked.Goals as goal
 
 pub push_marked-requires-clause-met : goal.push_marked-requires-clause-met
@@ -22,25 +23,30 @@ push_marked-requires-clause-met c game replay packed own P check stuck marks oth
 
 pub returns-then-not-may_be_met-clause-ok : goal.returns-then-not-may_be_met-clause-ok
 returns-then-not-may_be_met-clause-ok c =
-    lists_nothing (aim_of c.args.settings.now) c.args.record.now c.in-Some-2.search c.begin.new.walk
-    c.args.text.now.items
-    (λ game replay packed own any of_game ply within.
+    let aim = aim_of c.args.settings.now in
+    let raw = c.args.record.now in
+    let walk = c.begin.new.walk in
     let found = rw c.in-Some-2.is at c.in_ok-search.ensures in
-    same_met (heading_of game) any c.args.settings.now.criteria c.args.criteria.now
-    c.in-Some-2.search ply c.requires.criteria
-    (found game replay packed own.kept own.fits own.shows any ply))
+    lists_none aim raw c.args.text.now.items
+    (none_in_walk raw aim c.in-Some-2.search walk
+    (λ game replay packed own.
+    asks_alike aim game c.args.criteria.now c.in-Some-2.search c.requires.criteria
+    (found game replay packed own.kept own.fits own.shows))
     c.in_default-begin.ensures.ok
-    (subst (λ plies.
-    NowhereSeen (MeetsSeen c.in-Some-2.search) c.begin.new.walk.men c.begin.new.walk.turn
-    (IsTrue c.begin.new.walk.check) (IsTrue c.begin.new.walk.stuck) (codes_in plies))
-    c.plies.ensures (c.may_be_met.ensures c.if-not-may_be_met.true))
+    (subst (λ plies. NowhereSeen (MeetsSeen c.in-Some-2.search) walk.men walk.turn
+    (IsTrue walk.check) (IsTrue walk.stuck) (codes_in plies))
+    c.plies.ensures (c.may_be_met.ensures c.if-not-may_be_met.true)))
 
-pub walk-requires-clause-asks : goal.walk-requires-clause-asks
-walk-requires-clause-asks c game replay packed own any of_game ply within =
+pub push_found-requires-clause-stands : goal.push_found-requires-clause-stands
+push_found-requires-clause-stands c =
+    let aim = aim_of c.args.settings.now in
     let found = rw c.in-Some-2.is at c.in_ok-search.ensures in
-    same_met (heading_of game) any c.args.settings.now.criteria c.args.criteria.now
-    c.in-Some-2.search ply c.requires.criteria
-    (found game replay packed own.kept own.fits own.shows any ply)
+    rw (c.plies-2.ensures)
+    (walks_record c.args.record.now aim c.in-Some-2.search c.begin.new.walk
+    (λ game replay packed own.
+    asks_alike aim game c.args.criteria.now c.in-Some-2.search c.requires.criteria
+    (found game replay packed own.kept own.fits own.shows))
+    c.in_default-begin.ensures.ok c.requires.plain)
 
 pub returns-in-Err-clause-err : goal.returns-in-Err-clause-err
 returns-in-Err-clause-err c is = (refl, c.in-Err.ensures.err is)

@@ -32,8 +32,11 @@ said_so : {X E : Type 0} {P Q : X → Type 0} (r : Result X E) → ((x : X) → 
 said_so (Ok x) so all = so x all
 said_so (Err e) so all = tt
 
-pub returns : goal.returns
-returns c =
+pub returns-clause-each : goal.returns-clause-each
+returns-clause-each c = said_so c.met_by.result (λ met are. are.each) c.met_by.ensures
+
+pub returns-clause-met : goal.returns-clause-met
+returns-clause-met c =
     said_so c.met_by.result
     (λ met are game replay packed is fits shows.
     let heading : heading_of_raw c.args.raw.now ≡ heading_of game =

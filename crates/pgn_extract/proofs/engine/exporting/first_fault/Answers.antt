@@ -1,7 +1,7 @@
 use Rattle.std.proofs.lemmas.Option.{IfSome_then}
 use Rattle.pgn_game.specs.Public.Replays.{fault_of}
 use Rattle.pgn_game.specs.declared.replays.replayer.Lines.TheVariants.{All}
-use Rattle.pgn_extract.proofs.Sought.{main_fault}
+use Rattle.pgn_extract.proofs.OneMain.{main_fault}
 use Rattle.pgn_extract.proofs.engine.exporting.first_fault.Goals as goal
 
 pub returns-in-Ok : goal.returns-in-Ok

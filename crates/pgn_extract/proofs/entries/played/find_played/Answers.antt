@@ -1,7 +1,8 @@
-use Rattle.std.proofs.Common.{None}
+use Rattle.std.proofs.Common.{None, []}
 use Rattle.std.proofs.lemmas.Option.{IfSome_then}
 use Rattle.std.proofs.lemmas.Result.{on_ok_weaker, MatchResult-weaker}
 use Rattle.pgn_extract.specs.Private.Lines.{aim_with}
+use Rattle.pgn_extract.proofs.Finds.{none_yet}
 use Rattle.pgn_extract.proofs.PlayedFacts.{begins_with, never_met, fails_at_start}
 use Rattle.pgn_extract.proofs.entries.played.find_played.Goals as goal
 
@@ -15,19 +16,20 @@ returns-clause-found g c =
     let asked = g.Q.Question.asked c.args.question in
     on_ok_weaker c.find.result
     (λ found name id.
-    let aim = aim_with c.args.finder.now.settings.now c.args.finder.now.fields name in
-    found name id c.args.game.now line.position
-    (begins_with c.args.game.now line asked aim c.in_ok-line.ensures c.requires.asks))
+    let aim = aim_with c.args.finder.now name in
+    found name id c.args.game.now [] line.position
+    (begins_with c.args.game.now line asked aim c.in_ok-line.ensures c.requires.asks)
+    (none_yet aim c.args.game.now))
     c.find.ensures.found
 
 pub returns-clause-fault : goal.returns-clause-fault
 returns-clause-fault g c =
     let line = c.in_ok-line.line in
     let asked = g.Q.Question.asked c.args.question in
-    let aim = aim_with c.args.finder.now.settings.now c.args.finder.now.fields None in
+    let aim = aim_with c.args.finder.now None in
     MatchResult-weaker c.find.result c.find.ensures.fault (λ done none. tt)
     (λ fault met.
     IfSome_then _ met
-    (fails_at_start c.args.finder.now.settings.now c.args.finder.now.fields c.args.game.now line
+    (fails_at_start c.args.finder.now c.args.game.now line
     asked
     (begins_with c.args.game.now line asked aim c.in_ok-line.ensures c.requires.asks) _))

@@ -1,4 +1,4 @@
-use Rattle.std.proofs.Common.{◌∷◌, ◌++◌, [], refl, sym, ap, subst, append_assoc, ◌∙◌}
+use Rattle.std.proofs.Common.{◌∷◌, ◌++◌, [], refl, sym, ap, subst, append_assoc, append-nil, ◌∙◌}
 use Rattle.std.proofs.lemmas.Result.{on_ok_weaker}
 use Rattle.pgn_extract.specs.Private.Finding.{ShowsNext}
 use Rattle.pgn_extract.proofs.entries.played.push_next.Goals as goal
@@ -13,7 +13,11 @@ returns-clause-shown c =
         next.1,
         refl,
       ),
-      next.2 ∙ ap (λ t. t ++ next.0) c.in_ok-extend_from_slice.ensures.items
+      next.2 ∙ ap (λ t. t ++ next.0) c.in_ok-push_blank.ensures.added
           ∙ append_assoc c.args.text.now.items (32 ∷ []) next.0,
     ))
     c.push_next.ensures.text
+
+pub returns-in_err-push_blank-clause-kept : goal.returns-in_err-push_blank-clause-kept
+returns-in_err-push_blank-clause-kept c =
+    ([], c.in_err-push_blank.ensures.left ∙ sym (append-nil c.args.text.now.items))

@@ -1,4 +1,4 @@
-use Rattle.std.proofs.Common.{◌∷◌, ◌++◌, [], length, refl, sym, subst, arith}
+use Rattle.std.proofs.Common.{◌∷◌, [], length, refl, subst, arith}
 use Rattle.pgn_extract.specs.Private.Lines.{aim_with}
 use Rattle.pgn_extract.proofs.Chosen.{entry_at}
 use Rattle.pgn_extract.proofs.Finds.{leaves_shut, leaves_past, leaves_unwanted, keeps_one}
@@ -28,7 +28,7 @@ returns-then-ply-self-2-clause-asked g c name id game before P at start so_far =
       | then-ply-self-2-via-then-ply-self-2 w ↦ λ replay own rest is wanted.
           let low = wanted.0 in omega (arith, count, w.if-ply-self-2.true, low)
       | then-ply-self-2-via-else-ply-self-2+then-not-is_met w ↦
-          not_wanted (aim_with c.args.self.now.settings.now c.args.self.now.fields name) game before
+          not_wanted (aim_with c.args.self.now name) game before
           P w.is_met.result (w.is_met.ensures _ game before P at) w.if-not-is_met.true
     ])
 
@@ -37,8 +37,7 @@ returns-then-ply-self-2-clause-kept g c = g.met.S.Sink.stays c.args.sink.now
 
 pub returns-clause-asked : goal.returns-clause-asked
 returns-clause-asked g c name id game before P at start so_far =
-    let settings = c.args.self.now.settings.now in
-    let aim = aim_with settings c.args.self.now.fields name in
+    let aim = aim_with c.args.self.now name in
     let mark = c.args.self.now.mark.items in
     let count = c.ply-ply.ensures aim game before P at in
     let put = c.in_ok-put.ensures.put in

@@ -1,16 +1,17 @@
-use Rattle.std.proofs.Common.{◌++◌, ◌∷◌, ℕ, [], List, Option}
+use Rattle.std.proofs.Common.{ℕ, List, Option}
 use Rattle.chess.specs.Public.Positions.{State}
 use Rattle.pgn_text.specs.Public.GameTexts.{GameText}
 use Rattle.pgn_extract.specs.Public.Aims.{GameId}
-use Rattle.pgn_extract.specs.Private.Lines.{aim_with}
+use Rattle.pgn_extract.specs.Private.Lines.{aim_with, NoneBefore}
 use Rattle.pgn_extract.proofs.Finds.{StandsFound}
 use Rattle.pgn_extract.proofs.entries.finding.Finder.find.Given as goal
 
 abbrev pub invariant-loop-line : goal.invariant-loop-line
 invariant-loop-line g l = record {
-  found : (name : Option (List ℕ)) (id : GameId) (game : GameText) (P : State)
-      → g.L.Line.At l.fn.line (aim_with l.self.settings.now l.self.fields name) game [] P
-      → StandsFound (g.L.Line.At l.line) (aim_with l.self.settings.now l.self.fields name) id game
+  found : (name : Option (List ℕ)) (id : GameId) (game : GameText) (before : List State) (P : State)
+      → g.L.Line.At l.fn.line (aim_with l.self name) game before P
+      → NoneBefore (aim_with l.self name) game before
+      → StandsFound (g.L.Line.At l.line) (aim_with l.self name) id game
       (λ got. g.S.Sink.Gets l.self.mark.items l.fn.sink got l.sink) l.is_open;
   grew : g.S.Sink.Grew l.fn.sink l.sink;
   valid : g.L.Line.Valid l.line;

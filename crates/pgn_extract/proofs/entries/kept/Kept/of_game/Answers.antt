@@ -1,4 +1,4 @@
-use Rattle.std.proofs.Common.{◌↔◌, List, ℕ, Option, IsTrue, sym, subst}
+use Rattle.std.proofs.Common.{◌↔◌, List, Option, IsTrue, sym, subst}
 use Rattle.pgn_criteria.specs.Public.Meeting.{heading_of}
 use Rattle.pgn_criteria.specs.Public.Conditions.{Conditions}
 use Rattle.pgn_extract.specs.Public.Aims.{IsMet}

@@ -1,4 +1,4 @@
-use Rattle.std.proofs.Common.{true, false, arith}
+use Rattle.std.proofs.Common.{arith}
 use Rattle.pgn_extract.proofs.KeptLines.{goes_one, ends_kept}
 use Rattle.pgn_extract.proofs.entries.kept.KeptLine.advance.Goals as goal
 use Rattle.pgn_extract.proofs.entries.kept.KeptLine.advance.Goals.{then-not-is_open-via-then-not-is_open}

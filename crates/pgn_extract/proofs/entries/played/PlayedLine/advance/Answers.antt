@@ -1,10 +1,5 @@
-use Rattle.std.proofs.Common.{◌≡◌, Bool, true, false, subst}
 use Rattle.std.proofs.lemmas.Option.{IfSome_then}
 use Rattle.std.proofs.lemmas.Result.{MatchResult-weaker}
-use Rattle.pgn_game.specs.Public.Faults.{Fault, IsMoveFault}
-use Rattle.pgn_game.specs.Public.PlayedLines.{HasAdvanced}
-use Rattle.pgn_extract.specs.Private.Lines.{Where, GoesTo, HasFault}
-use Rattle.pgn_extract.specs.Private.PlayedLines.{IsPlayedWith}
 use Rattle.pgn_extract.proofs.PlayedFacts.{moves_on, fails_moved}
 use Rattle.pgn_extract.proofs.entries.played.PlayedLine.advance.Goals as goal
 

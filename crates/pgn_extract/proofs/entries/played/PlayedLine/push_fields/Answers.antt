@@ -1,10 +1,7 @@
-use Rattle.std.proofs.Common.{◌++◌, ◌∷◌, ℕ, List, refl, ap, ◌∙◌, subst, append_assoc, ◌≡◌}
+use Rattle.std.proofs.Common.{◌++◌, refl, ap, ◌∙◌, subst, append_assoc}
 use Rattle.std.proofs.lemmas.Option.{IfSome_then}
 use Rattle.std.proofs.lemmas.Result.{on_ok_weaker, MatchResult-weaker}
-use Rattle.pgn_game.specs.Public.Faults.{Fault}
-use Rattle.pgn_extract.specs.Private.Finding.{ShowsPosition, StopsInLine}
-use Rattle.pgn_extract.specs.Private.Lines.{Where, HasFault}
-use Rattle.pgn_extract.specs.Private.PlayedLines.{IsPlayedWith}
+use Rattle.pgn_extract.specs.Private.Finding.{ShowsPosition}
 use Rattle.pgn_extract.proofs.PlayedFacts.{shows_fields, fails_at}
 use Rattle.pgn_extract.proofs.entries.played.PlayedLine.push_fields.Goals as goal
 

@@ -11,7 +11,7 @@ returns-clause-put g c =
       fields.0,
       fields.1,
       λ aim game before P at id.
-          c.in_ok-extend_from_slice.ensures.items
+          c.in_ok-end_line.ensures
           ∙ ap (λ t. t ++ 10 ∷ []) (fields.2 ∙ ap (λ t. t ++ fields.0) c.in_ok-push_ply.ensures)
           ∙ one_line start mark (decimal c.ply.result) fields.0
           ∙ ap (λ n. start ++ marked_line mark (record { id = id; ply = n; shown = fields.0 }))

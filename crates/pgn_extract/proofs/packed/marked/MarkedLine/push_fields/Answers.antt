@@ -1,0 +1,10 @@
+use Rattle.std.proofs.Common.{[], sym, append-nil}
+use Rattle.pgn_extract.proofs.WalkedLines.{shows_none}
+use Rattle.pgn_extract.proofs.packed.marked.MarkedLine.push_fields.Goals as goal
+
+pub returns-clause-shown : goal.returns-clause-shown
+returns-clause-shown c = (
+  [],
+  λ aim game before P at. shows_none c.args.arg3 aim game before P at.plain,
+  sym (append-nil c.args.arg2.now.items),
+)
