@@ -205,6 +205,7 @@ fn report_games<'a, O: Write, E: Write>(
 }
 
 /// Reports on a block: the report has what is not yet written of it, and nothing else.
+#[inline(never)]
 fn report_block<'a, O: Write, E: Write>(
     out: &mut Tally<O>,
     err: &mut Tally<E>,
