@@ -298,13 +298,13 @@ ends_at {aim} {id} {game} {Got} {on} At before P stands (sound, unwanted) finds 
     either true is = inl is
     either false off = inr off
 
--- the line stands at a position of the game, and the entries up to it are found
+-- the line stands at a position of the game, and the entries before it are found
 pub record StandsFound (At : Aim → GameText → List State → State → Type 0) (aim : Aim) (id : GameId)
     (game : GameText) (Got : List Entry → Type 0) (on : Bool) : Type 0 where
   pub before : List State
   pub here : State
   pub at : At aim game before here
-  pub finds : Finds aim id game Got (before ++ here ∷ []) on
+  pub finds : Finds aim id game Got before on
 
 -- the line of an entry, as it is written part by part
 pub one_line : (start mark digits shown : List ℕ)

@@ -67,10 +67,12 @@ impl<'s> Finder<'s> {
             × S.Grew sink.old sink.new)) }
         ensures kept { OnOk result (S.Grew sink.old sink.new) }
     {
-        let mut is_open = self.ask(line, sink, is_open)?;
-        while line.advance(is_open)? {
-            is_open = self.ask(line, sink, is_open)?;
+        let mut still = is_open;
+        loop {
+            still = self.ask(line, sink, still)?;
+            if !line.advance(still)? {
+                return Ok(());
+            }
         }
-        Ok(())
     }
 }

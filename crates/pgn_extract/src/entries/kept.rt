@@ -113,10 +113,11 @@ impl Line for Kept {
 
     #[inline(always)]
     fn advance(&mut self, is_open: bool) -> Result<bool, AllocError> {
-        if !is_open || self.met.len() - self.ply < 2 {
+        let next = self.ply + 1;
+        if !is_open || next == self.met.len() {
             return Ok(false);
         }
-        self.ply += 1;
+        self.ply = next;
         Ok(true)
     }
 

@@ -6,16 +6,16 @@ use Rattle.pgn_extract.specs.Private.Lines.{aim_with, NoneBefore}
 use Rattle.pgn_extract.proofs.Finds.{StandsFound}
 use Rattle.pgn_extract.proofs.entries.finding.Finder.find.Given as goal
 
-abbrev pub invariant-loop-line : goal.invariant-loop-line
-invariant-loop-line g l = record {
+abbrev pub invariant-loop-still : goal.invariant-loop-still
+invariant-loop-still g l = record {
   found : (name : Option (List ℕ)) (id : GameId) (game : GameText) (before : List State) (P : State)
       → g.L.Line.At l.fn.line (aim_with l.self name) game before P
       → NoneBefore (aim_with l.self name) game before
       → StandsFound (g.L.Line.At l.line) (aim_with l.self name) id game
-      (λ got. g.S.Sink.Gets l.self.mark.items l.fn.sink got l.sink) l.is_open;
+      (λ got. g.S.Sink.Gets l.self.mark.items l.fn.sink got l.sink) l.still;
   grew : g.S.Sink.Grew l.fn.sink l.sink;
   valid : g.L.Line.Valid l.line;
 }
 
-abbrev pub decreases-loop-line : goal.decreases-loop-line
-decreases-loop-line g l = g.L.Line.size l.line
+abbrev pub decreases-loop-still : goal.decreases-loop-still
+decreases-loop-still g l = g.L.Line.size l.line

@@ -2,7 +2,7 @@ use Rattle.std.proofs.Common.{arith}
 use Rattle.pgn_extract.proofs.KeptLines.{goes_one, ends_kept}
 use Rattle.pgn_extract.proofs.entries.kept.KeptLine.advance.Goals as goal
 use Rattle.pgn_extract.proofs.entries.kept.KeptLine.advance.Goals.{then-not-is_open-via-then-not-is_open}
-use Rattle.pgn_extract.proofs.entries.kept.KeptLine.advance.Goals.{then-not-is_open-via-else-not-is_open+then-len-self-lt2}
+use Rattle.pgn_extract.proofs.entries.kept.KeptLine.advance.Goals.{then-not-is_open-via-else-not-is_open+then-next-len}
 
 pub returns-then-not-is_open-clause-moved : goal.returns-then-not-is_open-clause-moved
 returns-then-not-is_open-clause-moved c aim game before P at =
@@ -10,10 +10,10 @@ returns-then-not-is_open-clause-moved c aim game before P at =
     P at c.args.is_open
     (λ is_on. elim c.then-not-is_open.branch [
       | then-not-is_open-via-then-not-is_open w ↦ let off = w.if-not-is_open.true in absurd (cc)
-      | then-not-is_open-via-else-not-is_open+then-len-self-lt2 w ↦ omega (
+      | then-not-is_open-via-else-not-is_open+then-next-len w ↦ omega (
         arith,
         w.len.ensures,
-        w.if-len-self-lt2.true,
+        w.if-next-len.true,
       )
     ])
 
@@ -21,4 +21,4 @@ pub returns-clause-moved : goal.returns-clause-moved
 returns-clause-moved c aim game before P at =
     goes_one c.args.self.now.replayed c.args.self.now.met.items c.args.self.now.ply aim game before
     P at
-    (omega (arith, c.len.ensures, c.if-len-self-lt2.false)) c.args.is_open
+    (let within = c.args.self.now.within in omega (arith, within, c.len.ensures, c.if-next-len.false)) c.args.is_open
