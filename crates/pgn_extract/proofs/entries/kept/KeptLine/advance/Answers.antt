@@ -21,4 +21,5 @@ pub returns-clause-moved : goal.returns-clause-moved
 returns-clause-moved c aim game before P at =
     goes_one c.args.self.now.replayed c.args.self.now.met.items c.args.self.now.ply aim game before
     P at
-    (let within = c.args.self.now.within in omega (arith, within, c.len.ensures, c.if-next-len.false)) c.args.is_open
+    (let within = c.args.self.now.within in
+    omega (arith, within, c.len.ensures, c.if-next-len.false)) c.args.is_open
