@@ -10,8 +10,7 @@ use crate::board::{Board, CastlingRights, Man, Side, Square, SquareSet, Wing};
 use std::marker::Model;
 
 /// A position. Contracts see the men, the side to move, the castling rights, the en passant square
-/// and the two counts; every
-/// position keeps the facts of `IsSound`.
+/// and the two counts; every position keeps the facts of `IsSound`.
 #[derive(Drop)]
 pub struct Position<B: Board> {
     pub(crate) board: B,

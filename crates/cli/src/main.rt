@@ -1,6 +1,5 @@
 //! The program `pgn-extract`: gathers the arguments, hands over the real files, and ends with the
-//! status
-//! that `pgn_extract::program` answers.
+//! status that `pgn_extract::program` answers.
 #![tactic(auto)]
 
 mod files;

@@ -154,8 +154,8 @@ impl Criteria {
     }
 
     /// The marks with which positions of a packed game meet the criteria. Conditions on its tags
-    /// and its result are decided here, once. It
-    /// is `None` where an alternative speaks of men, of moves or of several plies.
+    /// and its result are decided here, once. It is `None` where an alternative speaks of men, of
+    /// moves or of several plies.
     pub fn marks_packed<'a>(&'a self, record: &RawRecord<'a>) -> Option<MarkSet>
         requires { IsRawOfGame record.now }
         ensures { IfSome result (λ marks. (game : GameText) (replay : Replay) (packed : PackedGame)

@@ -150,8 +150,7 @@ fn span_doubt(own: &Alternative, before: Before, claim: &SpanClaim) -> Option<&'
 }
 
 /// Why a condition on the game misleads: it has a word that is no move's standard text, or compares
-/// bytes of a tag where a number or a date
-/// is meant.
+/// bytes of a tag where a number or a date is meant.
 fn game_doubt(own: &Alternative, condition: &Stated<GameClaim<&[u8]>>) -> Option<&'static str> {
     match &condition.claim {
         GameClaim::Moves(words) if !can_be_moves(words) => Some(MOVES),

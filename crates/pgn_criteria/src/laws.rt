@@ -7,8 +7,7 @@ ghost use Rattle.pgn_criteria.specs.Public.Laws.{MirrorIsUndone, FlipIsUndone, S
 ghost use Rattle.pgn_criteria.specs.Public.Laws.{StepShowsNextPosition};
 
 /// A text spells at most one list of alternatives, and is either accepted, or too long, or refused
-/// for one of its lines. Memory runs out
-/// only where the text is neither too long nor bad.
+/// for one of its lines. Memory runs out only where the text is neither too long nor bad.
 pub fn one_meaning()
     ensures meaning { TextHasOneMeaning }
     ensures answer { TextHasOneAnswer }
@@ -21,8 +20,7 @@ pub fn met_or_not()
 {}
 
 /// The mirror of a mirror is the position itself, and files that are turned twice stand as before.
-/// Conditions that all have `either` hold
-/// of a position exactly where they hold of its mirror.
+/// Conditions that all have `either` hold of a position exactly where they hold of its mirror.
 pub fn mirrors()
     ensures mirror { MirrorIsUndone }
     ensures flip { FlipIsUndone }

@@ -254,8 +254,7 @@ impl Layout {
     }
 
     /// Adds what the first of some items asks, where so many squares of the rank are taken. Answers
-    /// the items after it, and how many
-    /// squares are taken then, if that is known.
+    /// the items after it, and how many squares are taken then, if that is known.
     fn add_item<'a>(
         &mut self,
         items: &'a [u8],

@@ -69,10 +69,9 @@ fn met_by<'a, H: Headed<'a>>(
 
 impl Criteria {
     /// For each ply of the main line, from 0 to its last, whether its position meets the criteria.
-    /// The replay is to be that of the game, of
-    /// its main line or of all its lines. Conditions on tags and on the first moves are decided
-    /// once. The time that it takes grows as the
-    /// number of plies does, however long the runs are that `for` asks for.
+    /// The replay is to be that of the game, of its main line or of all its lines. Conditions on
+    /// tags and on the first moves are decided once. The time that it takes grows as the number of
+    /// plies does, however long the runs are that `for` asks for.
     pub fn met_plies<'a>(
         &'a self,
         alloc: Global,

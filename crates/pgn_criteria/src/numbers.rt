@@ -1,6 +1,5 @@
 //! How many of a man stand, while the codes of plies move him: games in which there are never as
-//! few as a line `material` allows are passed
-//! over.
+//! few as a line `material` allows are passed over.
 ghost use Rattle.std.specs.Prelude.{◌≡◌, false, map, IfSome};
 ghost use Rattle.chess.specs.Public.Placements.{Placement};
 ghost use Rattle.pgn_criteria.specs.Private.Counting.{FitsKind};

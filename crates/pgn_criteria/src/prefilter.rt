@@ -199,8 +199,8 @@ impl Prefilter {
 }
 
 /// The man who has to stand on most squares, and of these the one who may stand on fewest. The men
-/// stand as one of these lays out. He is one
-/// who does not stand so as games usually begin, if there is one.
+/// stand as one of these lays out. He is one who does not stand so as games usually begin, if there
+/// is one.
 pub(crate) fn prefilter_of(straight: &Layout, turned: Option<&Layout>) -> Option<Prefilter>
     ensures { IfSome result (λ prefilter. (men : Placement)
         → LaidEither men straight.now (option_map (λ layout. layout.now) turned.entry)

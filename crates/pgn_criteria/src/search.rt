@@ -25,8 +25,7 @@ use std::alloc::{AllocError, Global};
 use std::marker::Model;
 
 /// What criteria ask of the positions of one game: the alternatives whose conditions on tags and on
-/// the moves hold. Contracts see them
-/// without those conditions.
+/// the moves hold. Contracts see them without those conditions.
 #[derive(Drop)]
 pub struct Search<'a> {
     left: Vec<&'a Alternative>,
@@ -68,8 +67,8 @@ impl<'a> Search<'a> {
     }
 
     /// Whether a position of a packed game may meet what is asked, by the squares of one man of
-    /// each alternative, and by check and whether
-    /// there is a move: the game starts as is seen, and these are the bytes of its plies.
+    /// each alternative, and by check and whether there is a move: the game starts as is seen, and
+    /// these are the bytes of its plies.
     pub fn may_be_met<S: Seen>(&self, start: &S, plies: &[u8]) -> bool
         ensures { result ≡ false
             → NowhereSeen (MeetsSeen self.now) (S.men start.now) (S.turn start.now)
@@ -85,8 +84,7 @@ impl<'a> Search<'a> {
 }
 
 /// What the alternatives ask of the positions of a game that begins with the moves of this replay.
-/// Conditions on tags and on the moves are
-/// decided here.
+/// Conditions on tags and on the moves are decided here.
 fn left_after<'a>(
     alloc: Global,
     alternatives: &'a [Alternative],
@@ -112,8 +110,7 @@ fn left_after<'a>(
 
 impl Criteria {
     /// What the criteria ask of the positions of the game, where that does not depend on its moves.
-    /// It is `None` where an alternative
-    /// whose conditions on tags hold has one on the moves.
+    /// It is `None` where an alternative whose conditions on tags hold has one on the moves.
     fn watch_heading<'a, H: Headed<'a>>(
         &'a self,
         alloc: Global,
@@ -137,9 +134,8 @@ impl Criteria {
     }
 
     /// What the criteria ask of the positions of a packed game. Conditions on its tags and its
-    /// result are decided here, once. It is
-    /// `None` where an alternative of which these hold speaks of the moves too, or of several
-    /// plies.
+    /// result are decided here, once. It is `None` where an alternative of which these hold speaks
+    /// of the moves too, or of several plies.
     pub fn watch_packed<'a>(
         &'a self,
         alloc: Global,
@@ -157,12 +153,10 @@ impl Criteria {
     }
 
     /// What the criteria ask of the positions of the game, by which its plies are found while it is
-    /// played. Conditions on tags and on the
-    /// first moves are decided here, once. No more of the main line is played than conditions on
-    /// its moves ask for; where it is faulty
-    /// there, the fault is answered. It is `None` where a condition speaks of the moves at each
-    /// ply, or of several plies: `met_plies` finds
-    /// the plies then.
+    /// played. Conditions on tags and on the first moves are decided here, once. No more of the
+    /// main line is played than conditions on its moves ask for; where it is faulty there, the
+    /// fault is answered. It is `None` where a condition speaks of the moves at each ply, or of
+    /// several plies: `met_plies` finds the plies then.
     pub fn watch<'a>(
         &'a self,
         alloc: Global,

@@ -162,8 +162,7 @@ pub(crate) fn first_about(
 }
 
 /// Adds the plies at which all that the conditions say of plies is so. Each ply is tried at most
-/// twice, however long the runs
-/// are.
+/// twice, however long the runs are.
 pub(crate) fn add_plies(met: &mut [bool], alternative: &Alternative, replayed: &Replayed)
     requires { AreLegal replayed.now }
     ensures { (ply : ℕ) → ply < length met.old → IsTrue (get_or met.new ply false)

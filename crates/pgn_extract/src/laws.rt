@@ -12,9 +12,8 @@ ghost use Rattle.pgn_extract.specs.Public.Laws.{PartsJoin, PartsAreReported};
 ghost use Rattle.pgn_extract.specs.Public.Laws.{RunIndexes, RunExports, RunResumes};
 
 /// The pieces of each text have entries, and these are one list: the plies of its sound games that
-/// are within the bounds and whose position
-/// meets the criteria, or the least such of each game, each once, in the order of the games and
-/// their plies.
+/// are within the bounds and whose position meets the criteria, or the least such of each game,
+/// each once, in the order of the games and their plies.
 pub fn one_listing()
     ensures { PiecesHaveOneListing }
 {}
@@ -57,18 +56,16 @@ pub fn notes()
 {}
 
 /// What is reported of a text is what is reported of its parts, one after the other, where it is
-/// cut at one of its pieces. The text begins
-/// at any offset and its pieces are numbered from any number, so it may be cut again.
+/// cut at one of its pieces. The text begins at any offset and its pieces are numbered from any
+/// number, so it may be cut again.
 pub fn parts()
     ensures join { PartsJoin }
     ensures reported { PartsAreReported }
 {}
 
 /// Where each sound game of a text is packed, what the export writes is the pack of the text. So a
-/// search that lists what such a run wrote
-/// writes the listing of the text. Both ask that the name of the file is shown as it is, as each
-/// name of a
-/// path is.
+/// search that lists what such a run wrote writes the listing of the text. Both ask that the name
+/// of the file is shown as it is, as each name of a path is.
 pub fn packs()
     ensures pack { PackedTextIsAPack }
     ensures listing { PackIsListedAsItsText }

@@ -1,6 +1,5 @@
 //! `pgn-extract` as a library: `run` writes the exports, the listing or the index of a file of
-//! chess games, and `program` is the command-line tool
-//! over arguments and files that are handed in.
+//! chess games, and `program` is the command-line tool over arguments and files that are handed in.
 //!
 //! The listing of a text in memory, as lines `N@O P`; the contract of `list_text` is the listing
 //! theorem:

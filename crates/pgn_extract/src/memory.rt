@@ -179,8 +179,7 @@ pub fn report_text<'a>(
 }
 
 /// Begins at a mark of a text. What is reported is what a run over the whole text reports of the
-/// games from there on; and of a listing
-/// just the lines of their entries.
+/// games from there on; and of a listing just the lines of their entries.
 pub fn resume_text<'a>(
     alloc: Global,
     input: &mut Tally<&'a [u8]>,
@@ -267,8 +266,8 @@ pub fn report_some<'a>(
 }
 
 /// What the search of a pack in memory writes: whatever text the bytes are the pack of, its
-/// listing, or the index of its sound games. Bytes that
-/// are no pack are refused at the first record of no game.
+/// listing, or the index of its sound games. Bytes that are no pack are refused at the first record
+/// of no game.
 pub fn search_pack(alloc: Global, bytes: &[u8], settings: &Settings) -> Result<Vec<u8>, SearchError>
     requires plain { is_plain settings.now.fields ≡ true }
     ensures listed { IfOk result (λ out. settings.now.mode ≡ Mode.List
@@ -342,8 +341,7 @@ pub fn search_records<'a>(
 }
 
 /// Runs over two files in memory, up to an offset in each, with a path between them at which there
-/// is none.
-/// Written is what each file alone gives, and the line that names the path.
+/// is none. Written is what each file alone gives, and the line that names the path.
 pub fn report_files(
     alloc: Global,
     files: &mut TwoFiles<'_>,

@@ -94,8 +94,8 @@ pub struct Settings {
     /// How each game that the export selects is written.
     pub form: Form,
     /// What is kept of a game in the standard's format. Where variations are, each line of a game
-    /// must be sound, also of one that is written
-    /// as it stands; else its main line alone, as where it is written on a line or as a record.
+    /// must be sound, also of one that is written as it stands; else its main line alone, as where
+    /// it is written on a line or as a record.
     pub style: Style,
     /// Whether notes stand after the lines of faulty games: where a game is faulty, and why.
     pub explain: bool,

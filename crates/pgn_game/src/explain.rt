@@ -153,8 +153,8 @@ fn first_refused<'a>(
 }
 
 /// The first word of these lines of the game that is refused, where its start is not: none, where
-/// the lines can be replayed. This plays
-/// the game once more, and is for a game whose fault is known.
+/// the lines can be replayed. This plays the game once more, and is for a game whose fault is
+/// known.
 pub fn refused_word<'a>(
     alloc: Global,
     raw: &RawGame<'a>,

@@ -47,16 +47,14 @@ pub fn one_opening()
 {}
 
 /// Of the main line, and of all lines, a game has a replay or a fault, where its FEN tag holds the
-/// contents of a string and its
-/// parentheses stand in pairs, as in each game of a text. Of no other contents is there a value
-/// that could be read or refused.
+/// contents of a string and its parentheses stand in pairs, as in each game of a text. Of no other
+/// contents is there a value that could be read or refused.
 pub fn an_answer()
     ensures { GameHasAnAnswer }
 {}
 
 /// The elements in front of one lead to one position alone; and whatever word stands there and is
-/// refused in that position is the fault of
-/// the game, whatever stands after it.
+/// refused in that position is the fault of the game, whatever stands after it.
 pub fn one_place_reached()
     ensures line { OneLineIsReached }
     ensures fault { RefusedWordIsTheFault }
@@ -87,8 +85,7 @@ pub fn one_export()
 {}
 
 /// In each notation a game whose main line is sound has a line, and only one; and two games have
-/// the same line exactly where they start in
-/// the same position and have the same moves.
+/// the same line exactly where they start in the same position and have the same moves.
 pub fn one_game_line()
     ensures some { SoundGameHasALine }
     ensures one { GameHasOneLine }
@@ -96,8 +93,8 @@ pub fn one_game_line()
 {}
 
 /// No line of a movetext is read as an escape or as an event line, whatever its comments say; and
-/// the export of a game begins with an event
-/// line, no other of its lines is one, and none is an escape.
+/// the export of a game begins with an event line, no other of its lines is one, and none is an
+/// escape.
 pub fn no_line_misread()
     ensures movetext { NoLineIsMisread }
     ensures export { ExportIsReadAsOne }
@@ -118,8 +115,7 @@ pub fn code_of_a_move()
 {}
 
 /// A game that is replayed has one record at most under a name, a number and an offset; and a game
-/// whose main line is sound has a record,
-/// and only one.
+/// whose main line is sound has a record, and only one.
 pub fn one_record()
     ensures replayed { GameHasOneRecord }
     ensures some { SoundGameHasARecord }
@@ -132,8 +128,7 @@ pub fn room_in_a_record()
 {}
 
 /// The head of a record shows its game; in front of bytes stands the record of one game at most;
-/// and bytes are the pack of one list of games
-/// at most.
+/// and bytes are the pack of one list of games at most.
 pub fn one_pack()
     ensures head { HeadIsReadBack }
     ensures record { RecordHasOneReading }

@@ -117,8 +117,8 @@ impl<'a> RawGame<'a> {
     }
 
     /// Each game that is handed out has its tags in the order of their names, which are made of the
-    /// bytes of names, each the contents of a
-    /// string; its variations are paired, and its result is one of the four.
+    /// bytes of names, each the contents of a string; its variations are paired, and its result is
+    /// one of the four.
     pub fn invariant(&self)
         ensures { IsGameText self.now }
     {

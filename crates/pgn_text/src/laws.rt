@@ -16,8 +16,7 @@ ghost use Rattle.pgn_text.specs.Public.AnswerLaws.{EndsAfterAnError, FailsBefore
 ghost use Rattle.pgn_text.specs.Public.AnswerLaws.{DoneWithTheBlock};
 
 /// A text has one reading: one parting into blocks, one list of pieces in each block, and so one
-/// list of pieces with their offsets;
-/// and at any place of a block at most one game begins.
+/// list of pieces with their offsets; and at any place of a block at most one game begins.
 pub fn one_reading()
     ensures one_game { AtMostOneGame }
     ensures one_parting { TextHasOneParting }
@@ -38,8 +37,7 @@ pub fn mark_bounds()
 {}
 
 /// An event line parts the pieces of a text: those before it and those from it on do not depend on
-/// each other, so that
-/// unreadable bytes cost no game of another block.
+/// each other, so that unreadable bytes cost no game of another block.
 pub fn event_lines()
     ensures join { PiecesJoinAtEventLines }
     ensures part { PiecesPartAtEventLines }
@@ -65,8 +63,8 @@ pub fn old_marks()
 {}
 
 /// Each text agrees with games up to one place: after its game, if it begins with one, and never
-/// before a change that was made in one.
-/// Bytes of a block that are no game agree with games as far by themselves as in the block.
+/// before a change that was made in one. Bytes of a block that are no game agree with games as far
+/// by themselves as in the block.
 pub fn one_stop()
     ensures once { EachTextStopsOnce }
     ensures fronts { FrontsOfGameFronts }

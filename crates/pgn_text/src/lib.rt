@@ -1,8 +1,7 @@
 //! Chess games in Portable Game Notation: what a reader gives is parted into blocks, a block into
-//! games, and each game is read as
-//! tags, elements and a result. Nothing of a game is copied: tags, words, comments and results are
-//! slices of the block.
-//! The module `memory` has a proved example of each call over a reader, a writer or a block.
+//! games, and each game is read as tags, elements and a result. Nothing of a game is copied: tags,
+//! words, comments and results are slices of the block. The module `memory` has a proved example of
+//! each call over a reader, a writer or a block.
 #![tactic(auto)]
 
 mod error;

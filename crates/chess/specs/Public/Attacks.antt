@@ -42,8 +42,7 @@ abbrev pub IsPawnAttack : Side → Place → Place → Type 0
 IsPawnAttack side s t = (gap s.file t.file ≡ 1) × IsForward side s.rank t.rank
 
 -- a man of this side and kind on s attacks t: rooks run along ranks and files, bishops along
--- diagonals, queens along both
--- (Laws 3.1.2, 3.2 to 3.8)
+-- diagonals, queens along both (Laws 3.1.2, 3.2 to 3.8)
 abbrev pub Reaches : Placement → Side → Kind → Place → Place → Type 0
 Reaches p side King s t = IsNear s t
 Reaches p side Queen s t = (way : Direction) × IsOnRay p way s t

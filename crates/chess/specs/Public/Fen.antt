@@ -137,8 +137,7 @@ AreAtHome p side wing = (man_at p (king_from side) ≡ Some (king_of side))
     × (man_at p (rook_from side wing) ≡ Some (rook_of side))
 
 -- the text spells the position: four to six fields, where a right whose king or rook is not at home
--- is dropped, and an en passant square
--- that does not fit
+-- is dropped, and an en passant square that does not fit
 pub record SpellsPosition (x : List ℕ) (P : State) : Type 0 where
   pub men_field : List ℕ
   pub side_field : List ℕ

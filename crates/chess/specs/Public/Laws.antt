@@ -52,8 +52,7 @@ abbrev pub MovesKeepPositionsSound : Type 0
 MovesKeepPositionsSound = (P : State) (m : Move) → IsSound P → IsLegal P m → IsSound (after P m)
 
 -- in a sound position the standard text of a legal move names that move, and no other (were there
--- no pawn to take en passant, the text of
--- that move would be the text of a step)
+-- no pawn to take en passant, the text of that move would be the text of a step)
 abbrev pub SanNamesItsMove : Type 0
 SanNamesItsMove = (P : State) (m : Move) (x : List ℕ) → IsSound P → IsLegal P m → IsSan P m x
     → IsOnlyNamed P x m

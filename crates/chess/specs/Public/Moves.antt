@@ -85,8 +85,8 @@ Goes P m Bishop = (m.castle ≡ None) × (m.promote ≡ None) × Reaches P.men P
 Goes P m Knight = (m.castle ≡ None) × (m.promote ≡ None) × Reaches P.men P.turn Knight m.from m.to
 
 -- a pseudo-legal move: a man of the side to move goes as it may from a square of the board to
--- another, and not to a square of its own side;
--- whether its king is then attacked is not asked (Laws 3.1)
+-- another, and not to a square of its own side; whether its king is then attacked is not asked
+-- (Laws 3.1)
 pub record IsPseudoLegal (P : State) (m : Move) : Type 0 where
   pub from : IsOnBoard m.from
   pub to : IsOnBoard m.to
@@ -185,8 +185,7 @@ after P m = record {
 }
 
 -- castling is barred while the king's square, the square that it crosses or the square that it
--- comes to is attacked (Laws 3.8.2.2);
--- no other square matters
+-- comes to is attacked (Laws 3.8.2.2); no other square matters
 abbrev pub IsBarred : State → Wing → Type 0
 IsBarred P wing = IsAttacked P.men (opposite P.turn) (king_from P.turn)
     ⊎ (IsAttacked P.men (opposite P.turn) (rook_to P.turn wing)

@@ -56,8 +56,7 @@ has_right rights Black KingSide = rights.black_king_side
 has_right rights Black QueenSide = rights.black_queen_side
 
 -- castling moves the king from the e-file to the g-file or the c-file, and the rook from the h-file
--- or the a-file to the f-file or the
--- d-file (Laws 3.8.2): the files of a wing
+-- or the a-file to the f-file or the d-file (Laws 3.8.2): the files of a wing
 abbrev pub king_to_file : Wing → ℕ
 king_to_file KingSide = 7
 king_to_file QueenSide = 3

@@ -47,8 +47,7 @@ abbrev pub IsFileOrRank : ℕ → Type 0
 IsFileOrRank n = (1 ≤ n) × (n ≤ 8)
 
 -- the text: an optional letter, file, rank and one of x : - , the target, an optional promotion,
--- any number of + and #
--- (PGN 8.2.3.2 to 8.2.3.5)
+-- any number of + and # (PGN 8.2.3.2 to 8.2.3.5)
 pub record Spells (x : List ℕ) (said : Said) : Type 0 where
   pub file : IfSome said.file IsFileOrRank
   pub rank : IfSome said.rank IsFileOrRank
@@ -119,8 +118,7 @@ abbrev pub HasRival : State → Move → (Place → Type 0) → Type 0
 HasRival P m Asked = (s : Place) × IsRival P m s × Asked s
 
 -- what distinguishes the man from its rivals: nothing where there is none; the file where no rival
--- stands on it; else the rank where no rival
--- stands on it; else both (PGN 8.2.3.4)
+-- stands on it; else the rank where no rival stands on it; else both (PGN 8.2.3.4)
 pub data IsDisambiguation (P : State) (m : Move) : List ℕ → Type 0 where
   alone : ¬ HasRival P m (λ s. Unit {0}) → IsDisambiguation P m []
   by_file : HasRival P m (λ s. Unit {0}) → ¬ HasRival P m (λ s. s.file ≡ m.from.file)

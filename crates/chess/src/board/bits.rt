@@ -17,8 +17,7 @@ use crate::board::step_attacks::{attacks_from, bitboard_of};
 use crate::board::{Board, Kind, Man, Side, Square, SquareSet};
 
 /// A board of twelve bitboards: the squares of each of White's kinds, in the order of `Kind`, then
-/// of Black's. A square's bit is its place in the order
-/// a1, b1 to h1, a2 and so on.
+/// of Black's. A square's bit is its place in the order a1, b1 to h1, a2 and so on.
 #[derive(Clone, Copy, Debug)]
 pub struct Bits {
     words: [u64; 12],
@@ -215,8 +214,7 @@ fn place(words: &mut [u64; 12], square: Square, man: Option<Man>)
 }
 
 /// Takes the men off two squares, and puts the man, or none, on a third. No other square changes. A
-/// man who takes none goes by his own
-/// bitboard alone.
+/// man who takes none goes by his own bitboard alone.
 #[inline(always)]
 fn move_piece_words(
     words: &mut [u64; 12],
@@ -340,8 +338,7 @@ fn seers(words: &[u64; 12], man: Man, square: Square, left: u64) -> u64
 }
 
 /// The squares of the side's queens, and of another kind of its men, of those left, from which that
-/// kind attacks the square on the empty
-/// board.
+/// kind attacks the square on the empty board.
 #[inline(always)]
 fn sliders_in_line(words: &[u64; 12], square: Square, side: Side, kind: Kind, left: u64) -> u64
     requires { AreApart words.now }

@@ -88,8 +88,8 @@ fn read_spelled<B: Board>(text: &[u8]) -> Option<Spelled<B>>
 
 impl<B: Board> Position<B> {
     /// The position that the text spells (PGN 16.1). A right whose king or rook is not at home is
-    /// dropped, and an en passant square
-    /// that does not fit. The clock and the number may be missing.
+    /// dropped, and an en passant square that does not fit. The clock and the number may be
+    /// missing.
     pub fn from_fen(text: &[u8]) -> Result<Self, FenError>
         ensures answer { MatchResult result (λ p. ReadsFen text.now p) (λ e. IsRefused text.now e) }
         ensures sound { IfOk result IsSound }

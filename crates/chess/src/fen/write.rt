@@ -31,8 +31,7 @@ fn push_run(out: &mut ArrayString<112>, empty: u8)
 }
 
 /// Takes one more square of a rank after a run of empty ones: a letter is appended, after the run's
-/// digit. Answers how long the
-/// run is then.
+/// digit. Answers how long the run is then.
 fn push_next(out: &mut ArrayString<112>, empty: u8, letter: u8) -> u8
     requires one_digit { empty ≤ 8 }
     requires room { array_string_len out.old ≤ 110 }

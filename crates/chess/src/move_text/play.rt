@@ -61,9 +61,8 @@ pub fn play_word_san<B: Board>(
 }
 
 /// Plays the only legal move that the text names: the most frequent forms are recognized by their
-/// length and played at once, steps and captures
-/// of pawns and moves of pieces each by code of its own. (It is called, as it would be too large to
-/// stand in each caller.)
+/// length and played at once, steps and captures of pawns and moves of pieces each by code of its
+/// own. (It is called, as it would be too large to stand in each caller.)
 #[inline(never)]
 fn only_played<B: Board, W: MoveWriter<B>>(
     position: &mut Position<B>,
@@ -135,8 +134,7 @@ fn play_read<B: Board, W: MoveWriter<B>>(
 }
 
 /// Plays the only legal move that the text names, where the men are known that may make it, and of
-/// a piece nothing is said but its kind and
-/// target: one man alone is moved at once.
+/// a piece nothing is said but its kind and target: one man alone is moved at once.
 #[inline(always)]
 fn play_candidate<B: Board, W: MoveWriter<B>>(
     position: &mut Position<B>,

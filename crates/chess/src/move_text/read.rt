@@ -33,8 +33,7 @@ pub fn resolve<B: Board>(position: &Position<B>, text: &[u8]) -> Result<Move, Sa
 }
 
 /// The only legal move that the text names: what `resolve` answers, as one fact of the answer. The
-/// most frequent forms are recognized by their
-/// length.
+/// most frequent forms are recognized by their length.
 pub(crate) fn only_named<B: Board>(position: &Position<B>, text: &[u8]) -> Result<Move, SanError>
     ensures { IsAnswer (IsNamed position.now text.now) result }
 {
@@ -98,8 +97,7 @@ pub(crate) fn moved<B: Board>(position: &Position<B>, said: &ParsedSan) -> Resul
 }
 
 /// The only legal move that agrees with what is said, where the men are known that may make it: one
-/// alone is only asked whether his king
-/// is then attacked.
+/// alone is only asked whether his king is then attacked.
 #[inline(always)]
 fn moved_by<B: Board>(
     position: &Position<B>,

@@ -31,8 +31,7 @@ pub fn san<B: Board>(position: &Position<B>, m: Move) -> ArrayString<8>
 }
 
 /// Plays a legal move and answers its text in standard algebraic notation: the text that `san`
-/// answers in the position before it. No
-/// memory is needed.
+/// answers in the position before it. No memory is needed.
 pub fn play_san<B: Board>(position: &mut Position<B>, m: Move) -> ArrayString<8>
     requires { IsLegal position.old m }
     ensures text { IsSan position.old m result.bytes }
@@ -263,8 +262,7 @@ fn push_cross(out: &mut ArrayString<8>, takes: bool)
 }
 
 /// Appends what distinguishes the man from its rivals: nothing where there is none; the file where
-/// no rival stands on it; else the rank
-/// where no rival stands on it; else both (PGN 8.2.3.4).
+/// no rival stands on it; else the rank where no rival stands on it; else both (PGN 8.2.3.4).
 fn push_origin<B: Board>(out: &mut ArrayString<8>, position: &Position<B>, m: &Move, man: Man)
     requires mover { man_at position.now.men m.now.from ≡ Some man }
     requires room { array_string_len out.old ≤ 6 }

@@ -9,10 +9,9 @@ use crate::position::Position;
 
 impl<B: Board> Position<B> {
     /// The position after the side to move gives its move up: the same men and castling rights, the
-    /// other side to move, and no en passant
-    /// square. The halfmove clock is one more, and after Black's pass the fullmove number is; both
-    /// stop at 4,294,967,295. `None` exactly
-    /// where the side to move is in check, since a pass would leave its king attacked.
+    /// other side to move, and no en passant square. The halfmove clock is one more, and after
+    /// Black's pass the fullmove number is; both stop at 4,294,967,295. `None` exactly where the
+    /// side to move is in check, since a pass would leave its king attacked.
     pub fn pass(&self) -> Option<Self>
         ensures { MatchOption result
             (IsCheck self.now.men self.now.turn)

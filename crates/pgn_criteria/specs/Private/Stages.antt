@@ -172,8 +172,7 @@ pub record FitTheSame (most : ℕ) (replay other : Replay) : Type 0 where
       ↔ Compares comparison (length other.played) count
 
 -- the claim is so of a position by what is seen of it: its men, the side to move, whether that side
--- is
--- in check, and whether it has no move
+-- is in check, and whether it has no move
 abbrev pub IsSoOfSeen : Placement → Side → Type 0 → Type 0 → PositionClaim (List ℕ) → Type 0
 IsSoOfSeen men turn Checked Stuck claim =
     IsSoOf men turn Checked (Checked × Stuck) ((¬ Checked) × Stuck) claim

@@ -1,8 +1,7 @@
 -- How the value of a tag stands to a text. To be ordered, two numbers of 1 to 18 digits are
--- compared as numbers, so that 9 is less than
--- 10 and 007 equals 7; else they are compared byte by byte, and a text that another begins with is
--- the lesser. What a value contains, and
--- what it begins with, are bytes, of numbers too.
+-- compared as numbers, so that 9 is less than 10 and 007 equals 7; else they are compared byte by
+-- byte, and a text that another begins with is the lesser. What a value contains, and what it
+-- begins with, are bytes, of numbers too.
 use Rattle.std.specs.Prelude.{◌≡◌, ◌≢◌, ◌<◌, ◌≤◌, ◌&&◌, ◌++◌, nat_le, if◌then◌else◌, ℕ, Bool, List}
 use Rattle.std.specs.Prelude.{length, Option, Some, None}
 use Rattle.std.specs.List.{list_all}

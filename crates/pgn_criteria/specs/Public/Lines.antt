@@ -188,8 +188,7 @@ abbrev pub SpellsAfter : List ℕ → List ℕ → List ℕ → Type 0
 SpellsAfter key text own = (gap : List ℕ) × (text ≡ key ++ (gap ++ own)) × IsGap gap
 
 -- a key word, names of tags with | between, an operator, and what values are compared with, with
--- one or
--- more blanks between
+-- one or more blanks between
 abbrev pub SpellsNamed : List ℕ → List ℕ → List ℕ → List ℕ → List ℕ → Type 0
 SpellsNamed key text names operator own = (first second third : List ℕ)
     × (text ≡ key ++ (first ++ (names ++ (second ++ (operator ++ (third ++ own))))))

@@ -1,6 +1,5 @@
 -- How many men of each kind a side has. A line `material` gives a limit for each of the six kinds
--- of each side; a kind that it does not
--- name must be missing, kings included.
+-- of each side; a kind that it does not name must be missing, kings included.
 use Rattle.std.specs.Prelude.{◌≡◌, ◌≤◌, ◌==◌, ◌++◌, ℕ, zero, suc, Bool, false, List, [], Option}
 use Rattle.std.specs.Prelude.{Some, None, count_by}
 use Rattle.chess.specs.Public.Placements.{Placement}

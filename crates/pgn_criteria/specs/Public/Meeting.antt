@@ -74,8 +74,7 @@ IsSoOfMoves replay ply (Next word) = GoesOnBy replay ply word
 IsSoOfMoves replay ply (Played word) = IsReachedBy replay ply word
 
 -- the claim is so of a position with these men and this side to move, where these facts say that
--- the
--- side is in check, that it is mated, and that it is stalemated
+-- the side is in check, that it is mated, and that it is stalemated
 abbrev pub IsSoOf : Placement → Side → Type 0 → Type 0 → Type 0 → PositionClaim (List ℕ) → Type 0
 IsSoOf men turn Checked Mated Stalemated (Fen pattern) = FitsPattern men pattern
 IsSoOf men turn Checked Mated Stalemated (Flip pattern) = FitsEitherWay men pattern

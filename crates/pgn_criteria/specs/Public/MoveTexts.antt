@@ -1,6 +1,5 @@
 -- Words that fit the moves of a main line. A line `moves` gives the first word to the first move,
--- the next to the next; moves after the
--- last word are free.
+-- the next to the next; moves after the last word are free.
 use Rattle.std.specs.Prelude.{◌≡◌, ◌⊎◌, ◌+◌, ◌++◌, ℕ, if◌then◌else◌, List, [], ◌∷◌, codes, Some}
 use Rattle.std.specs.List.{slice_get}
 use Rattle.chess.specs.Public.Positions.{State}

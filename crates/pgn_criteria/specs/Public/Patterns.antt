@@ -1,9 +1,7 @@
 -- Patterns of positions: eight ranks of items, from rank 8 down to rank 1, with / between. An item
--- is one byte, or a set of men between
--- brackets. It takes some squares that stand side by side, and a rank matches where its eight
--- squares, from the a-file on, can be parted
--- among its items in their order. A text of FEN's first field is a pattern that one placement
--- matches.
+-- is one byte, or a set of men between brackets. It takes some squares that stand side by side, and
+-- a rank matches where its eight squares, from the a-file on, can be parted among its items in
+-- their order. A text of FEN's first field is a pattern that one placement matches.
 use Rattle.std.specs.Prelude.{◌≡◌, ◌≢◌, ◌≤◌, ◌-◌, ◌++◌, ◌==◌, if◌then◌else◌, ℕ, Bool, true, false}
 use Rattle.std.specs.Prelude.{List, [], ◌∷◌, Option, Some, codes, IsTrue}
 use Rattle.std.specs.List.{list_all}

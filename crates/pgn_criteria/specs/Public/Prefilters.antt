@@ -15,8 +15,7 @@ codes_in (a ∷ b ∷ d ∷ rest) = code_of a b d ∷ codes_in rest
 codes_in _ = []
 
 -- neither what is seen before the codes nor what is seen after any of them has the fact: the men,
--- the side to move, that it is in check, and that
--- it has no move
+-- the side to move, that it is in check, and that it has no move
 abbrev pub NowhereSeen : (Placement → Side → Type 0 → Type 0 → Type 0) → Placement → Side → Type 0
     → Type 0 → List PlyCode → Type 0
 NowhereSeen fact men turn Checked Stuck [] = ¬ fact men turn Checked Stuck

@@ -1,6 +1,5 @@
 -- What the parts of a run do with the bytes dropped, with one block and with the blocks in a row:
--- the words between the code and
--- those of `Outcomes`.
+-- the words between the code and those of `Outcomes`.
 use Rattle.std.specs.Prelude.{◌≡◌, ℕ, zero, suc, ◌+◌, ◌<◌, ◌≤◌, Bool, true, false, List, []}
 use Rattle.std.specs.Prelude.{◌∷◌, ◌++◌, length, drop, count_by, Option, None, IfSome, codes}
 use Rattle.std.specs.Prelude.{decimal, if◌then◌else◌, ◌==◌}

@@ -78,8 +78,7 @@ GoesOnWith line before played positions moves =
     × (positions ≡ before ++ later) × (moves ≡ played ++ more)
 
 -- the game is played up to the line: these are the positions before the one that is reached and the
--- moves between them, and what is left
--- completes the whole
+-- moves between them, and what is left completes the whole
 pub record IsPlayedTo (fen : Option (List ℕ)) (items : List Item) (line : PlayedLine)
     (before : List State) (played : List Move) : Type 0 where
   pub start : State

@@ -39,8 +39,7 @@ first_mark (None ∷ more) = first_mark more
 first_mark (Some mark ∷ more) = Some mark
 
 -- the mark of a line of a run over the file with this name: at the beginning of the line, or after
--- the words that begin the report of a bad game;
--- and so after the name, where lines have it
+-- the words that begin the report of a bad game; and so after the name, where lines have it
 abbrev pub line_mark : List ℕ → List ℕ → Option GameId
 line_mark name line =
     first_mark

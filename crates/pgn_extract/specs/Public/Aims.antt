@@ -12,8 +12,8 @@ use Rattle.pgn_extract.specs.declared.settings.Settings.{Settings}
 pub use Rattle.pgn_extract.specs.declared.marks.GameId.{GameId}
 
 -- what is to be reported of each piece, and the name that its lines have, if they have one; where
--- marks are chosen, nothing is of the pieces that have
--- none of them; the criteria are alternatives of conditions
+-- marks are chosen, nothing is of the pieces that have none of them; the criteria are alternatives
+-- of conditions
 pub record Aim : Type 0 where
   pub name : Option (List ℕ)
   pub chosen : Option (List GameId)

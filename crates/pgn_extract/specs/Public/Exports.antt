@@ -1,7 +1,6 @@
 -- The export of a text: of its games whose lines can be replayed, those that have an entry, each in
--- the standard's form for export. Or those that
--- have none, or its faulty pieces; or each game as it stands, on a line of its own, or as the
--- record of a pack.
+-- the standard's form for export. Or those that have none, or its faulty pieces; or each game as it
+-- stands, on a line of its own, or as the record of a pack.
 use Rattle.std.specs.Prelude.{◌≡◌, ℕ, ◌+◌, ◌<◌, List, [], ◌∷◌, ◌++◌, length, codes, Option}
 use Rattle.pgn_text.specs.Public.GameTexts.{GameText, tag_in}
 use Rattle.pgn_text.specs.Public.Marks.{PieceKind, ReadableGame, UnreadableRest, TooLongBlock}

@@ -37,8 +37,7 @@ PiecesHaveOneListing =
     × ((others : List Entry) → AreEntries aim id.number pieces others → others ≡ entries)
 
 -- each piece of a text has a mark, which is one of them: its number, counted from 1, and its
--- offset, which is within the text and no lower than
--- the pieces before it are many
+-- offset, which is within the text and no lower than the pieces before it are many
 pub record HasAMark (text : List ℕ) (before : List MarkedPiece) (piece : MarkedPiece)
     (after : List MarkedPiece) : Type 0 where
   pub among : IsMarkAmong (id_of (length before + 1) piece) (before ++ piece ∷ after)
@@ -193,9 +192,8 @@ NoNotes = (IsNote true (codes "x") → ⊥) × (IsNote false (codes "  x") → �
     × (IsLinePlace (codes "x") → ⊥)
 
 -- two parts of a text have its pieces, one part those before the cut and the other those after, and
--- what is reported of them, one after
--- the other, is what is reported of the whole: on the output, counted, and on standard error but
--- for the notes
+-- what is reported of them, one after the other, is what is reported of the whole: on the output,
+-- counted, and on standard error but for the notes
 pub record AreJoined (aim : Aim) (before after first second : List MarkedPiece)
     (all front rest : List Verdict) : Type 0 where
   pub same_before : first ≡ before
@@ -206,8 +204,7 @@ pub record AreJoined (aim : Aim) (before after first second : List MarkedPiece)
   pub faulty : count_by is_faulty all ≡ count_by is_faulty front + count_by is_faulty rest
 
 -- a text may be cut at any of its pieces, and each part reported alone: the second with the offset
--- of that piece, and its pieces numbered on
--- from those of the first
+-- of that piece, and its pieces numbered on from those of the first
 abbrev pub PartsJoin : Type 0
 PartsJoin =
     (aim : Aim) (limit max_depth : ℕ) (id : GameId) (text : List ℕ)
@@ -221,8 +218,7 @@ PartsJoin =
     → AreJoined aim before (piece ∷ after) first second all front rest
 
 -- so two runs over a text, the first up to a mark and the second from it on, report what one run
--- over the whole reports, where no explanations
--- are asked for
+-- over the whole reports, where no explanations are asked for
 abbrev pub PartsAreReported : Type 0
 PartsAreReported =
     (aim : Aim) (limit max_depth : ℕ) (id : GameId) (text : List ℕ)

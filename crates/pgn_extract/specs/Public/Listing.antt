@@ -75,8 +75,7 @@ abbrev pub IsMainReplayOf : GameText → Replay → Type 0
 IsMainReplayOf game replay = IsMainReplay (tag_in fen_tag game.tags) game.elements replay
 
 -- the entry names a sound game that is chosen, by its place among the pieces and the offset of its
--- first byte, and a ply of its main line that is
--- listed, and shows what is asked for of the ply
+-- first byte, and a ply of its main line that is listed, and shows what is asked for of the ply
 pub record IsPlyOfGame (aim : Aim) (number : ℕ) (pieces : List MarkedPiece) (entry : Entry) : Type 0
   where
     pub place : ℕ
@@ -105,8 +104,7 @@ Ascend (entry ∷ more) = ((later : Entry) → Contains more later → IsEarlier
     × Ascend more
 
 -- the entries of pieces that are numbered from a number on: exactly the plies of the chosen sound
--- games among them that are listed, each once, in
--- the order of the games and their plies
+-- games among them that are listed, each once, in the order of the games and their plies
 pub record AreEntries (aim : Aim) (number : ℕ) (pieces : List MarkedPiece)
     (entries : List Entry) : Type 0 where
   pub exact : (entry : Entry) → (Contains entries entry ↔ IsPlyOfGame aim number pieces entry)

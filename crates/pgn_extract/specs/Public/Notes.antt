@@ -37,8 +37,7 @@ NamesByte offset note =
     × (note ≡ codes "  " ++ place ++ codes "byte " ++ decimal offset ++ codes ": " ++ after)
 
 -- the note on bytes that begin at the offset and are no game names that at which they stop agreeing
--- with games. They are taken by themselves:
--- nothing that stands before them is needed
+-- with games. They are taken by themselves: nothing that stands before them is needed
 abbrev pub NamesStop : Bool → ℕ → List ℕ → List ℕ → Type 0
 NamesStop false offset bytes note = Unit {0}
 NamesStop true offset bytes note =

@@ -46,8 +46,7 @@ job_of settings = job_at settings settings.number settings.offset
 -- What is met.
 
 -- a reader or a writer: the bytes that it has left or holds, where they are known; whether a call
--- to it failed, how many bytes went through
--- it, and whether the last call was a good flush
+-- to it failed, how many bytes went through it, and whether the last call was a good flush
 pub record Stream : Type 0 where
   pub bytes : Option (List ℕ)
   pub faulted : Bool

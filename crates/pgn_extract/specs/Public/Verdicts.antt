@@ -106,9 +106,8 @@ IsReportedBy aim text line verdict = (note : List ℕ) × IsNote aim.explain not
     × (verdict ≡ FaultyGame text line note)
 
 -- bytes that begin at the offset and are no game are reported so: by this line, and where
--- explanations are asked for a note that names the byte at
--- which they stop agreeing with games; and they stand in the output where the faulty ones are
--- selected
+-- explanations are asked for a note that names the byte at which they stop agreeing with games; and
+-- they stand in the output where the faulty ones are selected
 abbrev pub IsUnreadableVerdict : Aim → ℕ → List ℕ → List ℕ → Verdict → Type 0
 IsUnreadableVerdict aim offset bytes line verdict =
     (note : List ℕ) × IsNote aim.explain note × NamesStop aim.explain offset bytes note

@@ -251,8 +251,7 @@ fn is_as_it_stands(settings: &Settings) -> bool
 }
 
 /// Appends the text of a game whose main line is sound and has an entry or none, if it is selected;
-/// or answers the first fault of the
-/// lines that are written.
+/// or answers the first fault of the lines that are written.
 fn put_chosen<'a>(
     text: &mut Vec<u8>,
     context: GameContext<'_>,

@@ -11,8 +11,7 @@ use crate::entries::sink::Sink;
 use crate::settings::{Fields, Settings};
 
 /// What is looked for in a main line: plies within the bounds of settings that meet the criteria,
-/// or
-/// only the first of them; what is shown of each entry, and what its line begins with.
+/// or only the first of them; what is shown of each entry, and what its line begins with.
 #[derive(Drop)]
 pub(crate) struct Finder<'s> {
     pub(crate) settings: &'s Settings,

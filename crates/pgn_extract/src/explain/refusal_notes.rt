@@ -1,6 +1,5 @@
 //! What `--explain` adds before the run to a refusal: the line of criteria and its place, or the
-//! name of a file and the system's reason; and
-//! its notes of lines of criteria that mislead.
+//! name of a file and the system's reason; and its notes of lines of criteria that mislead.
 ghost use Rattle.std.specs.Prelude.{◌≡◌, ◌++◌, ℕ, List, OnOk};
 
 use crate::app::messages;
@@ -138,8 +137,7 @@ fn push_after(alloc: Global, note: &mut Vec<u8>, rest: &[u8]) -> Result<(), Allo
 }
 
 /// The refusal of the line of criteria with this number, and below it the line, a mark where it
-/// stops being of the language, and what is
-/// expected there.
+/// stops being of the language, and what is expected there.
 pub fn line_note(alloc: Global, text: &[u8], number: usize) -> Result<Vec<u8>, AllocError> {
     let line = line_at(text, number);
     let complaint = complaint_of(line);

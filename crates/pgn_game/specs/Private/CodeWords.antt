@@ -34,8 +34,7 @@ pub record IsLeft (here : State) (played : List Move) (codes : List PlyCode)
   pub are : AreCodes here rest codes
 
 -- so many plies are replayed, up to this position: the positions before it and the moves between
--- are kept, and a line with these bytes
--- goes on from here
+-- are kept, and a line with these bytes goes on from here
 pub record HasReplayed (start : State) (bytes : List ℕ) (ply : ℕ) (before : List State)
     (here : State) (played : List Move) : Type 0 where
   pub count : length played ≡ ply

@@ -1,6 +1,5 @@
 -- Tokens written one after another, in lines: what a writer that stands in some column adds.
--- Nothing but the proof of the writer cites
--- these.
+-- Nothing but the proof of the writer cites these.
 use Rattle.std.specs.Prelude.{◌≡◌, ℕ, ◌+◌, Bool, true, false, List, [], ◌∷◌, ◌++◌, length, nat_le}
 use Rattle.pgn_game.specs.Public.TextLines.{IsLaid}
 use Rattle.pgn_game.specs.declared.exports.line_wrapper.LineWrapper.{LineWrapper}

@@ -45,8 +45,7 @@ IsStuck walk item fault = (items : List Item)
     (IsMoveFault walk.position walk.plies (main_words (item ∷ items) walk.depth))
 
 -- played from the start, the first of the words led through these positions by these moves to the
--- walk's position, and what is left of the
--- elements completes the whole
+-- walk's position, and what is left of the elements completes the whole
 pub record HasWalked (start : State) (words : List (List ℕ)) (walk : MainWalk)
     (positions : List State) (played : List Move) (items : List Item) : Type 0 where
   pub count : length played ≡ walk.plies

@@ -42,8 +42,7 @@ abbrev pub is_pass : List ℕ → Bool
 is_pass word = bytes_eq word (codes "--") || bytes_eq word (codes "Z0")
 
 -- what the word says in the position, where it is a pass and where it is none: a pass, which no
--- side in check may make, or the only legal
--- move that it names
+-- side in check may make, or the only legal move that it names
 abbrev pub SaysTurn : Bool → State → List ℕ → LineMove → Type 0
 SaysTurn true now word Passed = IsCheck now.men now.turn → ⊥
 SaysTurn true now word (Played m) = ⊥
@@ -61,9 +60,8 @@ after_turn now (Played m) = after now m
 after_turn now Passed = passed now
 
 -- the line is played, with all its variations, by these turns in the order of the text. `now` is
--- the position that it is played from, and
--- `before` the one before the last turn that stands in front of it: from there a variation is
--- played
+-- the position that it is played from, and `before` the one before the last turn that stands in
+-- front of it: from there a variation is played
 abbrev pub IsPlayed : Bool → State → State → Line → List LineMove → Type 0
 IsPlayed inside before now LineEnd turns = turns ≡ []
 IsPlayed inside before now (ThenMove word rest) turns =

@@ -1,6 +1,5 @@
 -- A comment as tokens: its words, the first after an opening brace and the last before a closing
--- one; and, where its commands are kept
--- whole, the words of each command as one token.
+-- one; and, where its commands are kept whole, the words of each command as one token.
 use Rattle.std.specs.Prelude.{ℕ, Bool, false, not, ◌&&◌, ◌||◌, ◌==◌, if◌then◌else◌, bytes_eq, codes}
 use Rattle.std.specs.Prelude.{List, [], ◌∷◌, ◌++◌, map, filter}
 use Rattle.std.specs.List.{list_any}
@@ -63,8 +62,8 @@ leaves_open [] = false
 leaves_open (b ∷ text) = (begins_command (b ∷ text) && not (has_bracket text)) || leaves_open text
 
 -- white space between the word and what follows stands in a command, which the word begins, or in
--- which it begins; a `[%` whose closing
--- bracket is missing, or stands after another `[%`, begins none
+-- which it begins; a `[%` whose closing bracket is missing, or stands after another `[%`, begins
+-- none
 abbrev pub in_command : Bool → List ℕ → List ℕ → Bool
 in_command inside word rest = if leaves_open word then closes rest
     else inside && not (has_bracket word)

@@ -21,8 +21,8 @@ use Rattle.pgn_game.specs.declared.turns.line_move.LineMove.{LineMove}
 use Rattle.pgn_game.specs.declared.turns.line_move.LineMove.TheVariants.{Played, Passed}
 
 -- the tokens of a move's number: White's move always has one; Black's has one where it stands apart
--- from the move before it, as the first of
--- its line or with a written comment or variation between them (PGN 8.2.2)
+-- from the move before it, as the first of its line or with a written comment or variation between
+-- them (PGN 8.2.2)
 abbrev pub number_tokens : Side → ℕ → Bool → List (List ℕ)
 number_tokens White number apart = (decimal number ++ codes ".") ∷ []
 number_tokens Black number true = (decimal number ++ codes "...") ∷ []
@@ -39,8 +39,7 @@ kept true tokens = tokens
 kept false tokens = []
 
 -- the tokens of the line with all its variations: `before` and `now` as where it is played, `apart`
--- where the next move stands apart from
--- the one before it
+-- where the next move stands apart from the one before it
 abbrev pub AreTokens : Style → Bool → State → State → Bool → Line → List (List ℕ) → Type 0
 AreTokens style inside before now apart LineEnd tokens = tokens ≡ []
 AreTokens style inside before now apart (ThenMove word rest) tokens =

@@ -60,9 +60,8 @@ IsRefusedTurn inside now plies word fault =
     RefusesTurn (inside && is_pass word) now plies word fault
 
 -- the first fault of the line with all its variations, in the order of the text: all that stands
--- before it is played. So many plies lead to
--- `now`, the position that the line is played from; a variation is played from `before`, to which
--- one ply less leads
+-- before it is played. So many plies lead to `now`, the position that the line is played from; a
+-- variation is played from `before`, to which one ply less leads
 abbrev pub IsLineFault : Bool → State → State → ℕ → Line → Fault → Type 0
 IsLineFault inside before now plies LineEnd fault = ⊥
 IsLineFault inside before now plies (ThenMove word rest) fault =

@@ -31,8 +31,7 @@ use Rattle.pgn_game.specs.declared.replays.replayer.Lines.TheVariants.{All, Main
 use Rattle.pgn_game.specs.declared.exports.style.Style.{Style}
 
 -- whichever lines are replayed, each move of the main line is the only legal move that its word
--- names in the position before it, and the
--- position after it is the one after that move
+-- names in the position before it, and the position after it is the one after that move
 abbrev pub EachMoveIsNamed : Type 0
 EachMoveIsNamed =
     (lines : Lines) (fen : Option (List ℕ)) (items : List Item) (replay : Replay)
@@ -67,8 +66,7 @@ SoundGameHasNoFault =
     → IsSoundGame lines fen items → IsFault lines fen items fault → ⊥
 
 -- these lines of a game have a replay or a fault, where its FEN tag has the contents of a string;
--- where all lines are replayed, its
--- parentheses must stand in pairs
+-- where all lines are replayed, its parentheses must stand in pairs
 abbrev pub GameHasAnAnswer : Type 0
 GameHasAnAnswer =
     (lines : Lines) (fen : Option (List ℕ)) (items : List Item) → IfSome fen IsContents
@@ -97,8 +95,7 @@ EachMoveHasATurn =
     → length replay.turns ≡ move_count items
 
 -- in each style the movetext of a game that is replayed has tokens, from the position that the game
--- starts from; where the style leaves
--- variations out, a replay of the main line is enough
+-- starts from; where the style leaves variations out, a replay of the main line is enough
 abbrev pub MovetextHasTokens : Type 0
 MovetextHasTokens =
     (style : Style) (fen : Option (List ℕ)) (items : List Item) (replay : Replay) (result : List ℕ)

@@ -20,8 +20,7 @@ main_words (VariationOpen ∷ items) depth = main_words items (depth + 1)
 main_words (VariationClose ∷ items) depth = main_words items (depth - 1)
 
 -- played from a position, the words lead through these positions by these moves: each word names
--- one legal move alone, and the next
--- position is the one after it
+-- one legal move alone, and the next position is the one after it
 abbrev pub IsMainLine : State → List (List ℕ) → List State → List Move → Type 0
 IsMainLine now [] positions played = (positions ≡ now ∷ []) × (played ≡ [])
 IsMainLine now (word ∷ words) positions played =

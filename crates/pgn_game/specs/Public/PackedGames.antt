@@ -113,9 +113,8 @@ abbrev pub longest_name : ℕ
 longest_name = 4096
 
 -- the most bytes that stand after the size of a record: number, offset and head, the length of a
--- name and a name, and twice a block. Beside its name
--- and contents a tag takes at least 4 bytes of a text, and 8 of a record; a ply takes at least 2,
--- and 3
+-- name and a name, and twice a block. Beside its name and contents a tag takes at least 4 bytes of
+-- a text, and 8 of a record; a ply takes at least 2, and 3
 abbrev pub largest_body : ℕ
 largest_body = 24 + longest_name + 2 * block_limit
 
@@ -158,8 +157,8 @@ pub record FitsRecord (game : PackedGame) : Type 0 where
   pub origin : IsTrue (is_origin game.number game.offset game.name)
 
 -- what is kept of the game with this name of its file and this number, at this offset, of which
--- this is the replay: its tags and its result as they
--- stand, the marks of the position that it starts from, and the codes of its main line
+-- this is the replay: its tags and its result as they stand, the marks of the position that it
+-- starts from, and the codes of its main line
 pub record IsPacked (its_name : Option (List ℕ)) (its_number its_offset : ℕ) (game : GameText)
     (replay : Replay) (packed : PackedGame) : Type 0 where
   pub name : packed.name ≡ its_name

@@ -116,8 +116,8 @@ abbrev pub numbered_castle : ℕ → Option Wing
 numbered_castle n = if ltb n 12 then None else Some (if n % 2 == 0 then KingSide else QueenSide)
 
 -- the three bytes of a code: in the low six bits of each a square, `from`, `to` and `taken`,
--- counted from 0 for a1, b1 to h1, a2 and so on; in the
--- two bits above these the marks, and then the low and the high half of the man's number
+-- counted from 0 for a1, b1 to h1, a2 and so on; in the two bits above these the marks, and then
+-- the low and the high half of the man's number
 abbrev pub code_bytes : PlyCode → List ℕ
 code_bytes c =
     (index_of c.from + 64 * marks_number c.check c.stuck)

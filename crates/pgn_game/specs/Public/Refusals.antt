@@ -36,8 +36,8 @@ played_items All items depth = items
 played_items Main items depth = map (λ word. MoveText word) (main_words items depth)
 
 -- a line as far as it is played: the position before its last turn, the one after it, in which its
--- next word is played, and the plies that
--- lead to the latter. Before the first turn both are the position that the line is played from
+-- next word is played, and the plies that lead to the latter. Before the first turn both are the
+-- position that the line is played from
 pub record PlayedLine : Type 0 where
   pub before : State
   pub now : State
@@ -61,9 +61,8 @@ is_variation [] = false
 is_variation (line ∷ outer) = true
 
 -- where a line is played so far, and these lines around it, the elements lead to that line, which
--- is a variation or not: each word is a turn
--- in the position that the words before it lead to, and after the end of a variation the line
--- around it goes on
+-- is a variation or not: each word is a turn in the position that the words before it lead to, and
+-- after the end of a variation the line around it goes on
 abbrev pub LeadTo : List Item → PlayedLine → List PlayedLine → Bool → PlayedLine → Type 0
 LeadTo [] line outer inside last = (inside ≡ is_variation outer) × (last ≡ line)
 LeadTo (MoveText word ∷ items) line outer inside last =
@@ -85,8 +84,7 @@ IsPlayedThere lines items index =
     ≡ played_items lines (take index items) 0 ++ MoveText word ∷ []
 
 -- played from the start, the elements in front of that index lead to the line, which is a variation
--- or not; and a word that stood there
--- would be played in it
+-- or not; and a word that stood there would be played in it
 abbrev pub IsReached : Lines → State → List Item → ℕ → Bool → PlayedLine → Type 0
 IsReached lines start items index inside line =
     LeadTo (played_items lines (take index items) 0) (main_line start) [] inside line

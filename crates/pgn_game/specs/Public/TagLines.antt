@@ -54,8 +54,7 @@ AreLinesOf tags result (name ∷ names) lines =
     × (lines ≡ line ++ more) × AreLinesOf tags result names more
 
 -- the tag is none of the roster and is written beside it: with the roster alone only the tags of
--- the start are, where the game has a FEN
--- tag (PGN 9.7)
+-- the start are, where the game has a FEN tag (PGN 9.7)
 abbrev pub is_beside : Style → Bool → List ℕ → Bool
 is_beside style has_fen name =
     not (list_any (λ other. bytes_eq other name) roster)

@@ -1,6 +1,5 @@
 -- Tokens in lines: the only parting of them such that each line is within the width or is one
--- token, and no line could take the first
--- token of the next one within the width.
+-- token, and no line could take the first token of the next one within the width.
 use Rattle.std.specs.Prelude.{◌≡◌, ℕ, ◌<◌, ◌≤◌, List, [], ◌∷◌, ◌++◌, length, flat_map}
 
 -- tokens with one space between them

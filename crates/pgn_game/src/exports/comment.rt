@@ -180,8 +180,7 @@ fn put_word(
 }
 
 /// What a word after the first one begins with, and what follows: it must be neither an event line
-/// nor an escape at the beginning of a
-/// line.
+/// nor an escape at the beginning of a line.
 fn guarded(word: &[u8]) -> (&[u8], &[u8])
     ensures text { later_word word.now ≡ result.0.now ++ unbraced result.1.now }
     ensures bare { IsBare word.now → IsBare result.1.now }
@@ -337,8 +336,7 @@ fn is_in_command(inside: bool, found: &Found<'_>) -> bool
 }
 
 /// Writes the words that are tied to what is written, and answers the word after them: the first of
-/// these words is tied where it stands
-/// inside a command.
+/// these words is tied where it stands inside a command.
 fn push_tied<'a>(
     out: &mut Vec<u8>,
     first_inside: bool,
@@ -365,8 +363,7 @@ fn push_tied<'a>(
 }
 
 /// Writes a word that was found, after what it begins with, and the words that are tied to it, as
-/// one token; and answers the word after
-/// them.
+/// one token; and answers the word after them.
 fn put_tied<'a>(
     wrapper: &mut LineWrapper,
     out: &mut Vec<u8>,
@@ -431,8 +428,7 @@ fn put_whole(wrapper: &mut LineWrapper, out: &mut Vec<u8>, text: &[u8]) -> Resul
 }
 
 /// Writes a comment in braces: each of its words is a token, or each command with its words, where
-/// commands are kept whole. Where it stands
-/// in one line as it is, it is written at once.
+/// commands are kept whole. Where it stands in one line as it is, it is written at once.
 pub(crate) fn put_comment(
     wrapper: &mut LineWrapper,
     out: &mut Vec<u8>,

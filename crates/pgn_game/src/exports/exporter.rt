@@ -73,10 +73,8 @@ fn put_or_leave<'a>(
 }
 
 /// Appends the export of the game in the style, played while it is written: its tags, one a line,
-/// an empty line, its movetext in lines, and
-/// an empty line. Where a line that is written is faulty, the first fault is answered; then, and
-/// where memory is refused, nothing is
-/// appended.
+/// an empty line, its movetext in lines, and an empty line. Where a line that is written is faulty,
+/// the first fault is answered; then, and where memory is refused, nothing is appended.
 pub fn export_played<'a>(
     alloc: Global,
     game: &RawGame<'a>,
@@ -111,9 +109,8 @@ fn refused(fault: GameFault<'_>) -> AllocError
 }
 
 /// Appends the export of the game in the style: its tags, one a line, an empty line, its movetext
-/// in lines, and an empty line. The replay
-/// is one of the game, and of all its lines where the style keeps variations. Where memory is
-/// refused, nothing is appended.
+/// in lines, and an empty line. The replay is one of the game, and of all its lines where the style
+/// keeps variations. Where memory is refused, nothing is appended.
 pub fn export<'a>(
     alloc: Global,
     game: &RawGame<'a>,

@@ -202,10 +202,8 @@ fn push_moves<'a>(
 }
 
 /// Plays the main line of the game, and appends it while it is played: the position that it starts
-/// from, `-` for the initial one, and then
-/// each move after a space. No line feed is appended. Where the main line is faulty or memory is
-/// refused, some bytes of it may stand in the
-/// vector.
+/// from, `-` for the initial one, and then each move after a space. No line feed is appended. Where
+/// the main line is faulty or memory is refused, some bytes of it may stand in the vector.
 pub fn push_line<'a>(
     alloc: Global,
     game: &RawGame<'a>,

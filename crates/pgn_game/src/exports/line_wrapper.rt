@@ -6,8 +6,7 @@ ghost use Rattle.pgn_game.specs.Private.LineWrappers.{HasPut, after_tokens};
 use std::alloc::AllocError;
 
 /// Writes tokens one after another, in lines of a width: a token goes into the line that is begun
-/// where it is within the width after a
-/// space, and else begins the next line.
+/// where it is within the width after a space, and else begins the next line.
 #[derive(Drop)]
 pub(crate) struct LineWrapper {
     width: usize,

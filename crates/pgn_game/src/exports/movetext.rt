@@ -24,8 +24,8 @@ use std::alloc::{AllocError, Global};
 use std::mem;
 
 /// The movetext as far as it is written, after what stood in front of it; and whether the next move
-/// stands apart from the turn before it:
-/// as the first of its line, or with a comment or a variation between them.
+/// stands apart from the turn before it: as the first of its line, or with a comment or a variation
+/// between them.
 #[derive(Drop)]
 struct MovetextWriter {
     out: Vec<u8>,
@@ -98,9 +98,8 @@ impl StepVisitor for MovetextWriter {
 }
 
 /// Plays the lines of the game that the style keeps from this start, and writes its movetext in
-/// lines of the style's width: its moves, with
-/// what the style keeps beside them, and its result. Where a line is faulty or memory runs out,
-/// some of it may stand in the vector.
+/// lines of the style's width: its moves, with what the style keeps beside them, and its result.
+/// Where a line is faulty or memory runs out, some of it may stand in the vector.
 pub(crate) fn put_movetext<'a>(
     alloc: Global,
     game: &RawGame<'a>,

@@ -17,8 +17,7 @@ pub struct GameOrigin<'a> {
 }
 
 /// Whether a control character stands in front of the bytes: one of ASCII, or of U+0080 to U+009F
-/// in
-/// UTF-8.
+/// in UTF-8.
 fn begins_control(bytes: &[u8]) -> bool
     ensures { result ≡ begins_control bytes.now }
 {

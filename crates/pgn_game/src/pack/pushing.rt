@@ -25,10 +25,9 @@ impl<'a> From<PackError> for GameFault<'a> {
 }
 
 /// Plays the main line of the game, and appends the record of the game, which comes from there; or
-/// answers the fault of its main line.
-/// Where memory is refused or the record would be too large, memory is said to be refused: no game
-/// of a block has such a record, except one
-/// with a name of more than 4096 bytes. In each of these cases nothing is appended.
+/// answers the fault of its main line. Where memory is refused or the record would be too large,
+/// memory is said to be refused: no game of a block has such a record, except one with a name of
+/// more than 4096 bytes. In each of these cases nothing is appended.
 pub fn push_record<'a>(
     alloc: Global,
     origin: &GameOrigin,

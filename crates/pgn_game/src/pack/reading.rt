@@ -152,8 +152,7 @@ fn read_body(bytes: &[u8]) -> Result<RawRecord<'_>, RecordError>
 }
 
 /// The record that was read of the same bytes before, and whose plies take so many of them: its
-/// tags
-/// are not read again.
+/// tags are not read again.
 #[tactic(auto, unfolding(crate::specs::Public::PackReading::body_at))]
 pub(crate) fn read_again(bytes: &[u8], plies: usize) -> Result<RawRecord<'_>, RecordError>
     requires { HasBody bytes.now plies }
@@ -201,8 +200,7 @@ fn read_record(bytes: &[u8]) -> Result<(RawRecord<'_>, &[u8]), RecordError>
 }
 
 /// The record that stands in front of the bytes, and what stands after it; no memory is taken.
-/// Fails where no record stands in front,
-/// and says which fault is the first from left to right.
+/// Fails where no record stands in front, and says which fault is the first from left to right.
 pub fn read(bytes: &[u8]) -> Result<(RawRecord<'_>, &[u8]), RecordError>
     // What is read is the spelling of a packed game.
     ensures found { IfOk result (λ x. (game : PackedGame) × FitsRecord game × (x.0 ≡ raw_of game)

@@ -131,9 +131,8 @@ impl CodedLine {
 }
 
 /// Replays the line from the position by the bytes of its codes. Each move that a code tells is
-/// asked to be legal; what a code says of the
-/// man that is taken, and its marks, are not compared. Fails with `NoLine` where the bytes are
-/// those of no line of legal moves.
+/// asked to be legal; what a code says of the man that is taken, and its marks, are not compared.
+/// Fails with `NoLine` where the bytes are those of no line of legal moves.
 pub fn replay_codes(
     alloc: Global,
     start: GamePosition,

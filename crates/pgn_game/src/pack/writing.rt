@@ -116,8 +116,7 @@ fn put_size(
 }
 
 /// Appends the size of the record, and the number and the offset of the game. Answers an error
-/// where
-/// no run gives a game such a number, offset or file name.
+/// where no run gives a game such a number, offset or file name.
 fn put_front(
     origin: &GameOrigin,
     game: &RawGame,
@@ -278,10 +277,9 @@ fn put_fields(
 }
 
 /// Appends the record of the game that comes from there: its name, its tags and its result as they
-/// stand, and the main line of the replay,
-/// which is one of the game. Where the record would be too large, no run gives the game such a
-/// number, offset or file name, or memory is refused,
-/// nothing is appended.
+/// stand, and the main line of the replay, which is one of the game. Where the record would be too
+/// large, no run gives the game such a number, offset or file name, or memory is refused, nothing
+/// is appended.
 pub fn put_record(
     origin: &GameOrigin,
     game: &RawGame,

@@ -18,8 +18,8 @@ use std::alloc::Global;
 use std::marker::Model;
 
 /// The main line of a game while it is played, ply by ply. No position is kept but the one that is
-/// reached. Contracts see that position,
-/// the plies that lead to it, and the words of the moves that are still to be played.
+/// reached. Contracts see that position, the plies that lead to it, and the words of the moves that
+/// are still to be played.
 #[derive(Drop)]
 pub struct MainLine<'g, 'a> {
     walk: MainWalk,
@@ -101,8 +101,7 @@ impl<'g, 'a> MainLine<'g, 'a> {
     }
 
     /// Appends the standard text of the next move, or `-` where there is none; the line stays as it
-    /// is. At a word that can't be played, the
-    /// game has its fault.
+    /// is. At a word that can't be played, the game has its fault.
     pub fn push_next(&self, out: &mut Vec<u8>) -> Result<(), GameFault<'a>>
         ensures text { OnOk result ((text : List ℕ)
             × IsNextText self.now.position self.now.words text

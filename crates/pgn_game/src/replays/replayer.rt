@@ -29,11 +29,10 @@ pub enum Lines {
 }
 
 /// Plays the lines of the game from its start: the position of its FEN tag, or the initial one.
-/// Each move is the only legal move that its
-/// word names, and no pass is made in check. At the first word in the order of the text that can't
-/// be played so, the game is refused for
-/// it; the word's ply is counted along its own line, where the first move of a variation has the
-/// ply of the move that it stands for.
+/// Each move is the only legal move that its word names, and no pass is made in check. At the first
+/// word in the order of the text that can't be played so, the game is refused for it; the word's
+/// ply is counted along its own line, where the first move of a variation has the ply of the move
+/// that it stands for.
 pub fn replay<'a>(alloc: Global, raw: &RawGame<'a>, lines: Lines) -> Result<Replayed, GameFault<'a>>
     ensures { MatchResult result
         (λ replayed. IsReplay lines (tag_in fen_tag raw.now.tags) raw.now.elements replayed)

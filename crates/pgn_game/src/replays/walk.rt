@@ -23,8 +23,8 @@ use pgn_text::Element;
 use std::alloc::{AllocError, Global};
 
 /// A line as far as it was played: the position before its last turn and the one after it, and the
-/// plies that lead to the latter. Before
-/// the first turn both are the position that the line is played from.
+/// plies that lead to the latter. Before the first turn both are the position that the line is
+/// played from.
 #[derive(Drop)]
 pub(crate) struct Level {
     pub(crate) before: GamePosition,

@@ -30,9 +30,8 @@ word_begins block at (suc i) = is_word_byte (get_or block (at + suc i) 0)
     && not (is_word_byte (get_or block (at + i) 0))
 
 -- the 64 bytes from the place on have the words at the bits of `words`, and the first `len` of them
--- are plain movetext whose last byte is
--- white space, with the moves that begin at the bits of `moves`, and with bytes of numbers at those
--- of `numbers`
+-- are plain movetext whose last byte is white space, with the moves that begin at the bits of
+-- `moves`, and with bytes of numbers at those of `numbers`
 pub record Sweeps (block : List ℕ) (at words moves numbers len : ℕ) : Type 0 where
   pub within : at + len ≤ length block
   pub short : len < 64

@@ -32,9 +32,8 @@ pub record FindsMore (left left' : Option (List ℕ)) (moved moved' : ℕ) (foun
   pub end : found ≡ false → (read ≡ []) × IsAtEnd left'
 
 -- before the next read the first bytes held are given up, so many: those done with, and those
--- searched of a block over the limit, of
--- which eight are kept, since an event line may begin among them. `lost` of the block's bytes were
--- given up earlier
+-- searched of a block over the limit, of which eight are kept, since an event line may begin among
+-- them. `lost` of the block's bytes were given up earlier
 pub record GivesUp (held begin lost front : ℕ) : Type 0 where
   pub low : begin ≤ front
   pub within : front ≤ held
@@ -43,8 +42,8 @@ pub record GivesUp (held begin lost front : ℕ) : Type 0 where
       × (front + 8 ≤ held)
 
 -- a search read on to the block's end, and gave up what it did not need: these are the block's
--- bytes, and those of a block within
--- the limit are still held. The first of all bytes held and read were given up
+-- bytes, and those of a block within the limit are still held. The first of all bytes held and read
+-- were given up
 pub record FindsEnd (done ahead held : List ℕ) (place : ℕ) (left left' : Option (List ℕ))
     (moved moved' : ℕ) (end : BlockEnd) : Type 0 where
   pub read : List ℕ

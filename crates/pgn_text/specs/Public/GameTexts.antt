@@ -53,9 +53,8 @@ IsResult result = (result ≡ codes "1-0") ⊎ (result ≡ codes "0-1") ⊎ (res
     ⊎ (result ≡ codes "*")
 
 -- what holds of each game that is handed out: the names of its tags ascend in the order of their
--- bytes, so none is there twice, and are made
--- of the bytes of names, its tags hold contents of strings, its variations are paired, and its
--- result is one of the four
+-- bytes, so none is there twice, and are made of the bytes of names, its tags hold contents of
+-- strings, its variations are paired, and its result is one of the four
 pub record IsGameText (game : GameText) : Type 0 where
   pub ordered : IsStrictlySortedBy (slice_cmp nat_cmp) (tag_names game.tags)
   pub strings : HoldStrings game.tags
@@ -64,8 +63,7 @@ pub record IsGameText (game : GameText) : Type 0 where
   pub ends : IsResult game.result
 
 -- the game is the one that these parts make at this place: its bytes are theirs, of each name it
--- has the first tag, and its elements and result
--- are theirs
+-- has the first tag, and its elements and result are theirs
 pub record ShowsGame (game : GameText) (at : ℕ) (parts : List Part) : Type 0 where
   pub place : game.at ≡ at
   pub text : game.text ≡ spelled parts

@@ -1,6 +1,6 @@
 -- What holds of every text, whatever reads it: it has one reading, each game in it is shown by one
--- game text, a reading can begin again
--- at any of its pieces and end before any, and larger limits change nothing where all was readable.
+-- game text, a reading can begin again at any of its pieces and end before any, and larger limits
+-- change nothing where all was readable.
 use Rattle.std.specs.Prelude.{◌≡◌, ℕ, ◌-◌, ◌≤◌, Bool, List, [], ◌∷◌, ◌++◌, take, IsTrue}
 use Rattle.std.specs.List.{list_all}
 use Rattle.pgn_text.specs.Public.Parts.{Part, spelled}

@@ -48,8 +48,8 @@ pub record TakesPiece (max_depth : ℕ) (old new : Left) (piece : Piece) : Type 
       → ArePiecesLeft max_depth old (shown ∷ more)
 
 -- what a call of `next` did, by its answer. The end comes where no piece is left, and on each call
--- after an error; an error comes only
--- where memory was refused for a piece that is left: it and those after it are not given
+-- after an error; an error comes only where memory was refused for a piece that is left: it and
+-- those after it are not given
 abbrev pub GivesPiece : ℕ → Left → Option (Result Piece AllocError) → Left → Type 0
 GivesPiece max_depth old None new = ((old.failed ≡ true) ⊎ ArePiecesLeft max_depth old [])
     × (new ≡ old)

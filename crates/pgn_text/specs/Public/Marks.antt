@@ -36,8 +36,7 @@ marked offset (Game at parts) = record { offset = offset + at; kind = ReadableGa
 marked offset (Unreadable at bytes) = record { offset = offset + at; kind = UnreadableRest bytes }
 
 -- the pieces of the block that begins at the offset: a block over the limit is one piece, at its
--- first byte. A block is at the
--- start of the file exactly where its offset is 0
+-- first byte. A block is at the start of the file exactly where its offset is 0
 pub data AreOfBlock (limit max_depth offset : ℕ) (block : List ℕ) (marks : List MarkedPiece) : Type
     0 where
   over : limit < length block → marks ≡ record { offset = offset; kind = TooLongBlock } ∷ []

@@ -68,8 +68,8 @@ abbrev pub number_of : List ℕ → ℕ
 number_of digits = number_from 0 digits
 
 -- the place after these bytes of a block is in column one: after a line feed, or at the start of
--- the file or after a byte order
--- mark there (`file_start` says that the block is at the start of the file)
+-- the file or after a byte order mark there (`file_start` says that the block is at the start of
+-- the file)
 abbrev pub is_column_one : Bool → List ℕ → Bool
 is_column_one file_start before =
     ends_in_line_feed before

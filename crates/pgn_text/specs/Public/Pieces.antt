@@ -18,9 +18,8 @@ pub data Piece : Type 0 where
   Unreadable : ℕ → List ℕ → Piece
 
 -- the pieces of the text that follows `before` in a block: a longest gap, a game, a longest gap, a
--- game and so on. After the last
--- longest gap the block ends, or no front of what is left is a game; that is then one unreadable
--- piece to the block's end
+-- game and so on. After the last longest gap the block ends, or no front of what is left is a game;
+-- that is then one unreadable piece to the block's end
 abbrev pub ArePieces : ℕ → Bool → List ℕ → List Piece → List ℕ → Type 0
 ArePieces max_depth file_start before [] text =
     (gap : List Part) × (text ≡ spelled gap) × IsLongestGap file_start before gap []

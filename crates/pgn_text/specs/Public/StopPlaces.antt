@@ -25,8 +25,8 @@ abbrev pub is_quote : ℕ → Bool
 is_quote b = b == 34
 
 -- up to the place the text from `begin` of a block on is these parts, each of which has a meaning
--- and the last of which ends at the
--- place `at`, and these bytes, at whose front stands no further such part
+-- and the last of which ends at the place `at`, and these bytes, at whose front stands no further
+-- such part
 pub record PartsThen (file_start : Bool) (block : List ℕ) (begin at place : ℕ) (parts : List Part)
     (front : List ℕ) : Type 0 where
   pub parted : drop begin block ≡ spelled parts ++ (front ++ drop place block)

@@ -12,8 +12,8 @@ use Rattle.pgn_text.specs.declared.io.blocks.ReadError.TheVariants.{Read, OutOfM
 use Rattle.pgn_text.specs.declared.io.blocks.ReadError.TheVariants.{Failed}
 
 -- the bytes held: those done with, which end with the block answered last, and those ahead, the
--- first of which has the
--- offset `place`; and whether an error, the last block and the end have been answered
+-- first of which has the offset `place`; and whether an error, the last block and the end have been
+-- answered
 pub record Window : Type 0 where
   pub done : List ℕ
   pub ahead : List ℕ
@@ -28,9 +28,8 @@ fresh_window offset =
     record { done = []; ahead = []; place = offset; failed = false; ended = false; over = false }
 
 -- the bytes of the next block, cut off from those held ahead and those read in the call, so a
--- stretch of what was held as the call
--- began and what it read: they are the first block whatever follows, and the last one where the
--- reader is at its end
+-- stretch of what was held as the call began and what it read: they are the first block whatever
+-- follows, and the last one where the reader is at its end
 pub record IsCutOff (old new : Window) (left' : Option (List ℕ)) (read bytes : List ℕ) : Type 0
   where
     pub going : old.ended ≡ false

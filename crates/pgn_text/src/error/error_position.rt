@@ -258,8 +258,7 @@ pub struct Stop {
 }
 
 /// The place of the block up to which its bytes from `begin` on are the front of a gap and a game,
-/// no more of them are, and what
-/// it stands in.
+/// no more of them are, and what it stands in.
 pub fn locate_error(block: &[u8], begin: usize, file_start: bool) -> Stop
     requires { begin ≤ length block.now }
     ensures place { IsErrorPosition depth_limit file_start block.now begin result.place }

@@ -109,8 +109,7 @@ fn keep_tag<'a>(tags: &mut BTreeMap<&'a [u8], &'a [u8]>, token: Token<'a>) -> Re
 }
 
 /// The elements that a game builder has room for at first: as many as most games have, with their
-/// comments and variations, so that their room
-/// does not grow.
+/// comments and variations, so that their room does not grow.
 const ELEMENTS: usize = 512;
 
 impl<'a> GameBuilder<'a> {

@@ -92,9 +92,8 @@ pub enum Phase {
 /// The blocks of the text that a reader gives, in order.
 ///
 /// No more bytes are held than a block of the limit and one read of 8,192 bytes, however long the
-/// text is. The bytes of a block
-/// that was given are given up at the next read, those of a block over the limit as they are
-/// searched.
+/// text is. The bytes of a block that was given are given up at the next read, those of a block
+/// over the limit as they are searched.
 #[derive(Drop)]
 pub struct Blocks {
     /// The bytes held.
@@ -272,8 +271,8 @@ fn is_more<R: Read>(input: &mut Tally<R>) -> Result<bool, ReadError>
 }
 
 /// How many of the first bytes held are given up before the next read, where `lost` bytes of the
-/// block that begins at `begin`
-/// were given up already and no event line is held after its first byte.
+/// block that begins at `begin` were given up already and no event line is held after its first
+/// byte.
 fn given_up(held: usize, begin: usize, lost: u64) -> usize
     requires within { (begin ≤ held) × (lost + held < 2 ^ 64) }
     requires long { 0 < lost → (block_limit ≤ lost) × (begin + 8 ≤ held) }

@@ -92,8 +92,8 @@ fn below(word: u64, place: u32) -> u64
 }
 
 /// The bytes of no plain movetext: those of no class, those with which a word begins that is
-/// neither a move nor a number, and those after a
-/// number's byte that are neither a number's nor a period.
+/// neither a move nor a number, and those after a number's byte that are neither a number's nor a
+/// period.
 #[inline(always)]
 fn strange(words: u64, gaps: u64, periods: u64, begins: u64, letters: u64, numbers: u64) -> u64
     ensures each { (i : ℕ) → i < 64 → has_bit result i ≡ false

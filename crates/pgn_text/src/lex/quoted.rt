@@ -49,8 +49,8 @@ fn singles_end(block: &[u8], from: usize) -> usize
 }
 
 /// The place after the longest contents of a string at the place of the block. There is none where
-/// the block ends, or a byte comes that
-/// no string has, directly after a backslash that stands by itself.
+/// the block ends, or a byte comes that no string has, directly after a backslash that stands by
+/// itself.
 #[inline(always)]
 pub(crate) fn contents_end(block: &[u8], begin: usize) -> Option<usize>
     requires { begin ≤ length block.now }
@@ -67,8 +67,7 @@ pub(crate) fn contents_end(block: &[u8], begin: usize) -> Option<usize>
 }
 
 /// Whether the bytes are the contents of a string: plain bytes other than the quote and the
-/// backslash, and pairs of a backslash and a
-/// plain byte.
+/// backslash, and pairs of a backslash and a plain byte.
 pub fn is_contents(bytes: &[u8]) -> bool
     ensures { IsTrue result ↔ IsContents bytes.now }
 {
@@ -79,8 +78,7 @@ pub fn is_contents(bytes: &[u8]) -> bool
 }
 
 /// The bytes of the value of a string with these contents: a backslash before a quote or a
-/// backslash is dropped, before another byte
-/// it stays.
+/// backslash is dropped, before another byte it stays.
 pub fn value<'a>(contents: &'a [u8]) -> Value<'a>
     requires { IsContents contents.now }
     ensures { (signs : List Sign) × HasValue contents.now result signs }

@@ -1,6 +1,5 @@
 //! The squares between two squares, as bitboards. They are made of the lines through both squares;
-//! that each bitboard has just the squares between is
-//! proved by computing all of them.
+//! that each bitboard has just the squares between is proved by computing all of them.
 
 // Of two squares, each with its number and its lines: the squares that lines of both have, and that
 // stand between them in order.

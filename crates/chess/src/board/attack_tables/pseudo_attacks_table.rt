@@ -1,8 +1,7 @@
 //! What men see on the empty board, as bitboards.
 
 /// For each kind in the order of the bitboards of a board, with a second table for Black's pawns,
-/// and for each square: the squares from which such
-/// a man attacks it on the empty board.
+/// and for each square: the squares from which such a man attacks it on the empty board.
 pub(crate) static PSEUDO_ATTACKS: [[u64; 64]; 7] = [
     [
         0x0000_0000_0000_0302,

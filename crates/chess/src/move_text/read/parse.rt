@@ -224,8 +224,8 @@ pub(crate) fn before_check_sign(text: &[u8]) -> &[u8]
 }
 
 /// What the text says, if it is a target alone or a letter and a target, or says of a pawn or a
-/// piece that it takes, with one mark at most,
-/// as most texts are; else it may be a move text of another form.
+/// piece that it takes, with one mark at most, as most texts are; else it may be a move text of
+/// another form.
 #[inline(always)]
 pub(crate) fn read_frequent(text: &[u8]) -> Option<ParsedSan>
     ensures { MatchOption result (Unit {0}) (λ said. IsReadSaid text.now (Some said)) }
