@@ -78,8 +78,7 @@ of_axes way k s t a = a
 
 axis_one : (x : Axis) (k a b c : ℕ) → IsAxisAhead x k a b → IsAxisAhead x k a c → b ≡ c
 axis_one Up k a b c e f = omega arith
-axis_one Level k a b c e f = omega arith
-axis_one Down k a b c e f = omega arith
+axis_one _ k a b c e f = omega arith
 
 axis_none : (x : Axis) (a : ℕ) → IsAxisAhead x 0 a a
 axis_none Up a = omega arith
@@ -89,14 +88,12 @@ axis_none Down a = omega arith
 axis_more : (x : Axis) (j k a b c : ℕ) → IsAxisAhead x j a b → IsAxisAhead x k b c
     → IsAxisAhead x (j + k) a c
 axis_more Up j k a b c e f = omega arith
-axis_more Level j k a b c e f = omega arith
-axis_more Down j k a b c e f = omega arith
+axis_more _ j k a b c e f = omega arith
 
 axis_rest : (x : Axis) (j k a b c : ℕ) → IsAxisAhead x j a b → IsAxisAhead x (j + k) a c
     → IsAxisAhead x k b c
 axis_rest Up j k a b c e f = omega arith
-axis_rest Level j k a b c e f = omega arith
-axis_rest Down j k a b c e f = omega arith
+axis_rest _ j k a b c e f = omega arith
 
 -- a square is the only one so many steps ahead
 pub one_ahead : (way : Direction) (k : ℕ) (s t u : Place) → IsAhead way k s t → IsAhead way k s u
@@ -223,14 +220,12 @@ ahead_at way n k = axis_to (file_step way) k (axis_to (rank_step way) (8 * k) n)
 file_index : (x : Axis) (m k a b : ℕ) → 1 ≤ a → 1 ≤ b → IsAxisAhead x k a b
     → axis_to x k (m + (a - 1)) ≡ m + (b - 1)
 file_index Up m k a b p q e = omega arith
-file_index Level m k a b p q e = omega arith
-file_index Down m k a b p q e = omega arith
+file_index _ m k a b p q e = omega arith
 
 rank_index : (x : Axis) (m k a b : ℕ) → 1 ≤ a → 1 ≤ b → IsAxisAhead x k a b
     → axis_to x (8 * k) (8 * (a - 1) + m) ≡ 8 * (b - 1) + m
 rank_index Up m k a b p q e = omega arith
-rank_index Level m k a b p q e = omega arith
-rank_index Down m k a b p q e = omega arith
+rank_index _ m k a b p q e = omega arith
 
 pub ahead_index : (way : Direction) (k : ℕ) (s t : Place) → IsOnBoard s → IsOnBoard t
     → IsAhead way k s t → index_of t ≡ ahead_at way (index_of s) k
@@ -251,8 +246,7 @@ axis_reach Down k = k
 
 axis_gap : (x : Axis) (k a b : ℕ) → IsAxisAhead x k a b → gap a b ≡ axis_reach x k
 axis_gap Up k a b e = omega arith
-axis_gap Level k a b e = omega arith
-axis_gap Down k a b e = omega arith
+axis_gap _ k a b e = omega arith
 
 most_reach : (way : Direction) (k : ℕ)
     → max (axis_reach (file_step way) k) (axis_reach (rank_step way) k) ≡ k

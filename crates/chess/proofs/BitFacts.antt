@@ -24,7 +24,7 @@ use Rattle.chess.specs.declared.board.man.Man.{Man}
 use Rattle.chess.specs.declared.board.man.Side.{Side}
 use Rattle.chess.specs.declared.board.man.Kind.{Kind}
 use Rattle.chess.specs.declared.board.man.Side.TheVariants.{White, Black}
-use Rattle.chess.specs.declared.board.man.Kind.TheVariants.{King, Queen, Rook, Bishop, Knight, Pawn}
+use Rattle.chess.specs.declared.board.man.Kind.TheVariants.{King}
 use Rattle.chess.proofs.PlaceFacts.{true_not_false}
 use Rattle.chess.proofs.FillFacts.{bit_of_either, bit_of_both, no_bit, common_none, common_some}
 
@@ -33,17 +33,8 @@ use Rattle.chess.proofs.FillFacts.{bit_of_either, bit_of_both, no_bit, common_no
 men_back : (side : Side) (other : Kind)
     → man_of_row (number_of_side side + number_of_kind other) ≡ record { side = side; kind = other }
 men_back White King = refl
-men_back White Queen = refl
-men_back White Rook = refl
-men_back White Bishop = refl
-men_back White Knight = refl
-men_back White Pawn = refl
 men_back Black King = refl
-men_back Black Queen = refl
-men_back Black Rook = refl
-men_back Black Bishop = refl
-men_back Black Knight = refl
-men_back Black Pawn = refl
+men_back _ _ = refl
 
 pub man_of_row-row_of : (man : Man) → man_of_row (row_of man) ≡ man
 man_of_row-row_of man = men_back man.side man.kind
@@ -61,11 +52,7 @@ row_of-man_of_row n h = eqb-true _ _ (agree_below_at row_back (λ _. true) 12 n 
 
 kind_below : (other : Kind) → number_of_kind other < 6
 kind_below King = omega arith
-kind_below Queen = omega arith
-kind_below Rook = omega arith
-kind_below Bishop = omega arith
-kind_below Knight = omega arith
-kind_below Pawn = omega arith
+kind_below _ = omega arith
 
 side_below : (side : Side) → number_of_side side ≤ 6
 side_below White = omega arith
@@ -294,19 +281,15 @@ square_bit at i = elim (cases_eq i at) [
 
 cleared_put : (b c : Bool) → (b && not c) ≡ (if c then false else b)
 cleared_put true true = refl
-cleared_put true false = refl
 cleared_put false true = refl
-cleared_put false false = refl
+cleared_put _ _ = refl
 
 set_put : (b c r : Bool) → ((r && c) || (b && not c)) ≡ (if c then r else b)
 set_put true true true = refl
-set_put true true false = refl
 set_put true false true = refl
-set_put true false false = refl
 set_put false true true = refl
-set_put false true false = refl
 set_put false false true = refl
-set_put false false false = refl
+set_put _ _ _ = refl
 
 pub put_none : (old new : List ℕ) (at : ℕ) → IsCleared old new (2 ^ at) → IsPut old new at None
 put_none old new at cleared k i less on =

@@ -15,7 +15,7 @@ use Rattle.chess.specs.Private.SanWords.{man_said, move_from}
 use Rattle.chess.specs.Public.Sets.{Places, is_in, no_places, HoldsExactly, IsAttacker}
 use Rattle.chess.specs.Shared.SetBitboards.{IsTakenFirst}
 use Rattle.chess.specs.declared.board.man.Kind.{Kind}
-use Rattle.chess.specs.declared.board.man.Kind.TheVariants.{King, Queen, Rook, Bishop, Knight, Pawn}
+use Rattle.chess.specs.declared.board.man.Kind.TheVariants.{King, Pawn}
 use Rattle.chess.specs.declared.moves.Move.{Move}
 use Rattle.chess.proofs.PlaceFacts.{cases_place, true_not_false, same_side, same_kind}
 use Rattle.chess.proofs.PlaceFacts.{some_not_none, not_opposite}
@@ -93,21 +93,15 @@ piece_goes : (P : State) (m : Move) (other : Kind) → (other ≡ Pawn → ⊥) 
     → Goes P m other
     → (m.promote ≡ None) × Reaches P.men P.turn other m.from m.to
 piece_goes P m King piece plain goes = (goes.0, subst (λ o. IsKingMove P m o) plain goes.1)
-piece_goes P m Queen piece plain goes = (goes.1, goes.2)
-piece_goes P m Rook piece plain goes = (goes.1, goes.2)
-piece_goes P m Bishop piece plain goes = (goes.1, goes.2)
-piece_goes P m Knight piece plain goes = (goes.1, goes.2)
 piece_goes P m Pawn piece plain goes = absurd (piece refl)
+piece_goes P m _ piece plain goes = (goes.1, goes.2)
 
 goes_piece : (P : State) (said : Said) (s : Place) (other : Kind) → (other ≡ Pawn → ⊥)
     → said.promote ≡ None
     → Reaches P.men P.turn other s said.target → Goes P (move_from said s) other
 goes_piece P said s King piece plain attacks = (plain, attacks)
-goes_piece P said s Queen piece plain attacks = (refl, plain, attacks)
-goes_piece P said s Rook piece plain attacks = (refl, plain, attacks)
-goes_piece P said s Bishop piece plain attacks = (refl, plain, attacks)
-goes_piece P said s Knight piece plain attacks = (refl, plain, attacks)
 goes_piece P said s Pawn piece plain attacks = absurd (piece refl)
+goes_piece P said s _ piece plain attacks = (refl, plain, attacks)
 
 pub candidate_pieces : (P : State) (said : Said) (among set : Places)
     → (kind_said said.letter ≡ Pawn → ⊥) → IsOnBoard said.target → said.promote ≡ None

@@ -237,12 +237,10 @@ read_or_refused x P InCheck reads (Q, spells, right, fine, wrong) =
 
 pub one_refusal : (x : List ℕ) (error other : FenError) → IsRefused x error → IsRefused x other
     → error ≡ other
-one_refusal x Syntax Syntax a b = refl
 one_refusal x Syntax Kings a b = absurd (a b.0 b.1)
 one_refusal x Syntax Pawns a b = absurd (a b.0 b.1)
 one_refusal x Syntax InCheck a b = absurd (a b.0 b.1)
 one_refusal x Kings Syntax a b = absurd (b a.0 a.1)
-one_refusal x Kings Kings a b = refl
 one_refusal x Kings Pawns a b =
     absurd (b.2 (subst HasWrongKings (one_spelling x a.0 b.0 a.1 b.1) a.2))
 one_refusal x Kings InCheck a b =
@@ -250,7 +248,6 @@ one_refusal x Kings InCheck a b =
 one_refusal x Pawns Syntax a b = absurd (b a.0 a.1)
 one_refusal x Pawns Kings a b =
     absurd (a.2 (subst HasWrongKings (one_spelling x b.0 a.0 b.1 a.1) b.2))
-one_refusal x Pawns Pawns a b = refl
 one_refusal x Pawns InCheck a b =
     absurd (b.3 (subst HasWrongPawns (one_spelling x a.0 b.0 a.1 b.1) a.3))
 one_refusal x InCheck Syntax a b = absurd (b a.0 a.1)
@@ -258,4 +255,4 @@ one_refusal x InCheck Kings a b =
     absurd (a.2 (subst HasWrongKings (one_spelling x b.0 a.0 b.1 a.1) b.2))
 one_refusal x InCheck Pawns a b =
     absurd (a.3 (subst HasWrongPawns (one_spelling x b.0 a.0 b.1 a.1) b.3))
-one_refusal x InCheck InCheck a b = refl
+one_refusal x _ _ a b = refl

@@ -173,21 +173,14 @@ rights_of a b c d =
 sixteen : (a b c d : Bool) → are_given (rights_of a b c d) ≡ true
 unfolding rights_of
 sixteen true true true true = refl
-sixteen true true true false = refl
 sixteen true true false true = refl
-sixteen true true false false = refl
 sixteen true false true true = refl
-sixteen true false true false = refl
 sixteen true false false true = refl
-sixteen true false false false = refl
 sixteen false true true true = refl
-sixteen false true true false = refl
 sixteen false true false true = refl
-sixteen false true false false = refl
 sixteen false false true true = refl
-sixteen false false true false = refl
 sixteen false false false true = refl
-sixteen false false false false = refl
+sixteen _ _ _ _ = refl
 
 -- those facts one by one
 pub record AreLetters (r : CastlingRights) (x : List ℕ) : Type 0 where
@@ -244,9 +237,8 @@ are_letters r =
 
 no_dash : (side : Side) (wing : Wing) → has_byte (right_letter side wing) (codes "-") ≡ false
 no_dash White KingSide = refl
-no_dash White QueenSide = refl
 no_dash Black KingSide = refl
-no_dash Black QueenSide = refl
+no_dash _ _ = refl
 
 -- the field of the rights
 pub record IsRightsField (r : CastlingRights) (x : List ℕ) : Type 0 where

@@ -1,7 +1,6 @@
 -- A text in FEN is read, or refused.
-use Rattle.std.proofs.Common.{◌≡◌, ◌≢◌, ◌⊎◌, ◌↔◌, ℕ, ◌+◌, ◌<◌, Bool, true, false, Option, Some}
-use Rattle.std.proofs.Common.{None, List, [], ◌∷◌, length, codes, refl, sym, ◌∙◌, subst, inl, inr}
-use Rattle.std.proofs.Common.{arith}
+use Rattle.std.proofs.Common.{◌≡◌, ◌≢◌, ◌⊎◌, ◌↔◌, ◌+◌, ◌<◌, List, [], ◌∷◌, refl, sym, ◌∙◌, inl, inr}
+use Rattle.std.proofs.Common.{ℕ, Bool, true, false, Option, Some, None, length, codes, subst, arith}
 use Rattle.std.specs.List.{list_all}
 use Rattle.std.proofs.lemmas.Bool.{cases_eq}
 use Rattle.std.proofs.lemmas.Option.{same_Some}
@@ -46,9 +45,8 @@ given_each : (x : List ℕ) (side : Side) (wing : Wing)
     → has_right (given x) side wing ≡ has_byte (right_letter side wing) x
 unfolding given
 given_each x White KingSide = refl
-given_each x White QueenSide = refl
 given_each x Black KingSide = refl
-given_each x Black QueenSide = refl
+given_each x _ _ = refl
 
 settled_given : (x : List ℕ) → Settled ((rights : CastlingRights) × GivesRights x rights)
 settled_given x =

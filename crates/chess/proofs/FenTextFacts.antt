@@ -19,7 +19,7 @@ use Rattle.chess.specs.declared.board.man.Man.{Man}
 use Rattle.chess.specs.declared.board.man.Side.{Side}
 use Rattle.chess.specs.declared.board.man.Side.TheVariants.{White, Black}
 use Rattle.chess.specs.declared.board.man.Kind.{Kind}
-use Rattle.chess.specs.declared.board.man.Kind.TheVariants.{King, Queen, Rook, Bishop, Knight, Pawn}
+use Rattle.chess.specs.declared.board.man.Kind.TheVariants.{King}
 use Rattle.chess.specs.Shared.SetFacts.{and_false}
 
 -- ---- lengths
@@ -69,17 +69,8 @@ spells (Some man ∷ squares) n h =
 by_side : (side : Side) (kind : Kind) → is_step (man_letter (record { side = side; kind = kind }))
     ≡ false
 by_side White King = refl
-by_side White Queen = refl
-by_side White Rook = refl
-by_side White Bishop = refl
-by_side White Knight = refl
-by_side White Pawn = refl
 by_side Black King = refl
-by_side Black Queen = refl
-by_side Black Rook = refl
-by_side Black Bishop = refl
-by_side Black Knight = refl
-by_side Black Pawn = refl
+by_side _ _ = refl
 
 no_step : (man : Man) → is_step (man_letter man) ≡ false
 no_step man = by_side man.side man.kind

@@ -8,7 +8,7 @@ use Rattle.chess.specs.Public.Moves.{Goes, IsPseudoLegal, IsPromotion, Castles, 
 use Rattle.chess.specs.Public.Moves.{arriving}
 use Rattle.chess.specs.declared.board.man.Man.{Man}
 use Rattle.chess.specs.declared.board.man.Kind.{Kind}
-use Rattle.chess.specs.declared.board.man.Kind.TheVariants.{King, Queen, Rook, Bishop, Knight, Pawn}
+use Rattle.chess.specs.declared.board.man.Kind.TheVariants.{King, Pawn}
 use Rattle.chess.specs.declared.board.man.Wing.{Wing}
 use Rattle.chess.specs.declared.board.man.Wing.TheVariants.{KingSide, QueenSide}
 use Rattle.chess.specs.declared.moves.Move.{Move}
@@ -26,21 +26,14 @@ castle_clash wing o none some = let e : None ≡ Some wing = sym none ∙ some i
 pub goes_castle : (P : State) (m : Move) (other : Kind) → Goes P m other → (wing : Wing)
     → m.castle ≡ Some wing → (other ≡ King) × Castles P wing m
 goes_castle P m King g wing e = (refl, subst (λ o. IsKingMove P m o) e g.1)
-goes_castle P m Queen g wing e = absurd (castle_clash wing m.castle g.0 e)
-goes_castle P m Rook g wing e = absurd (castle_clash wing m.castle g.0 e)
-goes_castle P m Bishop g wing e = absurd (castle_clash wing m.castle g.0 e)
-goes_castle P m Knight g wing e = absurd (castle_clash wing m.castle g.0 e)
-goes_castle P m Pawn g wing e = absurd (castle_clash wing m.castle g.0 e)
+goes_castle P m _ g wing e = absurd (castle_clash wing m.castle g.0 e)
 
 -- only a pawn becomes another man
 pub goes_promote : (P : State) (m : Move) (other : Kind) → Goes P m other
     → (m.promote ≡ None) ⊎ ((other ≡ Pawn) × IsPromotion m.promote)
 goes_promote P m King g = inl g.0
-goes_promote P m Queen g = inl g.1
-goes_promote P m Rook g = inl g.1
-goes_promote P m Bishop g = inl g.1
-goes_promote P m Knight g = inl g.1
 goes_promote P m Pawn g = elim g.2 [ inl last ↦ inr (refl, last.1) | inr other ↦ inl other.1 ]
+goes_promote P m _ g = inl g.1
 
 -- a man goes to an empty square or to one that it attacks
 king_to-empty : (P : State) (m : Move) (wing : Wing) → Castles P wing m → IsEmpty P.men m.to
@@ -57,14 +50,11 @@ king_attacks P m (Some wing) g = inl (king_to-empty P m wing g)
 pub goes_attacks : (P : State) (m : Move) (other : Kind) → Goes P m other
     → IsEmpty P.men m.to ⊎ Reaches P.men P.turn other m.from m.to
 goes_attacks P m King g = king_attacks P m m.castle g.1
-goes_attacks P m Queen g = inr g.2
-goes_attacks P m Rook g = inr g.2
-goes_attacks P m Bishop g = inr g.2
-goes_attacks P m Knight g = inr g.2
 goes_attacks P m Pawn g = elim g.1 [
   | inl single ↦ inl single.2
   | inr more ↦ elim more [ inl double ↦ inl double.end_empty | inr capture ↦ inr capture.0 ]
 ]
+goes_attacks P m _ g = inr g.2
 
 -- the king of the side not to move is never taken: it would stand in check
 pub no_king_taken : (P : State) (m : Move) → IsTried P m

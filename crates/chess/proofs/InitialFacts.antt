@@ -65,9 +65,8 @@ initial_empty s low high = elim (on_board_or_not s) [
 
 all_rights : (side : Side) (wing : Wing) → has_right initial.rights side wing ≡ true
 all_rights White KingSide = refl
-all_rights White QueenSide = refl
 all_rights Black KingSide = refl
-all_rights Black QueenSide = refl
+all_rights _ _ = refl
 
 pub initial_is_initial : IsInitial initial
 initial_is_initial = record {

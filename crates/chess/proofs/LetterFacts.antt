@@ -22,17 +22,8 @@ man_back : (side : Side) (other : Kind)
     ≡ record { side = side; kind = other }
 unfolding man_by kind_by
 man_back White King = refl
-man_back White Queen = refl
-man_back White Rook = refl
-man_back White Bishop = refl
-man_back White Knight = refl
-man_back White Pawn = refl
 man_back Black King = refl
-man_back Black Queen = refl
-man_back Black Rook = refl
-man_back Black Bishop = refl
-man_back Black Knight = refl
-man_back Black Pawn = refl
+man_back _ _ = refl
 
 pub one_man : (a b : Man) → man_letter a ≡ man_letter b → a ≡ b
 one_man a b e = sym (man_back a.side a.kind) ∙ ap man_by e ∙ man_back b.side b.kind
@@ -40,11 +31,7 @@ one_man a b e = sym (man_back a.side a.kind) ∙ ap man_by e ∙ man_back b.side
 -- letters stand after the digits
 kind_high : (other : Kind) → 57 ≤ kind_letter other
 kind_high King = omega arith
-kind_high Queen = omega arith
-kind_high Rook = omega arith
-kind_high Bishop = omega arith
-kind_high Knight = omega arith
-kind_high Pawn = omega arith
+kind_high _ = omega arith
 
 pub letter_high : (side : Side) (other : Kind)
     → 57 ≤ man_letter (record { side = side; kind = other })

@@ -1,7 +1,6 @@
 -- Facts about the table of letters: how it is filled man by man, and what it says of each square.
-use Rattle.std.proofs.Common.{◌≡◌, ◌<◌, ◌+◌, ◌&&◌, ℕ, false, not, inl, inr, ap, refl, sym, subst}
-use Rattle.std.proofs.Common.{◌∙◌, arith, if◌then◌else◌, List, length, slice_set, Option, Some}
-use Rattle.std.proofs.Common.{None}
+use Rattle.std.proofs.Common.{◌≡◌, ◌<◌, ◌+◌, ℕ, not, inl, inr, ap, refl, sym, ◌∙◌, List, Some, None}
+use Rattle.std.proofs.Common.{◌&&◌, false, subst, arith, if◌then◌else◌, length, slice_set, Option}
 use Rattle.std.specs.Prelude.{replicate, ltb}
 use Rattle.std.proofs.lemmas.Bool.{lt-ltb, ltb-true, cases_Bool}
 use Rattle.std.proofs.lemmas.List.{get_or-set_same, get_or-set_other, get_or-replicate, length-set}
@@ -19,7 +18,7 @@ use Rattle.chess.specs.declared.board.man.Man.{Man}
 use Rattle.chess.specs.declared.board.man.Side.{Side}
 use Rattle.chess.specs.declared.board.man.Kind.{Kind}
 use Rattle.chess.specs.declared.board.man.Side.TheVariants.{White, Black}
-use Rattle.chess.specs.declared.board.man.Kind.TheVariants.{King, Queen, Rook, Bishop, Knight, Pawn}
+use Rattle.chess.specs.declared.board.man.Kind.TheVariants.{King}
 use Rattle.chess.proofs.PlaceFacts.{cases_place, same_square-same, same_square-then, true_not_false}
 use Rattle.chess.proofs.LetterFacts.{letter_high}
 use Rattle.chess.proofs.LoopFacts.{not_in}
@@ -151,11 +150,7 @@ no_man_there (Some man) e = let high = letter_high man.side man.kind in absurd (
 
 kind_ascii : (other : Kind) → man_letter (record { side = White; kind = other }) < 96
 kind_ascii King = omega arith
-kind_ascii Queen = omega arith
-kind_ascii Rook = omega arith
-kind_ascii Bishop = omega arith
-kind_ascii Knight = omega arith
-kind_ascii Pawn = omega arith
+kind_ascii _ = omega arith
 
 man_ascii : (side : Side) (other : Kind) → man_letter (record { side = side; kind = other }) < 128
 man_ascii White other = let h = kind_ascii other in omega arith

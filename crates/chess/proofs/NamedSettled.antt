@@ -22,11 +22,10 @@ use Rattle.chess.specs.declared.board.man.Kind.TheVariants.{Pawn}
 use Rattle.chess.specs.declared.board.man.Wing.{Wing}
 use Rattle.chess.specs.declared.moves.Move.{Move}
 use Rattle.chess.proofs.PlaceFacts.{cases_place}
-use Rattle.chess.proofs.Settled.{Settled, settled_like, settled_both, settled_three, settled_either}
-use Rattle.chess.proofs.Settled.{settled_implies, settled_if_some, settled_not, settled_le}
-use Rattle.chess.proofs.Settled.{settled_true, settled_below, settled_held, settled_front, SearchIn}
-use Rattle.chess.proofs.Settled.{IsAny, search_any, search_both, search_bool, search_option}
-use Rattle.chess.proofs.Settled.{cases_option}
+use Rattle.chess.proofs.Settled.{Settled, settled_like, settled_below, settled_front, search_option}
+use Rattle.chess.proofs.Settled.{settled_both, settled_le, settled_true, settled_held, cases_option}
+use Rattle.chess.proofs.Settled.{settled_three, settled_either, settled_implies, settled_if_some}
+use Rattle.chess.proofs.Settled.{settled_not, SearchIn, IsAny, search_any, search_both, search_bool}
 use Rattle.chess.proofs.Searches.{search_square, search_wing, search_any_kind, cases_kind}
 use Rattle.chess.proofs.Searches.{cases_wing, cases_move}
 use Rattle.chess.proofs.LegalSettled.{settled_promotion_kind, settled_legal}

@@ -42,11 +42,6 @@ plain_are letter file rank is_letter is_file is_rank = record {
   plain = λ e. refl;
 }
 
-plain_text : (letter : Option ℕ) (file rank : ℕ)
-    → given letter ++ file ∷ rank ∷ [] ≡ stem_text (plain_bytes letter file rank) ++ []
-plain_text None file rank = refl
-plain_text (Some b) file rank = refl
-
 -- a text of two bytes, and of three
 two_bytes : (x : List ℕ) → 2 ≤ length x → length x < 3 → x ≡ get_or x 0 0 ∷ get_or x 1 0 ∷ []
 two_bytes [] least less = absurd (omega arith)

@@ -8,10 +8,9 @@ use Rattle.chess.specs.Public.Squares.{Place}
 use Rattle.chess.specs.Public.Laws.{TextHasOneRefusal}
 use Rattle.chess.specs.Public.San.{Agrees, Said, Spells, IsNamed}
 use Rattle.chess.specs.declared.board.man.Kind.{Kind}
-use Rattle.chess.specs.declared.move_text.refusal.Refusal.TheVariants.{NoMoveText, NoCastling}
-use Rattle.chess.specs.declared.move_text.refusal.Refusal.TheVariants.{CastlingAttacked}
-use Rattle.chess.specs.declared.move_text.refusal.Refusal.TheVariants.{WrongPromotion, NoneCan}
-use Rattle.chess.specs.declared.move_text.refusal.Refusal.TheVariants.{LeavesKingAttacked}
+use Rattle.chess.specs.declared.move_text.refusal.Refusal.TheVariants.{NoMoveText, CastlingAttacked}
+use Rattle.chess.specs.declared.move_text.refusal.Refusal.TheVariants.{NoCastling, WrongPromotion}
+use Rattle.chess.specs.declared.move_text.refusal.Refusal.TheVariants.{NoneCan, LeavesKingAttacked}
 use Rattle.chess.specs.declared.moves.Move.{Move}
 use Rattle.chess.proofs.NamedFacts.{not_both}
 use Rattle.chess.proofs.SaidOnceFacts.{one_said}
@@ -116,21 +115,18 @@ goes_as_said P x said spells (m, (pseudo, inr (own, its, agrees))) =
 
 -- so a text is refused for one reason
 pub one_reason : TextHasOneRefusal
-one_reason P x NoMoveText NoMoveText one other = refl
 one_reason P x NoMoveText NoCastling one other = absurd (one.0 other.0)
 one_reason P x NoMoveText CastlingAttacked one other = absurd (one.0 other.0)
 one_reason P x NoMoveText WrongPromotion one other = absurd (one.1 other.0 other.1)
 one_reason P x NoMoveText NoneCan one other = absurd (one.1 other.0 other.1)
 one_reason P x NoMoveText LeavesKingAttacked one other = absurd (one.1 other.0 other.1)
 one_reason P x NoCastling NoMoveText one other = absurd (other.0 one.0)
-one_reason P x NoCastling NoCastling one other = refl
 one_reason P x NoCastling CastlingAttacked one other = absurd (one.1 other.1.0 other.1.1)
 one_reason P x NoCastling WrongPromotion one other = absurd (no_promotion_castling P x one.0 other)
 one_reason P x NoCastling NoneCan one other = absurd (no_man_castling P x one.0 other)
 one_reason P x NoCastling LeavesKingAttacked one other = absurd (no_king_castling P x one.0 other)
 one_reason P x CastlingAttacked NoMoveText one other = absurd (other.0 one.0)
 one_reason P x CastlingAttacked NoCastling one other = absurd (other.1 one.1.0 one.1.1)
-one_reason P x CastlingAttacked CastlingAttacked one other = refl
 one_reason P x CastlingAttacked WrongPromotion one other =
     absurd (no_promotion_castling P x one.0 other)
 one_reason P x CastlingAttacked NoneCan one other = absurd (no_man_castling P x one.0 other)
@@ -140,7 +136,6 @@ one_reason P x WrongPromotion NoMoveText one other = absurd (other.1 one.0 one.1
 one_reason P x WrongPromotion NoCastling one other = absurd (no_promotion_castling P x other.0 one)
 one_reason P x WrongPromotion CastlingAttacked one other =
     absurd (no_promotion_castling P x other.0 one)
-one_reason P x WrongPromotion WrongPromotion one other = refl
 one_reason P x WrongPromotion NoneCan one other =
     absurd (no_promotion_helps P x other.0 other.1 other.2 one)
 one_reason P x WrongPromotion LeavesKingAttacked one other =
@@ -150,7 +145,6 @@ one_reason P x NoneCan NoCastling one other = absurd (no_man_castling P x other.
 one_reason P x NoneCan CastlingAttacked one other = absurd (no_man_castling P x other.0 one)
 one_reason P x NoneCan WrongPromotion one other =
     absurd (no_promotion_helps P x one.0 one.1 one.2 other)
-one_reason P x NoneCan NoneCan one other = refl
 one_reason P x NoneCan LeavesKingAttacked one other =
     absurd (no_man_that_goes P x other.0 other.0.promote other.1
     (goes_as_said P x other.0 other.1 other.2) one)
@@ -163,4 +157,4 @@ one_reason P x LeavesKingAttacked WrongPromotion one other =
 one_reason P x LeavesKingAttacked NoneCan one other =
     absurd (no_man_that_goes P x one.0 one.0.promote one.1 (goes_as_said P x one.0 one.1 one.2)
     other)
-one_reason P x LeavesKingAttacked LeavesKingAttacked one other = refl
+one_reason P x _ _ one other = refl

@@ -13,14 +13,13 @@ use Rattle.chess.specs.Private.SanWords.{IsCandidate, CanGoSaid, IsMoveSaid, IsC
 use Rattle.chess.specs.Private.SanWords.{move_from, castling_on}
 use Rattle.chess.specs.Public.Sets.{Places, is_in, no_places, HoldsExactly}
 use Rattle.chess.specs.declared.board.man.Kind.{Kind}
-use Rattle.chess.specs.declared.board.man.Kind.TheVariants.{King, Queen, Rook, Bishop, Knight, Pawn}
+use Rattle.chess.specs.declared.board.man.Kind.TheVariants.{King, Pawn}
 use Rattle.chess.specs.declared.board.man.Wing.{Wing}
 use Rattle.chess.specs.declared.moves.Move.{Move}
 use Rattle.chess.specs.declared.move_text.refusal.Refusal.{Refusal}
-use Rattle.chess.specs.declared.move_text.refusal.Refusal.TheVariants.{NoMoveText, NoCastling}
-use Rattle.chess.specs.declared.move_text.refusal.Refusal.TheVariants.{CastlingAttacked}
-use Rattle.chess.specs.declared.move_text.refusal.Refusal.TheVariants.{WrongPromotion, NoneCan}
-use Rattle.chess.specs.declared.move_text.refusal.Refusal.TheVariants.{LeavesKingAttacked}
+use Rattle.chess.specs.declared.move_text.refusal.Refusal.TheVariants.{NoMoveText, CastlingAttacked}
+use Rattle.chess.specs.declared.move_text.refusal.Refusal.TheVariants.{NoCastling, WrongPromotion}
+use Rattle.chess.specs.declared.move_text.refusal.Refusal.TheVariants.{NoneCan, LeavesKingAttacked}
 use Rattle.chess.proofs.AfterFacts.{after_on_board}
 use Rattle.chess.proofs.LegalSettled.{settled_check}
 use Rattle.chess.proofs.LoopFacts.{not_in}
@@ -45,10 +44,7 @@ castling_refused P x wing read NoCastling texts is fails = (
       fails (subst (IsPseudoLegal P)
       (castling_is P wing m meant.0 (by_castling P x wing read m texts is meant.1)) meant.0)),
 )
-castling_refused P x wing read NoMoveText texts is none = absurd none
-castling_refused P x wing read WrongPromotion texts is none = absurd none
-castling_refused P x wing read NoneCan texts is none = absurd none
-castling_refused P x wing read LeavesKingAttacked texts is none = absurd none
+castling_refused P x wing read _ texts is none = absurd none
 
 -- a text that says nothing
 pub nothing_said : (P : State) (x : List ℕ) (read : Option Wing) (said : Option Said)
@@ -117,10 +113,7 @@ said_refused P x read said own LeavesKingAttacked on_board texts is spelled some
       unsafe P m on_board meant.0 agrees.not_castling (λ legal.
       none m (record { legal = legal; by = meant.1 }))),
 )
-said_refused P x read said own NoMoveText on_board texts is spelled some none fails = absurd fails
-said_refused P x read said own NoCastling on_board texts is spelled some none fails = absurd fails
-said_refused P x read said own CastlingAttacked on_board texts is spelled some none fails =
-    absurd fails
+said_refused P x read said own _ on_board texts is spelled some none fails = absurd fails
 
 -- what goes with one promotion goes with one that fits
 goes_fitting : (P : State) (said : Said) (s : Place) (fit : Option Kind) (kind : Kind)
@@ -128,10 +121,7 @@ goes_fitting : (P : State) (said : Said) (s : Place) (fit : Option Kind) (kind :
     → Goes P (move_from said s) kind → Goes P (move_from (becoming fit said) s) kind
 goes_fitting P said s fit Pawn fits goes = (goes.0, goes.1, fits.0 refl)
 goes_fitting P said s fit King fits goes = (fits.1 (λ e. cc), goes.1)
-goes_fitting P said s fit Queen fits goes = (goes.0, fits.1 (λ e. cc), goes.2)
-goes_fitting P said s fit Rook fits goes = (goes.0, fits.1 (λ e. cc), goes.2)
-goes_fitting P said s fit Bishop fits goes = (goes.0, fits.1 (λ e. cc), goes.2)
-goes_fitting P said s fit Knight fits goes = (goes.0, fits.1 (λ e. cc), goes.2)
+goes_fitting P said s fit _ fits goes = (goes.0, fits.1 (λ e. cc), goes.2)
 
 -- a man that is a candidate with some promotion is a candidate with one that fits
 pub fitting_candidate : (P : State) (said : Said) (fit promote : Option Kind) (s : Place)

@@ -6,9 +6,9 @@ use Rattle.chess.specs.Public.Positions.{State, IsSound}
 use Rattle.chess.specs.Public.Moves.{after, IsLegal}
 use Rattle.chess.specs.Public.Letters.{is_check_sign}
 use Rattle.chess.specs.Public.San.{IsOnlyNamed, IsPieceText, IsBody, IsCheckSign, IsSan, pawn_text}
-use Rattle.chess.specs.Public.San.IsCheckSign.{mate, check, quiet}
+use Rattle.chess.specs.Public.San.IsCheckSign.{mate}
 use Rattle.chess.specs.declared.board.man.Kind.{Kind}
-use Rattle.chess.specs.declared.board.man.Kind.TheVariants.{King, Queen, Rook, Bishop, Knight, Pawn}
+use Rattle.chess.specs.declared.board.man.Kind.TheVariants.{Pawn}
 use Rattle.chess.specs.declared.moves.Move.{Move}
 use Rattle.chess.proofs.SaidNamesFacts.{castling_named}
 use Rattle.chess.proofs.PieceNamesFacts.{piece_named}
@@ -16,25 +16,16 @@ use Rattle.chess.proofs.PawnNamesFacts.{pawn_named}
 
 marks_are : (P : State) (mark : List ℕ) → IsCheckSign P mark → list_all is_check_sign mark ≡ true
 marks_are P _ (mate mated) = refl
-marks_are P _ (check in_check other) = refl
-marks_are P _ (quiet calm) = refl
+marks_are P _ _ = refl
 
 cases_pawn : (kind : Kind) → (kind ≡ Pawn) ⊎ (kind ≡ Pawn → ⊥)
-cases_pawn King = inr (λ e. cc)
-cases_pawn Queen = inr (λ e. cc)
-cases_pawn Rook = inr (λ e. cc)
-cases_pawn Bishop = inr (λ e. cc)
-cases_pawn Knight = inr (λ e. cc)
 cases_pawn Pawn = inl refl
+cases_pawn _ = inr (λ e. cc)
 
 piece_text : (P : State) (m : Move) (kind : Kind) (body : List ℕ) → (kind ≡ Pawn → ⊥)
     → IsBody P m None kind body → IsPieceText P m kind body
-piece_text P m King body piece is = is
-piece_text P m Queen body piece is = is
-piece_text P m Rook body piece is = is
-piece_text P m Bishop body piece is = is
-piece_text P m Knight body piece is = is
 piece_text P m Pawn body piece is = absurd (piece refl)
+piece_text P m _ body piece is = is
 
 pub san_names : (P : State) (m : Move) (x : List ℕ) → IsSound P → IsLegal P m → IsSan P m x
     → IsOnlyNamed P x m

@@ -16,33 +16,28 @@ use Rattle.chess.specs.declared.moves.Move.{Move}
 
 one_origin : (P : State) (m : Move) (x y : List ℕ) → IsDisambiguation P m x → IsDisambiguation P m y
     → x ≡ y
-one_origin P m _ _ (alone none) (alone also) = refl
 one_origin P m _ _ (alone none) (by_file some other) = absurd (none some)
 one_origin P m _ _ (alone none) (by_rank some other) = absurd (none (some.0, some.1, tt))
 one_origin P m _ _ (alone none) (by_both file rank) = absurd (none (file.0, file.1, tt))
 one_origin P m _ _ (by_file some none) (alone other) = absurd (other some)
-one_origin P m _ _ (by_file some none) (by_file also other) = refl
 one_origin P m _ _ (by_file some none) (by_rank file other) = absurd (none file)
 one_origin P m _ _ (by_file some none) (by_both file rank) = absurd (none file)
 one_origin P m _ _ (by_rank file none) (alone other) = absurd (other (file.0, file.1, tt))
 one_origin P m _ _ (by_rank file none) (by_file some other) = absurd (other file)
-one_origin P m _ _ (by_rank file none) (by_rank also other) = refl
 one_origin P m _ _ (by_rank file none) (by_both also rank) = absurd (none rank)
 one_origin P m _ _ (by_both file rank) (alone other) = absurd (other (file.0, file.1, tt))
 one_origin P m _ _ (by_both file rank) (by_file some other) = absurd (other file)
 one_origin P m _ _ (by_both file rank) (by_rank also other) = absurd (other rank)
-one_origin P m _ _ (by_both file rank) (by_both also too) = refl
+one_origin P m _ _ _ _ = refl
 
 one_mark : (P : State) (x y : List ℕ) → IsCheckSign P x → IsCheckSign P y → x ≡ y
-one_mark P _ _ (mate mated) (mate also) = refl
 one_mark P _ _ (mate mated) (check also other) = absurd (other mated)
 one_mark P _ _ (mate mated) (quiet calm) = absurd (calm mated.0)
 one_mark P _ _ (check in_check other) (mate mated) = absurd (other mated)
-one_mark P _ _ (check in_check other) (check also too) = refl
 one_mark P _ _ (check in_check other) (quiet calm) = absurd (calm in_check)
 one_mark P _ _ (quiet calm) (mate mated) = absurd (calm mated.0)
 one_mark P _ _ (quiet calm) (check in_check other) = absurd (calm in_check)
-one_mark P _ _ (quiet calm) (quiet also) = refl
+one_mark P _ _ _ _ = refl
 
 one_piece : (P : State) (m : Move) (letter : ℕ) (x y : List ℕ)
     → ((origin : List ℕ) × IsDisambiguation P m origin

@@ -52,11 +52,8 @@ no_king_rival P m man s sound here king rival =
 piece_reaches : (P : State) (m : Move) (other : Kind) → (other ≡ Pawn → ⊥) → (other ≡ King → ⊥)
     → Goes P m other → Reaches P.men P.turn other m.from m.to
 piece_reaches P m King no_pawn no_king g = absurd (no_king refl)
-piece_reaches P m Queen no_pawn no_king g = g.2
-piece_reaches P m Rook no_pawn no_king g = g.2
-piece_reaches P m Bishop no_pawn no_king g = g.2
-piece_reaches P m Knight no_pawn no_king g = g.2
 piece_reaches P m Pawn no_pawn no_king g = absurd (no_pawn refl)
+piece_reaches P m _ no_pawn no_king g = g.2
 
 -- a rival that is no pawn attacks the target
 pub rival_reaches : (P : State) (m : Move) (man : Man) (s : Place) → IsSound P

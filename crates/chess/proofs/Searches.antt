@@ -39,8 +39,7 @@ axis_by None = Level
 
 axis_back : (x : Axis) → axis_by (axis_code x) ≡ x
 axis_back Up = refl
-axis_back Level = refl
-axis_back Down = refl
+axis_back _ = refl
 
 search_axis : Search Axis
 search_axis = search_by axis_code axis_by axis_back (search_option search_bool)

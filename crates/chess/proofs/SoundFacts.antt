@@ -19,7 +19,7 @@ use Rattle.chess.specs.declared.board.man.Side.TheVariants.{White, Black}
 use Rattle.chess.specs.declared.board.man.Kind.{Kind}
 use Rattle.chess.specs.declared.board.man.Kind.TheVariants.{Rook, Pawn}
 use Rattle.chess.specs.declared.board.man.Wing.{Wing}
-use Rattle.chess.specs.declared.board.man.Wing.TheVariants.{KingSide, QueenSide}
+use Rattle.chess.specs.declared.board.man.Wing.TheVariants.{KingSide}
 use Rattle.chess.specs.declared.board.man.CastlingRights.{CastlingRights}
 use Rattle.chess.specs.declared.moves.Move.{Move}
 use Rattle.chess.proofs.PlaceFacts.{place_of, cases_place, same_square-same, cases_side}
@@ -115,9 +115,8 @@ pawns_after P m x side s here = elim (has_come P m s (pawn_of side) here) [
 rights_are : (rights : CastlingRights) (m : Move) (side : Side) (wing : Wing)
     → has_right (rights_after rights m) side wing ≡ keeps_right rights m side wing
 rights_are rights m White KingSide = refl
-rights_are rights m White QueenSide = refl
 rights_are rights m Black KingSide = refl
-rights_are rights m Black QueenSide = refl
+rights_are rights m _ _ = refl
 
 -- what a right that is kept says
 pub record IsRightKept (P : State) (m : Move) (side : Side) (wing : Wing) : Type 0 where

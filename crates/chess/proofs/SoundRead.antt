@@ -12,7 +12,7 @@ use Rattle.chess.specs.declared.board.man.Man.{Man}
 use Rattle.chess.specs.declared.board.man.Side.{Side}
 use Rattle.chess.specs.declared.board.man.Side.TheVariants.{White, Black}
 use Rattle.chess.specs.declared.board.man.Kind.{Kind}
-use Rattle.chess.specs.declared.board.man.Kind.TheVariants.{King, Queen, Rook, Bishop, Knight, Pawn}
+use Rattle.chess.specs.declared.board.man.Kind.TheVariants.{King}
 use Rattle.chess.proofs.PlaceFacts.{same_side, same_kind, man_of}
 use Rattle.chess.proofs.FenFacts.{spelled_kept, HasKings}
 
@@ -36,11 +36,7 @@ search_below fact test (suc n) = elim (test n) [
 
 cases_king : (kind : Kind) → (kind ≡ King) ⊎ (kind ≡ King → ⊥)
 cases_king King = inl refl
-cases_king Queen = inr (λ e. cc)
-cases_king Rook = inr (λ e. cc)
-cases_king Bishop = inr (λ e. cc)
-cases_king Knight = inr (λ e. cc)
-cases_king Pawn = inr (λ e. cc)
+cases_king _ = inr (λ e. cc)
 
 same_or_not : (a b : Side) → (a ≡ b) ⊎ (a ≡ b → ⊥)
 same_or_not White White = inl refl

@@ -10,12 +10,11 @@ use Rattle.chess.specs.Public.Letters.{is_check_sign, is_sign, kind_letter, file
 use Rattle.chess.specs.Public.San.{Said, Spells, letter_text, file_text, rank_text, promotion_text}
 use Rattle.chess.specs.Public.San.{IsFileOrRank}
 use Rattle.chess.specs.Public.Moves.{IsPromotionKind}
-use Rattle.chess.specs.Private.SanWords.{is_of, kind_of, kind_given, number_given, last_of}
-use Rattle.chess.specs.Private.SanWords.{before_last, unmarked, before_equals, stem}
-use Rattle.chess.specs.Private.SanWords.{after_target_rank, after_target, after_sign, after_rank}
-use Rattle.chess.specs.Private.SanWords.{after_file, after_letter}
+use Rattle.chess.specs.Private.SanWords.{is_of, before_last, after_target, after_sign, after_letter}
+use Rattle.chess.specs.Private.SanWords.{kind_of, last_of, unmarked, stem, after_rank, after_file}
+use Rattle.chess.specs.Private.SanWords.{kind_given, number_given, before_equals, after_target_rank}
 use Rattle.chess.specs.declared.board.man.Kind.{Kind}
-use Rattle.chess.specs.declared.board.man.Kind.TheVariants.{King, Queen, Rook, Bishop, Knight, Pawn}
+use Rattle.chess.specs.declared.board.man.Kind.TheVariants.{King, Queen, Rook, Bishop, Knight}
 use Rattle.chess.specs.declared.move_text.read.parse.ByteClass.{ByteClass}
 use Rattle.chess.specs.declared.move_text.read.parse.ByteClass.TheVariants.{Sign, Digit, FileLetter}
 use Rattle.chess.specs.declared.move_text.read.parse.ByteClass.TheVariants.{KindLetter, Equals}
@@ -268,11 +267,7 @@ bytes_of said sign equals = record {
 pub letter_is_kind : (k : Kind) → (is_of KindLetter (kind_letter k) ≡ true)
     × (kind_of (kind_letter k) ≡ Some k)
 letter_is_kind King = (refl, refl)
-letter_is_kind Queen = (refl, refl)
-letter_is_kind Rook = (refl, refl)
-letter_is_kind Bishop = (refl, refl)
-letter_is_kind Knight = (refl, refl)
-letter_is_kind Pawn = (refl, refl)
+letter_is_kind _ = (refl, refl)
 
 said_letter : (o : Option Kind) → IsGivenOf KindLetter (option_map kind_letter o)
     × (letter_text o ≡ given (option_map kind_letter o))

@@ -159,9 +159,6 @@ pub step_file : (P : State) (s t : Place) → IsSingleStep P s t ⊎ IsDoubleSte
 step_file P s t (inl single) = sym single.0
 step_file P s t (inr double) = sym double.file
 
-pub take_file : (P : State) (s t : Place) → IsPawnCapture P s t → s.file ≡ t.file → ⊥
-take_file P s t capture e = gap_none s.file t.file e capture.0.0
-
 pub step_free : (P : State) (s t : Place) → IsSingleStep P s t ⊎ IsDoubleStep P s t
     → IsEmpty P.men t
 step_free P s t (inl single) = single.2

@@ -179,9 +179,8 @@ each_right : (side : Side) (wing : Wing)
     }) side wing
     ≡ has_byte (right_letter side wing) (codes "qK")
 each_right White KingSide = refl
-each_right White QueenSide = refl
 each_right Black KingSide = refl
-each_right Black QueenSide = refl
+each_right _ _ = refl
 
 no_right : (side : Side) (wing : Wing)
     → has_right (record {
@@ -193,9 +192,8 @@ no_right : (side : Side) (wing : Wing)
     }) side wing
     ≡ has_byte (right_letter side wing) (codes "-")
 no_right White KingSide = refl
-no_right White QueenSide = refl
 no_right Black KingSide = refl
-no_right Black QueenSide = refl
+no_right _ _ = refl
 
 -- qK gives two rights; K- and KK give none, and are no field of rights
 two_rights : GivesRights (codes "qK")

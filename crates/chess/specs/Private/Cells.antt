@@ -1,8 +1,7 @@
 -- A placement given square by square, as a board holds it.
 use Rattle.std.specs.Prelude.{ℕ, List, Option, None, get_or}
-use Rattle.chess.specs.Public.Placements.{Placement}
+use Rattle.chess.specs.Public.Placements.{Placement, men_of}
 use Rattle.chess.specs.declared.board.man.Man.{Man}
-use Rattle.chess.specs.Public.Placements.{men_of}
 
 -- the men that 64 cells hold
 abbrev pub cell_of : List (Option Man) → ℕ → Option Man

@@ -10,10 +10,9 @@ use Rattle.chess.specs.declared.board.man.Kind.{Kind}
 use Rattle.chess.specs.declared.board.man.Kind.TheVariants.{Pawn}
 use Rattle.chess.specs.declared.board.man.Wing.{Wing}
 use Rattle.chess.specs.declared.move_text.refusal.Refusal.{Refusal}
-use Rattle.chess.specs.declared.move_text.refusal.Refusal.TheVariants.{NoMoveText, NoCastling}
-use Rattle.chess.specs.declared.move_text.refusal.Refusal.TheVariants.{CastlingAttacked}
-use Rattle.chess.specs.declared.move_text.refusal.Refusal.TheVariants.{WrongPromotion, NoneCan}
-use Rattle.chess.specs.declared.move_text.refusal.Refusal.TheVariants.{LeavesKingAttacked}
+use Rattle.chess.specs.declared.move_text.refusal.Refusal.TheVariants.{NoMoveText, CastlingAttacked}
+use Rattle.chess.specs.declared.move_text.refusal.Refusal.TheVariants.{NoCastling, WrongPromotion}
+use Rattle.chess.specs.declared.move_text.refusal.Refusal.TheVariants.{NoneCan, LeavesKingAttacked}
 
 -- why castling on the wing is not legal: it is pseudo-legal, or it is not
 abbrev pub IsCastlingRefusal : State → Wing → Refusal → Type 0

@@ -9,10 +9,9 @@ use Rattle.chess.specs.declared.board.man.Kind.{Kind}
 use Rattle.chess.specs.declared.board.man.Wing.{Wing}
 use Rattle.chess.specs.declared.moves.Move.{Move}
 use Rattle.chess.specs.declared.move_text.refusal.Refusal.{Refusal}
-use Rattle.chess.specs.declared.move_text.refusal.Refusal.TheVariants.{NoMoveText, NoCastling}
-use Rattle.chess.specs.declared.move_text.refusal.Refusal.TheVariants.{CastlingAttacked}
-use Rattle.chess.specs.declared.move_text.refusal.Refusal.TheVariants.{WrongPromotion, NoneCan}
-use Rattle.chess.specs.declared.move_text.refusal.Refusal.TheVariants.{LeavesKingAttacked}
+use Rattle.chess.specs.declared.move_text.refusal.Refusal.TheVariants.{NoMoveText, CastlingAttacked}
+use Rattle.chess.specs.declared.move_text.refusal.Refusal.TheVariants.{NoCastling, WrongPromotion}
+use Rattle.chess.specs.declared.move_text.refusal.Refusal.TheVariants.{NoneCan, LeavesKingAttacked}
 
 -- the text speaks of the move: of castling on that wing, or of a move that agrees with what it says
 abbrev pub IsSpokenOf : State → List ℕ → Move → Type 0

@@ -1,9 +1,8 @@
 use Rattle.std.proofs.Common.{ap, ◌∙◌, None}
 use Rattle.chess.specs.Private.Cells.{cells_men, cell_of}
-use Rattle.chess.specs.Shared.CellFacts.{men_of-none}
+use Rattle.chess.specs.Shared.CellFacts.{men_of-none, no_cell}
 use Rattle.chess.proofs.board.mailbox.MailboxBoard.empty.Goals as goal
 use Rattle.std.specs.Prelude.{replicate}
-use Rattle.chess.specs.Shared.CellFacts.{no_cell}
 
 pub returns : goal.returns
 returns c = ap cells_men c.no_cells.ensures.cells

@@ -1,11 +1,10 @@
 use Rattle.std.proofs.Common.{rules, arith, ap, ◌∙◌, ◌≡◌, None}
-use Rattle.std.specs.Prelude.{get_or}
+use Rattle.std.specs.Prelude.{get_or, slice_set, length}
 use Rattle.chess.specs.Public.Squares.{index_of}
 use Rattle.chess.specs.Private.Cells.{cell_of}
 use Rattle.chess.specs.Shared.CellFacts.{men_of-put}
 use Rattle.chess.specs.Shared.SetFacts.{index_of-below}
 use Rattle.chess.proofs.board.mailbox.MailboxBoard.put.Goals as goal
-use Rattle.std.specs.Prelude.{slice_set, length}
 use Rattle.std.proofs.lemmas.List.{get_or-set_same, get_or-set_other}
 
 pub returns : goal.returns
