@@ -5,7 +5,7 @@ use Rattle.std.proofs.Common.{append-nil, length-append}
 use Rattle.std.proofs.lemmas.Bool.{cases_Bool, both_ways}
 use Rattle.std.proofs.lemmas.List.{map-append}
 use Rattle.pgn_text.specs.Public.Blocks.{IsFirstBlock, AreBlocks}
-use Rattle.pgn_text.specs.Public.Windows.{Window, fresh_window, IsCutOff}
+use Rattle.pgn_text.specs.Public.Windows.{Window, IsCutOff}
 use Rattle.pgn_text.proofs.OneBlocks.{empty_first}
 use Rattle.pgn_text.proofs.OneList.{no_bytes}
 
@@ -26,15 +26,6 @@ pub record Sized (text : List ℕ) (now : Window) (left : List ℕ) (sizes : Lis
 abbrev pub turns : Bool → ℕ
 turns true = 0
 turns false = 1
-
-pub none_sized : (text left : List ℕ) (now : Window) → now ≡ fresh_window 0 → left ≡ text
-    → Sized text now left []
-none_sized text left now fresh same = record {
-  blocks = [];
-  sized = refl;
-  leads = λ more are. subst (AreBlocks more) same
-      (subst (λ (w : Window). AreLeft w.ended more (w.ahead ++ left)) fresh are);
-}
 
 -- the bytes of a block and what follows it are those that were ahead or left
 pub cut_text : (now next : Window) (left left' read block : List ℕ)

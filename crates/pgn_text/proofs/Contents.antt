@@ -1,16 +1,16 @@
 -- The contents of a string, read run by run.
-use Rattle.std.proofs.Common.{◌≡◌, ◌≢◌, ℕ, ◌+◌, ◌-◌, ◌<◌, ◌≤◌, Bool, true, false, List, [], ◌∷◌}
+use Rattle.std.proofs.Common.{◌≡◌, ℕ, ◌+◌, ◌-◌, ◌<◌, ◌≤◌, true, false, List, [], ◌∷◌}
 use Rattle.std.proofs.Common.{◌++◌, take, drop, length, get_or, refl, sym, ap, ◌∙◌, subst}
-use Rattle.std.proofs.Common.{append_assoc, append-nil, arith, drop-drop, length-drop}
-use Rattle.std.specs.Prelude.{Option, Some, None, option_map, IsTrue, ◌==◌, ◌&&◌, ◌||◌, not}
+use Rattle.std.proofs.Common.{append_assoc, arith, drop-drop}
+use Rattle.std.specs.Prelude.{Option, Some, None, option_map, IsTrue, ◌==◌, ◌&&◌, not}
 use Rattle.std.specs.List.{list_all}
-use Rattle.std.proofs.lemmas.Bool.{and_parts, not-true, ne_eqb}
-use Rattle.std.proofs.lemmas.List.{drop_more, get_or-drop}
+use Rattle.std.proofs.lemmas.Bool.{and_parts, not-true}
+use Rattle.std.proofs.lemmas.List.{drop_more}
 use Rattle.std.proofs.Math.Seq.{take-add}
 use Rattle.pgn_text.specs.Public.Bytes.{is_plain, stops, run_of}
 use Rattle.pgn_text.specs.Private.Reading.{is_single}
 use Rattle.pgn_text.specs.Shared.StringTexts.{contents_front, with_byte}
-use Rattle.pgn_text.specs.Private.Tokens.{RunTo, ContentsTo}
+use Rattle.pgn_text.specs.Private.Tokens.{RunTo}
 use Rattle.pgn_text.proofs.Fronts.{run-append-after, list_all-run, stops-after_run}
 
 -- contents that were found after a front
@@ -133,57 +133,3 @@ read_pair {block} {begin} {at} {next} read below backslash plain to =
       within = after.within;
       ends = after.ends;
     }
-
-quote_or_none : (plain quote backslash : Bool) → not (plain && (not quote && not backslash)) ≡ true
-    → backslash ≡ false → (quote || not plain) ≡ true
-quote_or_none true true backslash ends is = refl
-quote_or_none true false true ends is = absurd (cc)
-quote_or_none true false false ends is = absurd (cc)
-quote_or_none false true backslash ends is = refl
-quote_or_none false false backslash ends is = refl
-
--- where no byte that stands for itself follows and no backslash, the contents end
-ended : (xs : List ℕ) → IsTrue (stops is_single xs)
-    → ((b : ℕ) (rest : List ℕ) → xs ≡ b ∷ rest → b ≢ 92) → contents_front false xs ≡ Some ([], xs)
-ended [] ends no_backslash = refl
-ended (b ∷ rest) ends no_backslash =
-    let no : (b == 92) ≡ false = ne_eqb b 92 (no_backslash b rest refl) in
-    rw (no, quote_or_none (is_plain b) (b == 34) (b == 92) ends no) refl
-
-pub read_end : {block : List ℕ} {begin at : ℕ} → ReadTo block begin at
-    → (at < length block → get_or block at 0 ≢ 92) → ContentsTo block begin at
-read_end {block} {begin} {at} read no_backslash =
-    let first : (b : ℕ) (rest : List ℕ) → drop at block ≡ b ∷ rest → b ≢ 92 = λ b rest is backslash.
-    let below : at < length block = omega (arith, length-drop at block, ap length is) in
-    let here : get_or block at 0 ≡ b = ap (λ k. get_or block k 0) (omega arith)
-    ∙ sym (get_or-drop at block 0 0) ∙ ap (λ ys. get_or ys 0 0) is in
-    no_backslash below (here ∙ backslash) in
-    record {
-      found = read.reads
-          ∙ ap (after_front (take (at - begin) (drop begin block)))
-          (ended (drop at block) read.ends first)
-          ∙ ap (λ xs. Some (xs, drop at block)) (append-nil (take (at - begin) (drop begin block)));
-      forward = read.forward;
-      within = read.within;
-    }
-
--- a backslash that stands by itself, and then the end or a byte that no string has
-pub read_none : {block : List ℕ} {begin at : ℕ} → ReadTo block begin at → at < length block
-    → get_or block at 0 ≡ 92 → (at + 1 < length block → is_plain (get_or block (at + 1) 0) ≡ false)
-    → contents_front false (drop begin block) ≡ None
-read_none {block} {begin} {at} read below backslash ends =
-    let alone : (xs : List ℕ) → drop (at + 1) block ≡ xs → contents_front true xs ≡ None =
-    λ xs. elim xs as (λ ys. drop (at + 1) block ≡ ys → contents_front true ys ≡ None) [
-      | [] ↦ (λ _. refl)
-      | (b ∷ rest) ↦ (λ is.
-          let more : at + 1 < length block = omega (arith, length-drop (at + 1) block, ap length is)
-          in
-          let here : get_or block (at + 1) 0 ≡ b =
-          ap (λ k. get_or block k 0) (omega arith) ∙ sym (get_or-drop (at + 1) block 0 0)
-          ∙ ap (λ ys. get_or ys 0 0) is in
-          rw (sym (ap is_plain here) ∙ ends more) refl)
-    ] in
-    read.reads ∙ ap (after_front (take (at - begin) (drop begin block)))
-    (ap (contents_front false) (drop_more block at 0 below
-    ∙ ap (λ x. x ∷ drop (at + 1) block) backslash)
-    ∙ ap (option_map (with_byte 92)) (alone (drop (at + 1) block) refl))

@@ -1,7 +1,7 @@
 -- What the definitions refuse: of the complete blocks of a text, and of what one call of an
 -- iterator over a block gives.
 use Rattle.std.proofs.Common.{◌≡◌, ◌≢◌, ◌≤◌, ◌<◌, ◌∙◌, ℕ, true, false, List, [], ◌∷◌, ◌++◌, length}
-use Rattle.std.proofs.Common.{Option, None, Some, Ok, Err, inl, inr, ap, refl, sym, arith}
+use Rattle.std.proofs.Common.{None, Some, Err, inl, inr, ap, refl, sym, arith}
 use Rattle.std.proofs.lemmas.List.{length-append}
 use Rattle.pgn_text.specs.Public.Blocks.{event_line}
 use Rattle.std.specs.declared.alloc.AllocError.{AllocError}

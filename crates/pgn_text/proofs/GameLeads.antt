@@ -8,7 +8,7 @@ use Rattle.std.proofs.lemmas.Bool.{false≢true, and_parts, and_from, ltb-true, 
 use Rattle.std.proofs.lemmas.Bool.{or_left, or_right, MatchBool-at_true, MatchBool-at_false}
 use Rattle.std.proofs.lemmas.Bool.{true_from_ne_false, false_from_ne_true}
 use Rattle.std.proofs.lemmas.Option.{cond_some}
-use Rattle.pgn_text.specs.Public.Parts.{Part, ByteOrderMark, White, Brace, Line, EscapeLine, Tag}
+use Rattle.pgn_text.specs.Public.Parts.{Part, Tag}
 use Rattle.pgn_text.specs.Public.Parts.{Word, Star, Dot, Glyph, Marks, Open, Close, AllStand}
 use Rattle.pgn_text.specs.Public.Games.{is_number, is_result_word, is_move_text, is_gap_part}
 use Rattle.pgn_text.specs.Public.Games.{is_tag, is_result, is_meant, is_open, is_close, EachFrom}
@@ -47,11 +47,6 @@ step_goes : (max_depth : ℕ) (front : List Part) (s : State) (p : Part) → Sho
     → depth_after (front ++ p ∷ []) ≤ max_depth
     → count_by is_close (front ++ p ∷ []) ≤ count_by is_open (front ++ p ∷ [])
     → (t : State) × (step max_depth s p ≡ Some t)
-step_goes max_depth front s ByteOrderMark h r tag meant move deep closed = (s, refl)
-step_goes max_depth front s (White b) h r tag meant move deep closed = (s, refl)
-step_goes max_depth front s (Brace text) h r tag meant move deep closed = (s, refl)
-step_goes max_depth front s (Line text) h r tag meant move deep closed = (s, refl)
-step_goes max_depth front s (EscapeLine text) h r tag meant move deep closed = (s, refl)
 step_goes max_depth front s (Tag first name second contents third) h r tag meant move deep closed =
     (s, rw (tag refl) refl)
 step_goes max_depth front s (Word text) h r tag meant move deep closed =
@@ -78,6 +73,7 @@ step_goes max_depth front s Close h r tag meant move deep closed =
       record { in_tags = false; depth = s.depth - 1; has_move = true },
       rw (lt-ltb 0 s.depth (omega (arith, opens, closes, h.balance))) refl,
     )
+step_goes max_depth front s _ h r tag meant move deep closed = (s, refl)
 
 match_true : (b : Bool) (P Q : Type 0) → b ≡ true → P → MatchBool b P Q
 match_true b P Q e p = rw e p
@@ -211,11 +207,7 @@ step_says max_depth s t (Glyph digits) e =
     (λ x. cc, refl, λ x. cc, within max_depth (in_movetext s) t cc)
 step_says max_depth s t (Marks marks) e =
     (λ x. cc, refl, λ x. cc, within max_depth (in_movetext s) t cc)
-step_says max_depth s t ByteOrderMark e = (λ x. cc, refl, λ x. cc, within max_depth s t cc)
-step_says max_depth s t (White b) e = (λ x. cc, refl, λ x. cc, within max_depth s t cc)
-step_says max_depth s t (Brace text) e = (λ x. cc, refl, λ x. cc, within max_depth s t cc)
-step_says max_depth s t (Line text) e = (λ x. cc, refl, λ x. cc, within max_depth s t cc)
-step_says max_depth s t (EscapeLine text) e = (λ x. cc, refl, λ x. cc, within max_depth s t cc)
+step_says max_depth s t _ e = (λ x. cc, refl, λ x. cc, within max_depth s t cc)
 
 goes_on : (max_depth : ℕ) (front parts : List Part) (s : State) → Shows front s
     → s.depth ≤ max_depth

@@ -16,10 +16,9 @@ use Rattle.pgn_text.specs.Public.Games.{is_tag}
 use Rattle.pgn_text.proofs.Classes.{is_name_byte-white, is_white-name}
 use Rattle.pgn_text.specs.Private.PartFronts.{Longest, next_in, Ends, IsTagFront}
 use Rattle.pgn_text.specs.declared.error.error_position.InTag.{InTag}
-use Rattle.pgn_text.specs.declared.error.error_position.InTag.TheVariants.{BeforeName, Name}
-use Rattle.pgn_text.specs.declared.error.error_position.InTag.TheVariants.{AfterName, Contents}
-use Rattle.pgn_text.specs.declared.error.error_position.InTag.TheVariants.{AfterBackslash}
-use Rattle.pgn_text.specs.declared.error.error_position.InTag.TheVariants.{AfterString, Closed}
+use Rattle.pgn_text.specs.declared.error.error_position.InTag.TheVariants.{BeforeName, AfterString}
+use Rattle.pgn_text.specs.declared.error.error_position.InTag.TheVariants.{Name, AfterName, Closed}
+use Rattle.pgn_text.specs.declared.error.error_position.InTag.TheVariants.{Contents, AfterBackslash}
 use Rattle.pgn_text.proofs.Furthest.{longest_after, longest_nothing}
 
 -- each place goes on to the tag's end
@@ -38,12 +37,7 @@ each_ends Closed = ([], refl)
 ends_in_bytes : (s : InTag) → IsTrue (list_all is_byte (each_ends s).0)
 unfolding each_ends
 ends_in_bytes BeforeName = refl
-ends_in_bytes Name = refl
-ends_in_bytes AfterName = refl
-ends_in_bytes Contents = refl
-ends_in_bytes AfterBackslash = refl
-ends_in_bytes AfterString = refl
-ends_in_bytes Closed = refl
+ends_in_bytes _ = refl
 
 -- so each front of a tag does
 pub tag_bytes : (s : InTag) (x more : List ℕ) → Ends s (x ++ more)

@@ -11,11 +11,6 @@ use Rattle.pgn_text.proofs.Furthest.{as_far_front, as_far_whole, as_far_goes}
 use Rattle.pgn_text.proofs.Classes.{is_digit-word}
 use Rattle.pgn_text.proofs.TagLemmas.{bytes_eq-same}
 
--- the word has a meaning; a result has one only where `closed`
-abbrev pub IsMeant : Bool → List ℕ → Type 0
-IsMeant closed word = (is_number word || is_move_text word) ≡ true
-    ⊎ ((closed ≡ true) × (is_result_word word ≡ true))
-
 -- a word that begins as another and goes on with check signs
 castling_far : (w x y : List ℕ) → starts_with nat_eq (x ++ y) w ≡ true
     → list_all is_check_sign (drop (length w) (x ++ y)) ≡ true → IsFrontOf is_check_sign w x

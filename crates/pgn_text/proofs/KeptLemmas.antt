@@ -7,14 +7,11 @@ use Rattle.std.proofs.lemmas.Bool.Decides.{nat_tests}
 use Rattle.std.specs.List.{list_all, starts_with}
 use Rattle.std.proofs.lemmas.List.Concat.{flat_map-append}
 use Rattle.pgn_text.specs.Public.Bytes.{is_digit, is_letter, begins}
-use Rattle.pgn_text.specs.Public.Parts.{Part, ByteOrderMark, White, Brace, Line, EscapeLine, Tag}
-use Rattle.pgn_text.specs.Public.Parts.{Word, Star, Dot, Glyph, Marks, Open, Close}
+use Rattle.pgn_text.specs.Public.Parts.{Part, Word}
 use Rattle.pgn_text.specs.Public.Games.{is_move_text, is_number, is_result_word, is_result}
 use Rattle.pgn_text.specs.Public.Games.{MoveText, items_of_part, items_of}
-use Rattle.pgn_text.specs.Private.Reading.{Kept, kept, kept_word, is_kept_result, step_kept}
-use Rattle.pgn_text.specs.Private.Reading.{items_of_kept, KeptGap, KeptComment, KeptTag, KeptMove}
-use Rattle.pgn_text.specs.Private.Reading.{KeptNumber, KeptResult, KeptStray, KeptDot, KeptGlyph}
-use Rattle.pgn_text.specs.Private.Reading.{KeptMarks, KeptOpen, KeptClose}
+use Rattle.pgn_text.specs.Private.Reading.{Kept, kept, kept_word, step_kept, KeptMove, KeptStray}
+use Rattle.pgn_text.specs.Private.Reading.{is_kept_result, items_of_kept, KeptNumber, KeptResult}
 use Rattle.pgn_text.specs.Private.Steps.{State, step, in_movetext}
 use Rattle.pgn_text.proofs.TagLemmas.{bytes_eq-same}
 
@@ -114,56 +111,23 @@ result-word word false is =
     ≡ false) (λ _. refl) refl (λ yes. absurd (cc)) (λ _. refl)
 
 pub is_result-kept : (p : Part) → is_result p ≡ is_kept_result (kept p)
-is_result-kept ByteOrderMark = refl
-is_result-kept (White b) = refl
-is_result-kept (Brace text) = refl
-is_result-kept (Line text) = refl
-is_result-kept (EscapeLine text) = refl
-is_result-kept (Tag first name second contents third) = refl
 is_result-kept (Word word) = sym (result-word word (is_result_word word) refl)
-is_result-kept Star = refl
-is_result-kept Dot = refl
-is_result-kept (Glyph digits) = refl
-is_result-kept (Marks marks) = refl
-is_result-kept Open = refl
-is_result-kept Close = refl
+is_result-kept _ = refl
 
 pub step-kept : (max_depth : ℕ) (s : State) (p : Part)
     → step max_depth s p ≡ step_kept max_depth s (kept p)
-step-kept max_depth s ByteOrderMark = refl
-step-kept max_depth s (White b) = refl
-step-kept max_depth s (Brace text) = refl
-step-kept max_depth s (Line text) = refl
-step-kept max_depth s (EscapeLine text) = refl
-step-kept max_depth s (Tag first name second contents third) = refl
 step-kept max_depth s (Word word) =
     word_kind word (λ moves numbers k.
     (if moves then Some (record { in_tags = false; depth = s.depth; has_move = true })
     else (if numbers then Some (in_movetext s) else None)) ≡ step_kept max_depth s k)
     (λ _. refl) refl (λ _. refl) (λ _. refl)
-step-kept max_depth s Star = refl
-step-kept max_depth s Dot = refl
-step-kept max_depth s (Glyph digits) = refl
-step-kept max_depth s (Marks marks) = refl
-step-kept max_depth s Open = refl
-step-kept max_depth s Close = refl
+step-kept max_depth s _ = refl
 
 pub items-kept : (p : Part) → items_of_part p ≡ items_of_kept (kept p)
-items-kept ByteOrderMark = refl
-items-kept (White b) = refl
-items-kept (Brace text) = refl
-items-kept (Line text) = refl
-items-kept (EscapeLine text) = refl
-items-kept (Tag first name second contents third) = refl
 items-kept (Word word) =
     word_kind word (λ moves numbers k. (if moves then MoveText word ∷ [] else [])
     ≡ items_of_kept k) (λ _. refl) refl (λ _. refl) (λ _. refl)
-items-kept Star = refl
-items-kept Dot = refl
-items-kept (Glyph digits) = refl
-items-kept (Marks marks) = refl
-items-kept Open = refl
-items-kept Close = refl
+items-kept _ = refl
 
 -- the elements of a list with one part more at its end
 pub items-push : (xs : List Part) (p : Part)
@@ -175,14 +139,4 @@ items-push xs p =
 -- a token that is a result
 pub kept_result : (k : Kept) → is_kept_result k ≡ true → k ≡ KeptResult
 kept_result KeptResult is = refl
-kept_result KeptGap is = absurd (cc)
-kept_result (KeptComment text) is = absurd (cc)
-kept_result (KeptTag name contents) is = absurd (cc)
-kept_result (KeptMove word) is = absurd (cc)
-kept_result KeptNumber is = absurd (cc)
-kept_result KeptStray is = absurd (cc)
-kept_result KeptDot is = absurd (cc)
-kept_result (KeptGlyph number) is = absurd (cc)
-kept_result (KeptMarks marks) is = absurd (cc)
-kept_result KeptOpen is = absurd (cc)
-kept_result KeptClose is = absurd (cc)
+kept_result _ is = absurd (cc)

@@ -3,8 +3,7 @@ use Rattle.std.proofs.Common.{◌≡◌, ℕ, ◌↔◌, ◌||◌, Bool, true, f
 use Rattle.std.proofs.Common.{inr}
 use Rattle.std.specs.Prelude.{bytes_eq, codes, IsTrue}
 use Rattle.std.proofs.lemmas.Bool.{or_cases}
-use Rattle.pgn_text.specs.Public.Parts.{Part, ByteOrderMark, White, Brace, Line, EscapeLine, Tag}
-use Rattle.pgn_text.specs.Public.Parts.{Word, Star, Dot, Glyph, Marks, Open, Close, spelled_part}
+use Rattle.pgn_text.specs.Public.Parts.{Part, Word, Star, spelled_part}
 use Rattle.pgn_text.specs.Public.Games.{is_result, is_result_word, result_of, EachFrom, IsGame}
 use Rattle.pgn_text.specs.Public.GameTexts.{IsResult}
 use Rattle.pgn_text.proofs.TagLemmas.{bytes_eq-same}
@@ -23,17 +22,7 @@ word_result text is =
 part_result : (part : Part) → is_result part ≡ true → IsResult (spelled_part part)
 part_result (Word text) is = word_result text is
 part_result Star is = inr (inr (inr refl))
-part_result ByteOrderMark is = absurd (cc)
-part_result (White b) is = absurd (cc)
-part_result (Brace text) is = absurd (cc)
-part_result (Line text) is = absurd (cc)
-part_result (EscapeLine text) is = absurd (cc)
-part_result (Tag first name second contents third) is = absurd (cc)
-part_result Dot is = absurd (cc)
-part_result (Glyph digits) is = absurd (cc)
-part_result (Marks marks) is = absurd (cc)
-part_result Open is = absurd (cc)
-part_result Close is = absurd (cc)
+part_result _ is = absurd (cc)
 
 last_result : (front : List Part) (part : Part) (back : List Part)
     → EachFrom (λ front part back. IsTrue (is_result part) ↔ (back ≡ [])) front (part ∷ back)

@@ -16,10 +16,9 @@ use Rattle.pgn_text.specs.Public.Parts.{spelled}
 use Rattle.pgn_text.specs.Public.StopPlaces.{PartsThen, StandsWithin, is_open_brace}
 use Rattle.pgn_text.specs.Public.StopPlaces.{is_open_bracket, is_quote, is_before_movetext}
 use Rattle.pgn_text.specs.declared.error.error_position.Within.{Within}
-use Rattle.pgn_text.specs.declared.error.error_position.Within.TheVariants.{Comment, TagName}
-use Rattle.pgn_text.specs.declared.error.error_position.Within.TheVariants.{TagValue, Tags}
-use Rattle.pgn_text.specs.declared.error.error_position.Within.TheVariants.{Variation, MainLine}
-use Rattle.pgn_text.specs.declared.error.error_position.Within.TheVariants.{Game}
+use Rattle.pgn_text.specs.declared.error.error_position.Within.TheVariants.{Comment, Tags, MainLine}
+use Rattle.pgn_text.specs.declared.error.error_position.Within.TheVariants.{TagName, Game}
+use Rattle.pgn_text.specs.declared.error.error_position.Within.TheVariants.{TagValue, Variation}
 use Rattle.pgn_text.proofs.Halfway.{spelled-append, stands_cut}
 use Rattle.pgn_text.proofs.Located.{rows}
 use Rattle.pgn_text.proofs.OneList.{same_fronts}

@@ -15,9 +15,8 @@ use Rattle.pgn_text.specs.Public.GameTexts.{IsPaired, tag_names}
 use Rattle.pgn_text.specs.Public.Elements.{tag_of}
 use Rattle.pgn_text.specs.Private.Steps.{State, Leads}
 use Rattle.pgn_text.specs.Private.Reading.{Kept, KeptGap, KeptComment, KeptTag, KeptMove}
-use Rattle.pgn_text.specs.Private.Reading.{KeptNumber, KeptResult, KeptStray, KeptDot, KeptGlyph}
-use Rattle.pgn_text.specs.Private.Reading.{KeptMarks, KeptOpen, KeptClose, kept, step_kept}
-use Rattle.pgn_text.specs.Private.Reading.{items_of_kept}
+use Rattle.pgn_text.specs.Private.Reading.{KeptResult, KeptStray, KeptMarks, KeptOpen, KeptClose}
+use Rattle.pgn_text.specs.Private.Reading.{kept, step_kept, items_of_kept}
 use Rattle.pgn_text.proofs.KeptLemmas.{is_result-kept, step-kept, items-kept, kept_result}
 
 -- NAGs pair nothing
@@ -53,14 +52,8 @@ paired_more max_depth s next (KeptMove word) rest is paired =
     subst (λ d. IsPaired d rest)
     (sym (same_depth (record { in_tags = false; depth = s.depth; has_move = true }) next is))
     paired
-paired_more max_depth s next KeptNumber rest is paired =
-    subst (λ d. IsPaired d rest) (sym (same_depth (record s { in_tags = false }) next is)) paired
 paired_more max_depth s next KeptResult rest is paired = absurd (cc)
 paired_more max_depth s next KeptStray rest is paired = absurd (cc)
-paired_more max_depth s next KeptDot rest is paired =
-    subst (λ d. IsPaired d rest) (sym (same_depth (record s { in_tags = false }) next is)) paired
-paired_more max_depth s next (KeptGlyph number) rest is paired =
-    subst (λ d. IsPaired d rest) (sym (same_depth (record s { in_tags = false }) next is)) paired
 paired_more max_depth s next (KeptMarks marks) rest is paired =
     marks_paired marks s.depth rest
     (subst (λ d. IsPaired d rest) (sym (same_depth (record s { in_tags = false }) next is))
@@ -73,6 +66,8 @@ paired_more max_depth s next KeptClose rest is paired =
     let both = depth_if _ (record { in_tags = false; depth = s.depth - 1; has_move = true }) next is
     in
     (ltb-true _ _ both.0, subst (λ d. IsPaired d rest) (sym both.1) paired)
+paired_more max_depth s next _ rest is paired =
+    subst (λ d. IsPaired d rest) (sym (same_depth (record s { in_tags = false }) next is)) paired
 
 -- parts that lead to a result outside all variations give elements that are paired
 pub leads_paired : (max_depth : ℕ) (s : State) (parts : List Part) → Leads max_depth s parts

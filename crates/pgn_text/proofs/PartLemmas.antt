@@ -9,8 +9,7 @@ use Rattle.pgn_text.specs.Public.Bytes.{is_white, is_digit, is_name_byte, is_wor
 use Rattle.pgn_text.specs.Public.Bytes.{is_plain, is_not_line_feed, is_not_brace, is_empty, stops}
 use Rattle.pgn_text.specs.Public.Strings.{Sign, Single, Escaped, spelled_sign, is_sign, IsContents}
 use Rattle.pgn_text.specs.Public.Parts.{Part, ByteOrderMark, White, Brace, Line, EscapeLine, Tag}
-use Rattle.pgn_text.specs.Public.Parts.{Word, Star, Dot, Glyph, Marks, Open, Close, Standing}
-use Rattle.pgn_text.specs.Public.Parts.{Stands, spelled_part}
+use Rattle.pgn_text.specs.Public.Parts.{Word, Glyph, Marks, Standing, Stands, spelled_part}
 use Rattle.pgn_text.specs.Private.Reading.{gap_front, tag_end, tag_string, tag_front, game_front}
 use Rattle.pgn_text.specs.Private.Reading.{part_front, kept_found}
 use Rattle.pgn_text.specs.Shared.StringTexts.{with_byte, contents_front}
@@ -182,8 +181,6 @@ stands-read place (Word (b ∷ text)) after (some, words, ends) =
       run_of-append is_word_byte text after parts.1 ends,
       after_run-append is_word_byte text after parts.1 ends,
     ) refl
-stands-read place Star after _ = refl
-stands-read place Dot after _ = refl
 stands-read place (Glyph digits) after (some, all, few, small, ends) =
     rw (
       run_of-append is_digit digits after all ends,
@@ -205,8 +202,7 @@ stands-read place (Marks (b ∷ marks)) after (some, all, ends) =
       run_of-append is_mark marks after parts.1 ends,
       after_run-append is_mark marks after parts.1 ends,
     ) refl
-stands-read place Open after _ = refl
-stands-read place Close after _ = refl
+stands-read place _ after _ = refl
 
 -- the found part and the text after it
 some_pair : (p q : Part) (after rest : List ℕ)
@@ -227,18 +223,8 @@ one_part place p q after rest stands others same =
 -- each part has a byte
 pub part_has_byte : (place : Standing) (p : Part) (after : List ℕ) → Stands place p after
     → spelled_part p ≢ []
-part_has_byte place ByteOrderMark after stands e = cc
-part_has_byte place (White b) after stands e = cc
-part_has_byte place (Brace text) after stands e = cc
-part_has_byte place (Line text) after stands e = cc
-part_has_byte place (EscapeLine text) after stands e = cc
-part_has_byte place (Tag first name second contents third) after stands e = cc
 part_has_byte place (Word text) after (some, words, ends) e = let no : not (is_empty text) ≡ false =
     ap (λ xs. not (is_empty xs)) e in cc
-part_has_byte place Star after stands e = cc
-part_has_byte place Dot after stands e = cc
-part_has_byte place (Glyph digits) after stands e = cc
 part_has_byte place (Marks marks) after (some, all, ends) e =
     let no : not (is_empty marks) ≡ false = ap (λ xs. not (is_empty xs)) e in cc
-part_has_byte place Open after stands e = cc
-part_has_byte place Close after stands e = cc
+part_has_byte place _ after stands e = cc

@@ -13,9 +13,8 @@ use Rattle.pgn_text.specs.Public.Bytes.{is_not_brace, is_empty, run_of, after_ru
 use Rattle.pgn_text.specs.Public.Parts.{Part, Tag, Brace, Standing, Stands, spelled_part}
 use Rattle.pgn_text.specs.Public.Parts.{standing_of}
 use Rattle.pgn_text.specs.Public.Games.{is_gap_part}
-use Rattle.pgn_text.specs.Private.Reading.{Kept, kept, kept_found, part_front, gap_front}
-use Rattle.pgn_text.specs.Private.Reading.{game_front, rest_after, tag_front, is_glyph, tag_string}
-use Rattle.pgn_text.specs.Private.Reading.{tag_end}
+use Rattle.pgn_text.specs.Private.Reading.{Kept, kept, gap_front, tag_front, tag_string, tag_end}
+use Rattle.pgn_text.specs.Private.Reading.{kept_found, part_front, game_front, rest_after, is_glyph}
 use Rattle.pgn_text.specs.Shared.StringTexts.{contents_front}
 use Rattle.pgn_text.specs.Private.Walk.{PartAt, KeptAt, NothingAt, GapPartAt, NoGapPartAt}
 use Rattle.pgn_text.proofs.PartLemmas.{part_has_byte, stands-read}

@@ -6,10 +6,9 @@ use Rattle.std.specs.Option.{option_or}
 use Rattle.pgn_text.specs.Public.Games.{Item}
 use Rattle.pgn_text.specs.Private.Movetext.{is_plain_kept, ArePlain, none, one_more, PlainTo}
 use Rattle.pgn_text.specs.Private.Movetext.{AddsElements}
-use Rattle.pgn_text.specs.Private.Reading.{Kept, KeptGap, KeptComment, KeptTag, KeptMove}
-use Rattle.pgn_text.specs.Private.Reading.{KeptNumber, KeptResult, KeptStray, KeptDot, KeptGlyph}
-use Rattle.pgn_text.specs.Private.Reading.{KeptMarks, KeptOpen, KeptClose, is_kept_result}
-use Rattle.pgn_text.specs.Private.Reading.{step_kept, items_of_kept, named_kept}
+use Rattle.pgn_text.specs.Private.Reading.{Kept, KeptGap, KeptTag, KeptMove, KeptNumber, KeptResult}
+use Rattle.pgn_text.specs.Private.Reading.{KeptDot, is_kept_result, step_kept, items_of_kept}
+use Rattle.pgn_text.specs.Private.Reading.{named_kept}
 use Rattle.pgn_text.specs.Private.Steps.{State}
 use Rattle.pgn_text.proofs.ReadLemmas.{ReadTo, read_more, KeptUpTo}
 use Rattle.pgn_text.proofs.TagLemmas.{option_or-none}
@@ -17,17 +16,7 @@ use Rattle.pgn_text.proofs.TagLemmas.{option_or-none}
 -- a part of plain movetext is no result
 plain_no_result : (token : Kept) → is_plain_kept token ≡ true → is_kept_result token ≡ false
 plain_no_result KeptResult is = absurd (cc)
-plain_no_result KeptGap is = refl
-plain_no_result (KeptComment text) is = refl
-plain_no_result (KeptTag name contents) is = refl
-plain_no_result (KeptMove word) is = refl
-plain_no_result KeptNumber is = refl
-plain_no_result KeptStray is = refl
-plain_no_result KeptDot is = refl
-plain_no_result (KeptGlyph number) is = refl
-plain_no_result (KeptMarks marks) is = refl
-plain_no_result KeptOpen is = refl
-plain_no_result KeptClose is = refl
+plain_no_result _ is = refl
 
 -- after a move, a part of plain movetext leaves the state as it is
 plain_steps : (max_depth depth : ℕ) (token : Kept) → is_plain_kept token ≡ true
@@ -37,14 +26,7 @@ plain_steps max_depth depth KeptGap is = refl
 plain_steps max_depth depth (KeptMove word) is = refl
 plain_steps max_depth depth KeptNumber is = refl
 plain_steps max_depth depth KeptDot is = refl
-plain_steps max_depth depth (KeptComment text) is = absurd (cc)
-plain_steps max_depth depth (KeptTag name contents) is = absurd (cc)
-plain_steps max_depth depth KeptResult is = absurd (cc)
-plain_steps max_depth depth KeptStray is = absurd (cc)
-plain_steps max_depth depth (KeptGlyph number) is = absurd (cc)
-plain_steps max_depth depth (KeptMarks marks) is = absurd (cc)
-plain_steps max_depth depth KeptOpen is = absurd (cc)
-plain_steps max_depth depth KeptClose is = absurd (cc)
+plain_steps max_depth depth _ is = absurd (cc)
 
 -- a state in the movetext, after a move
 after_move : (state : State) → state.in_tags ≡ false → state.has_move ≡ true
@@ -57,18 +39,8 @@ after_move state movetext moved =
 -- a part of plain movetext is no tag
 plain_no_tag : (token : Kept) → is_plain_kept token ≡ true → (wanted : List ℕ)
     → named_kept wanted token ≡ None
-plain_no_tag KeptGap is wanted = refl
-plain_no_tag (KeptMove word) is wanted = refl
-plain_no_tag KeptNumber is wanted = refl
-plain_no_tag KeptDot is wanted = refl
-plain_no_tag (KeptComment text) is wanted = refl
 plain_no_tag (KeptTag name contents) is wanted = absurd (cc)
-plain_no_tag KeptResult is wanted = refl
-plain_no_tag KeptStray is wanted = refl
-plain_no_tag (KeptGlyph number) is wanted = refl
-plain_no_tag (KeptMarks marks) is wanted = refl
-plain_no_tag KeptOpen is wanted = refl
-plain_no_tag KeptClose is wanted = refl
+plain_no_tag _ is wanted = refl
 
 read_over : (max_depth : ℕ) (f : Bool) (block : List ℕ) (begin at end : ℕ) (state : State)
     (tags : List ℕ → Option (List ℕ)) (elements moves : List Item)

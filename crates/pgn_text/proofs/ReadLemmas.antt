@@ -16,9 +16,8 @@ use Rattle.pgn_text.specs.Private.Reading.{Kept, KeptGap, KeptDot, KeptResult, k
 use Rattle.pgn_text.specs.Private.Reading.{step_kept, items_of_kept, named_kept}
 use Rattle.pgn_text.specs.Private.Readings.{GoesOn, StuckAt, EndsAt}
 use Rattle.pgn_text.specs.Private.Walk.{PartAt, KeptAt, Passes, NothingAt, NoGapPartAt, GameRead}
-use Rattle.pgn_text.proofs.Halfway.{Reads, Halfway, halfway_start, halfway_more, halfway_end}
-use Rattle.pgn_text.proofs.Halfway.{halfway_stuck, halfway_none, game_reads, reads_game}
-use Rattle.pgn_text.proofs.Halfway.{before_more}
+use Rattle.pgn_text.proofs.Halfway.{Reads, halfway_start, halfway_more, halfway_stuck, halfway_none}
+use Rattle.pgn_text.proofs.Halfway.{Halfway, halfway_end, game_reads, reads_game, before_more}
 use Rattle.pgn_text.proofs.KeptLemmas.{is_result-kept, step-kept, items-push, kept_result}
 use Rattle.pgn_text.proofs.Pairing.{leads_paired}
 use Rattle.pgn_text.proofs.TagLemmas.{first_tag-push, option_or-none}

@@ -109,32 +109,15 @@ stands_elsewhere here there (White b) after g h = cc
 stands_elsewhere here there (Brace text) after g h = cc
 stands_elsewhere here there (Line text) after g h = cc
 stands_elsewhere here there (EscapeLine text) after g h = cc
-stands_elsewhere here there (Tag first name second contents third) after g h = h
-stands_elsewhere here there (Word text) after g h = h
-stands_elsewhere here there Star after g h = h
-stands_elsewhere here there Dot after g h = h
-stands_elsewhere here there (Glyph digits) after g h = h
-stands_elsewhere here there (Marks marks) after g h = h
-stands_elsewhere here there Open after g h = h
-stands_elsewhere here there Close after g h = h
+stands_elsewhere here there _ after g h = h
 
 -- what stands at the start of a resumed block stands at any place
 pub stands_anywhere : (there : Standing) (p : Part) (after : List ℕ)
     → Stands (standing_of false []) p after
     → Stands there p after
 stands_anywhere there ByteOrderMark after h = absurd (false≢true h)
-stands_anywhere there (White b) after h = h
-stands_anywhere there (Brace text) after h = h
-stands_anywhere there (Line text) after h = h
 stands_anywhere there (EscapeLine text) after h = absurd (false≢true h.0)
-stands_anywhere there (Tag first name second contents third) after h = h
-stands_anywhere there (Word text) after h = h
-stands_anywhere there Star after h = h
-stands_anywhere there Dot after h = h
-stands_anywhere there (Glyph digits) after h = h
-stands_anywhere there (Marks marks) after h = h
-stands_anywhere there Open after h = h
-stands_anywhere there Close after h = h
+stands_anywhere there _ after h = h
 
 first_outside : (p : Part) (back : List Part) → IsTrue (begins_outside_gap (p ∷ back))
     → is_gap_part p ≡ false

@@ -27,15 +27,6 @@ drop_run test (b ∷ rest) =
       | false ↦ refl
     ]
 
-pub length-run : (test : ℕ → Bool) (xs : List ℕ) → length (run_of test xs) ≤ length xs
-length-run test [] = omega arith
-length-run test (b ∷ rest) =
-    elim (test b) as (λ v. length (if v then b ∷ run_of test rest else []) ≤ length (b ∷ rest)) [
-      | true ↦ (let h : length (run_of test rest) ≤ length rest = length-run test rest in
-          omega arith)
-      | false ↦ omega arith
-    ]
-
 -- a place before which all bytes pass, and at which one fails or the text ends, is the run's length
 pub run_length_is : (test : ℕ → Bool) (xs : List ℕ) (n : ℕ)
     → ((k : ℕ) → k < n → test (get_or xs k 0) ≡ true) → n ≤ length xs

@@ -1,7 +1,6 @@
 -- Longest runs between places of a block.
-use Rattle.std.proofs.Common.{◌≡◌, inl, inr, ℕ, ◌+◌, ◌-◌, ◌<◌, ◌≤◌, Bool, true, false, List, ◌++◌}
-use Rattle.std.proofs.Common.{length, take, drop, get_or, sym, ap, ◌∙◌, arith, length-drop}
-use Rattle.std.proofs.Common.{drop-drop}
+use Rattle.std.proofs.Common.{◌≡◌, Bool, true, false, length, get_or, arith, length-drop, drop-drop}
+use Rattle.std.proofs.Common.{inl, inr, ℕ, ◌+◌, ◌-◌, ◌<◌, ◌≤◌, List, ◌++◌, take, drop, sym, ap, ◌∙◌}
 use Rattle.std.proofs.lemmas.Bool.{cases_lt}
 use Rattle.std.proofs.lemmas.List.{get_or-drop}
 use Rattle.std.proofs.Math.Seq.{take-add}

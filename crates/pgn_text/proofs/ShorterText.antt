@@ -5,8 +5,7 @@ use Rattle.std.proofs.Common.{append_assoc, length-append, IsTrue}
 use Rattle.std.specs.List.{list_all}
 use Rattle.std.proofs.lemmas.Bool.{false≢true, not-true}
 use Rattle.pgn_text.specs.Public.Bytes.{stops}
-use Rattle.pgn_text.specs.Public.Parts.{Part, ByteOrderMark, White, Brace, Line, EscapeLine, Tag}
-use Rattle.pgn_text.specs.Public.Parts.{Word, Star, Dot, Glyph, Marks, Open, Close, Standing}
+use Rattle.pgn_text.specs.Public.Parts.{Part, Line, EscapeLine, Word, Glyph, Marks, Standing}
 use Rattle.pgn_text.specs.Public.Parts.{standing_of, Stands, AllStand, spelled, spelled_part}
 use Rattle.pgn_text.specs.Public.Games.{is_gap_part, IsGame}
 use Rattle.pgn_text.specs.Public.Gaps.{IsGap, IsLongestGap}
@@ -20,19 +19,12 @@ stops_front test (b ∷ u) v h = h
 
 stands_front : (place : Standing) (p : Part) (u v : List ℕ) → Stands place p (u ++ v)
     → Stands place p u
-stands_front place ByteOrderMark u v h = h
-stands_front place (White b) u v h = h
-stands_front place (Brace text) u v h = h
 stands_front place (Line text) u v h = (h.0, stops_front _ u v h.1)
 stands_front place (EscapeLine text) u v h = (h.0, h.1, stops_front _ u v h.2)
-stands_front place (Tag first name second contents third) u v h = h
 stands_front place (Word text) u v h = (h.0, h.1, stops_front _ u v h.2)
-stands_front place Star u v h = h
-stands_front place Dot u v h = h
 stands_front place (Glyph digits) u v h = (h.0, h.1, h.2, h.3, stops_front _ u v h.4)
 stands_front place (Marks marks) u v h = (h.0, h.1, stops_front _ u v h.2)
-stands_front place Open u v h = h
-stands_front place Close u v h = h
+stands_front place _ u v h = h
 
 all_front : (file_start : Bool) (before : List ℕ) (parts : List Part) (u v : List ℕ)
     → AllStand file_start before parts (u ++ v) → AllStand file_start before parts u

@@ -18,10 +18,9 @@ use Rattle.pgn_text.specs.Private.Steps.{State, start}
 use Rattle.pgn_text.specs.Public.StopPlaces.{PartsThen, StandsWithin, is_open_brace}
 use Rattle.pgn_text.specs.Private.Walk.{PartAt, KeptAt}
 use Rattle.pgn_text.specs.declared.error.error_position.Within.{Within}
-use Rattle.pgn_text.specs.declared.error.error_position.Within.TheVariants.{Comment, TagName}
-use Rattle.pgn_text.specs.declared.error.error_position.Within.TheVariants.{TagValue, Tags}
-use Rattle.pgn_text.specs.declared.error.error_position.Within.TheVariants.{Variation, MainLine}
-use Rattle.pgn_text.specs.declared.error.error_position.Within.TheVariants.{Game}
+use Rattle.pgn_text.specs.declared.error.error_position.Within.TheVariants.{Comment, Tags, MainLine}
+use Rattle.pgn_text.specs.declared.error.error_position.Within.TheVariants.{TagName, Game}
+use Rattle.pgn_text.specs.declared.error.error_position.Within.TheVariants.{TagValue, Variation}
 use Rattle.pgn_text.proofs.Halfway.{stands_join, spelled-append}
 use Rattle.pgn_text.proofs.InPart.{all_take}
 use Rattle.pgn_text.proofs.Lines.{Shows, shows_start, shows_more, depth_is}

@@ -8,11 +8,10 @@ use Rattle.pgn_text.specs.Public.Parts.{Stands, AllStand, standing_of, spelled_p
 use Rattle.pgn_text.specs.Public.Games.{is_result}
 use Rattle.pgn_text.specs.Private.Steps.{State, start}
 use Rattle.pgn_text.specs.Private.Reading.{Kept, is_kept_result, step_kept}
-use Rattle.pgn_text.specs.Public.Stops.{IsLongestViablePrefix}
+use Rattle.pgn_text.specs.Public.Stops.{IsLongestViablePrefix, IsErrorPosition}
 use Rattle.pgn_text.specs.Private.Walk.{PartAt, KeptAt}
 use Rattle.pgn_text.proofs.EachStops.{wrong_part}
 use Rattle.pgn_text.specs.Private.ErrorPosition.{WalkedTo}
-use Rattle.pgn_text.specs.Public.Stops.{IsErrorPosition}
 use Rattle.pgn_text.specs.Private.PartFronts.{Longest, Follows, IsPartFront, NoneFollows}
 use Rattle.pgn_text.proofs.GameFronts.{stops_in_part, stops_at_game}
 use Rattle.pgn_text.proofs.Halfway.{Reads, reads_end, stands_join, spelled-append, before_more}

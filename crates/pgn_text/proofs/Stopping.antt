@@ -9,8 +9,8 @@ use Rattle.std.proofs.lemmas.Bool.{cases_Bool, not_from_false}
 use Rattle.std.proofs.lemmas.List.Folds.{list_all-append}
 use Rattle.pgn_text.specs.Public.Bytes.{is_byte, is_digit, is_word_byte, is_mark, is_not_line_feed}
 use Rattle.pgn_text.specs.Public.Bytes.{stops}
-use Rattle.pgn_text.specs.Public.Parts.{Part, ByteOrderMark, White, Brace, Line, EscapeLine, Tag}
-use Rattle.pgn_text.specs.Public.Parts.{Word, Star, Dot, Glyph, Marks, Open, Close, Standing}
+use Rattle.pgn_text.specs.Public.Parts.{Part, White, Line, EscapeLine}
+use Rattle.pgn_text.specs.Public.Parts.{Word, Star, Glyph, Marks, Close, Standing}
 use Rattle.pgn_text.specs.Public.Parts.{standing_of, Stands, AllStand, spelled, spelled_part}
 use Rattle.pgn_text.specs.Public.Games.{is_result}
 use Rattle.pgn_text.specs.Private.Steps.{State, step, Leads}
@@ -51,21 +51,14 @@ instead_front (c ∷ x) a b i = instead_same c (x ++ a) (x ++ b)
 
 stands_instead : (place : Standing) (p : Part) (a b : List ℕ) → Instead a b → Stands place p a
     → Stands place p b
-stands_instead place ByteOrderMark a b i h = h
-stands_instead place (White c) a b i h = h
-stands_instead place (Brace text) a b i h = h
 stands_instead place (Line text) a b i (inside, ends) = (inside, i is_not_line_feed refl ends)
 stands_instead place (EscapeLine text) a b i (column_one, inside, ends) =
     (column_one, inside, i is_not_line_feed refl ends)
-stands_instead place (Tag first name second contents third) a b i h = h
 stands_instead place (Word text) a b i (some, words, ends) = (some, words, i is_word_byte refl ends)
-stands_instead place Star a b i h = h
-stands_instead place Dot a b i h = h
 stands_instead place (Glyph digits) a b i (some, all, few, small, ends) =
     (some, all, few, small, i is_digit refl ends)
 stands_instead place (Marks marks) a b i (some, all, ends) = (some, all, i is_mark refl ends)
-stands_instead place Open a b i h = h
-stands_instead place Close a b i h = h
+stands_instead place _ a b i h = h
 
 pub all_instead : (f : Bool) (before : List ℕ) (done : List Part) (a b : List ℕ) → Instead a b
     → AllStand f before done a → AllStand f before done b

@@ -6,9 +6,8 @@ use Rattle.std.specs.List.{list_all}
 use Rattle.std.proofs.lemmas.Bool.{false≢true, and_parts, ne_eqb}
 use Rattle.std.proofs.lemmas.List.{take-append-drop}
 use Rattle.pgn_text.specs.Public.Bytes.{is_byte, is_not_line_feed, run_of, after_run}
-use Rattle.pgn_text.specs.Public.Parts.{Part, ByteOrderMark, White, Brace, Line, EscapeLine, Tag}
-use Rattle.pgn_text.specs.Public.Parts.{Word, Star, Dot, Glyph, Marks, Open, Close, standing_of}
-use Rattle.pgn_text.specs.Public.Parts.{Stands, spelled, spelled_part}
+use Rattle.pgn_text.specs.Public.Parts.{Part, ByteOrderMark, White, Brace, Line, EscapeLine}
+use Rattle.pgn_text.specs.Public.Parts.{standing_of, Stands, spelled, spelled_part}
 use Rattle.pgn_text.specs.Public.Games.{is_gap_part, IsGame}
 use Rattle.pgn_text.specs.Public.Gaps.{IsGap, IsLongestGap}
 use Rattle.pgn_text.specs.Public.Pieces.{Piece, Game, Unreadable, ArePieces}
@@ -43,15 +42,7 @@ module _ (max_depth : ℕ) (f : Bool) (before : List ℕ) (clear : IsClear f bef
       (after_run is_not_line_feed own)
       (e ∙ ap (λ b. b ∷ own) first ∙ ap (λ x. 37 ∷ x) (run-append-after is_not_line_feed own)) refl
       (h.0, list_all-run is_not_line_feed own, stops-after_run is_not_line_feed own))
-  gap_part_there text l (Tag first name second contents third) after front more rest c g e is h =
-      absurd (false≢true g)
-  gap_part_there text l (Word word) after front more rest c g e is h = absurd (false≢true g)
-  gap_part_there text l Star after front more rest c g e is h = absurd (false≢true g)
-  gap_part_there text l Dot after front more rest c g e is h = absurd (false≢true g)
-  gap_part_there text l (Glyph digits) after front more rest c g e is h = absurd (false≢true g)
-  gap_part_there text l (Marks marks) after front more rest c g e is h = absurd (false≢true g)
-  gap_part_there text l Open after front more rest c g e is h = absurd (false≢true g)
-  gap_part_there text l Close after front more rest c g e is h = absurd (false≢true g)
+  gap_part_there text l _ after front more rest c g e is h = absurd (false≢true g)
 
   -- a gap and a game that go on from a front of the text
   goes_on_there : (text : List ℕ) → IsLongestGap f before [] text

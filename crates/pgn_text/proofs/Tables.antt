@@ -5,8 +5,7 @@ use Rattle.std.specs.Bool.{beq}
 use Rattle.std.proofs.lemmas.Bool.{cases_eq}
 use Rattle.pgn_text.specs.Private.Tokens.{test_of, flag_of}
 use Rattle.pgn_text.specs.declared.lex.class.ByteClass.{ByteClass}
-use Rattle.pgn_text.specs.declared.lex.class.ByteClass.TheVariants.{White, Digit, Letter, Name}
-use Rattle.pgn_text.specs.declared.lex.class.ByteClass.TheVariants.{Word, Mark, Single}
+use Rattle.pgn_text.specs.declared.lex.class.ByteClass.TheVariants.{White}
 use Rattle.pgn_text.specs.declared.lex.class.TheConstants.{CLASSES}
 
 -- the two tests agree below n
@@ -37,12 +36,7 @@ agree : (class : ByteClass) → agree_below (has_flag CLASSES (flag_of class)) (
     ≡ true
 unfolding agree_below
 agree White = refl
-agree Digit = refl
-agree Letter = refl
-agree Name = refl
-agree Word = refl
-agree Mark = refl
-agree Single = refl
+agree _ = refl
 
 pub by_table : (class : ByteClass) (b : ℕ) → b < 256
     → has_flag CLASSES (flag_of class) b ≡ test_of class b

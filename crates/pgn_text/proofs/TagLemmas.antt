@@ -10,8 +10,7 @@ use Rattle.std.specs.Cmp.Lexicographic.{slice_cmp}
 use Rattle.std.proofs.lemmas.Map.Text.{btree_map_updates_str, is_eq-slice_cmp}
 use Rattle.std.proofs.lemmas.Slice.Eq.{bytes_eq-Decides}
 use Rattle.pgn_text.specs.Public.Bytes.{is_letter, begins}
-use Rattle.pgn_text.specs.Public.Parts.{Part, ByteOrderMark, White, Brace, Line, EscapeLine, Tag}
-use Rattle.pgn_text.specs.Public.Parts.{Word, Star, Dot, Glyph, Marks, Open, Close}
+use Rattle.pgn_text.specs.Public.Parts.{Part, Tag, Word}
 use Rattle.pgn_text.specs.Public.Games.{first_tag, is_move_text, is_number, is_result_word}
 use Rattle.pgn_text.specs.Private.Reading.{kept, kept_word, named_kept, KeptMove, KeptNumber}
 use Rattle.pgn_text.specs.Private.Reading.{KeptResult, KeptStray}
@@ -105,23 +104,13 @@ named-word wanted word =
 -- the first tag of a list with one part more at its head
 pub first_tag-cons : (wanted : List ℕ) (p : Part) (more : List Part)
     → first_tag wanted (p ∷ more) ≡ option_or (named_kept wanted (kept p)) (first_tag wanted more)
-first_tag-cons wanted ByteOrderMark more = refl
-first_tag-cons wanted (White b) more = refl
-first_tag-cons wanted (Brace text) more = refl
-first_tag-cons wanted (Line text) more = refl
-first_tag-cons wanted (EscapeLine text) more = refl
 first_tag-cons wanted (Tag first name second contents third) more =
     elim (bytes_eq name wanted) as (λ v. (if v then Some contents else first_tag wanted more)
     ≡ option_or (if v then Some contents else None) (first_tag wanted more))
     [ true ↦ refl | false ↦ refl ]
 first_tag-cons wanted (Word text) more =
     ap (λ o. option_or o (first_tag wanted more)) (sym (named-word wanted text))
-first_tag-cons wanted Star more = refl
-first_tag-cons wanted Dot more = refl
-first_tag-cons wanted (Glyph digits) more = refl
-first_tag-cons wanted (Marks marks) more = refl
-first_tag-cons wanted Open more = refl
-first_tag-cons wanted Close more = refl
+first_tag-cons wanted _ more = refl
 
 option_or-assoc : (a b c : Option (List ℕ))
     → option_or (option_or a b) c ≡ option_or a (option_or b c)

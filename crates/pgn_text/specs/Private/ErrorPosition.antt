@@ -14,10 +14,9 @@ use Rattle.pgn_text.specs.Private.Tokens.{state_of}
 use Rattle.pgn_text.specs.declared.error.error_position.Reached.{Reached}
 use Rattle.pgn_text.specs.declared.error.error_position.Reached.TheVariants.{GameTo, Stuck}
 use Rattle.pgn_text.specs.declared.error.error_position.Within.{Within}
-use Rattle.pgn_text.specs.declared.error.error_position.Within.TheVariants.{Comment, TagName}
-use Rattle.pgn_text.specs.declared.error.error_position.Within.TheVariants.{TagValue, Tags}
-use Rattle.pgn_text.specs.declared.error.error_position.Within.TheVariants.{Variation, MainLine}
-use Rattle.pgn_text.specs.declared.error.error_position.Within.TheVariants.{Game}
+use Rattle.pgn_text.specs.declared.error.error_position.Within.TheVariants.{Comment, Tags, MainLine}
+use Rattle.pgn_text.specs.declared.error.error_position.Within.TheVariants.{TagName, Game}
+use Rattle.pgn_text.specs.declared.error.error_position.Within.TheVariants.{TagValue, Variation}
 
 -- the parts lead from one state to the other, and none of them is a result
 abbrev pub Walks : ℕ → State → List Part → State → Type 0

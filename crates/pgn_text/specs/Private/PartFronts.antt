@@ -1,17 +1,15 @@
 -- Fronts of parts: what the functions of `error_position` answer where no whole part follows.
-use Rattle.std.specs.Prelude.{◌≡◌, ℕ, suc, Bool, true, false, ◌&&◌, ◌==◌, ◌≤◌, ◌⊎◌, nat_le}
-use Rattle.std.specs.Prelude.{if◌then◌else◌, List, [], ◌∷◌, ◌++◌, length, take, codes, Option, Some}
-use Rattle.std.specs.Prelude.{None}
+use Rattle.std.specs.Prelude.{◌≡◌, ℕ, suc, ◌==◌, ◌≤◌, ◌⊎◌, List, [], ◌∷◌, ◌++◌, take, Some, None}
+use Rattle.std.specs.Prelude.{Bool, true, false, ◌&&◌, nat_le, if◌then◌else◌, length, codes, Option}
 use Rattle.std.specs.List.{list_all}
 use Rattle.pgn_text.specs.Public.Bytes.{is_white, is_digit, is_name_byte, is_check_sign, is_plain}
 use Rattle.pgn_text.specs.Public.Parts.{Part, Standing, Stands, spelled_part, number_of}
 use Rattle.pgn_text.specs.Public.Games.{is_result}
 use Rattle.pgn_text.specs.Private.Steps.{State, step}
 use Rattle.pgn_text.specs.declared.error.error_position.InTag.{InTag}
-use Rattle.pgn_text.specs.declared.error.error_position.InTag.TheVariants.{BeforeName, Name}
-use Rattle.pgn_text.specs.declared.error.error_position.InTag.TheVariants.{AfterName, Contents}
-use Rattle.pgn_text.specs.declared.error.error_position.InTag.TheVariants.{AfterBackslash}
-use Rattle.pgn_text.specs.declared.error.error_position.InTag.TheVariants.{AfterString, Closed}
+use Rattle.pgn_text.specs.declared.error.error_position.InTag.TheVariants.{BeforeName, AfterString}
+use Rattle.pgn_text.specs.declared.error.error_position.InTag.TheVariants.{Name, AfterName, Closed}
+use Rattle.pgn_text.specs.declared.error.error_position.InTag.TheVariants.{Contents, AfterBackslash}
 
 -- so many of the text's first bytes have the property, and no more
 pub record Longest (P : List ℕ → Type 0) (text : List ℕ) (n : ℕ) : Type 0 where

@@ -7,7 +7,7 @@ use Rattle.std.specs.List.{starts_with}
 use Rattle.std.specs.Option.{option_or}
 use Rattle.pgn_text.specs.Public.Bytes.{is_white, is_digit, is_name_byte, is_word_byte, is_mark}
 use Rattle.pgn_text.specs.Public.Bytes.{is_plain, is_not_line_feed, is_not_brace, is_empty}
-use Rattle.pgn_text.specs.Public.Bytes.{is_letter, begins}
+use Rattle.pgn_text.specs.Public.Bytes.{is_letter, begins, run_of, after_run}
 use Rattle.pgn_text.specs.Public.Parts.{Part, ByteOrderMark, White, Brace, Line, EscapeLine, Tag}
 use Rattle.pgn_text.specs.Public.Parts.{Word, Star, Dot, Glyph, Marks, Open, Close, Standing}
 use Rattle.pgn_text.specs.Public.Parts.{number_of}
@@ -15,7 +15,6 @@ use Rattle.pgn_text.specs.Public.Games.{is_number, is_result_word, is_move_text,
 use Rattle.pgn_text.specs.Public.Games.{GlyphNumber, CommentText, VariationOpen, VariationClose}
 use Rattle.pgn_text.specs.Public.Games.{glyphs_of_marks}
 use Rattle.pgn_text.specs.Private.Steps.{State, in_movetext}
-use Rattle.pgn_text.specs.Public.Bytes.{run_of, after_run}
 use Rattle.pgn_text.specs.Shared.StringTexts.{contents_front}
 
 -- a byte that stands for itself in a string, wherever no backslash stands before it
