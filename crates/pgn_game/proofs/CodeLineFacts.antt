@@ -13,7 +13,7 @@ use Rattle.chess.specs.Public.Moves.{IsPromotionKind, IsPromotion}
 use Rattle.chess.specs.declared.board.man.Man.{Man}
 use Rattle.chess.specs.declared.board.man.Side.{Side}
 use Rattle.chess.specs.declared.board.man.Kind.{Kind}
-use Rattle.chess.specs.declared.board.man.Kind.TheVariants.{King, Queen, Rook, Bishop, Knight, Pawn}
+use Rattle.chess.specs.declared.board.man.Kind.TheVariants.{King, Pawn}
 use Rattle.chess.specs.declared.moves.Move.{Move}
 use Rattle.pgn_game.specs.Public.CodeLines.{AreLegalMoves, positions_from, IsCodedLine}
 use Rattle.pgn_game.specs.Public.CodeLines.{IsCodedReplay}
@@ -77,12 +77,9 @@ becomes_kind false other to became is_pawn_own is_none is = absurd cc
 pawn_becomes : (P : State) (m : Move) (own to : Kind) → m.promote ≡ Some to → Goes P m own
     → (own ≡ Pawn) × IsPromotionKind to
 pawn_becomes P m King to is goes = absurd (none-some to (sym goes.0 ∙ is))
-pawn_becomes P m Queen to is goes = absurd (none-some to (sym goes.1 ∙ is))
-pawn_becomes P m Rook to is goes = absurd (none-some to (sym goes.1 ∙ is))
-pawn_becomes P m Bishop to is goes = absurd (none-some to (sym goes.1 ∙ is))
-pawn_becomes P m Knight to is goes = absurd (none-some to (sym goes.1 ∙ is))
 pawn_becomes P m Pawn to is (castle, go, inl there) = (refl, subst IsPromotion is there.1)
 pawn_becomes P m Pawn to is (castle, go, inr other) = absurd (none-some to (sym other.1 ∙ is))
+pawn_becomes P m _ to is goes = absurd (none-some to (sym goes.1 ∙ is))
 
 no_pawn : (side : Side) (to : Kind) → IsPromotionKind to
     → is_pawn (Some (record { side = side; kind = to })) ≡ false

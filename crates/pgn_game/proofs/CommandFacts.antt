@@ -5,10 +5,9 @@ use Rattle.std.specs.Prelude.{if◌then◌else◌, ◌==◌, ◌&&◌, ◌||◌,
 use Rattle.std.specs.Prelude.{IfSome}
 use Rattle.std.proofs.lemmas.Bool.Decides.{nat_tests}
 use Rattle.pgn_text.specs.Public.Bytes.{is_white, is_empty, begins}
-use Rattle.pgn_game.specs.Public.Comments.{in_first, cut_at_white, words_in, unbraced, later_word}
-use Rattle.pgn_game.specs.Public.Comments.{closed, braced, begins_command, has_bracket, closes}
-use Rattle.pgn_game.specs.Public.Comments.{leaves_open, in_command, ties, in_front, tied}
-use Rattle.pgn_game.specs.Public.Comments.{comment_tokens}
+use Rattle.pgn_game.specs.Public.Comments.{in_first, words_in, has_bracket, leaves_open, in_command}
+use Rattle.pgn_game.specs.Public.Comments.{cut_at_white, later_word, begins_command, comment_tokens}
+use Rattle.pgn_game.specs.Public.Comments.{unbraced, closed, braced, closes, ties, in_front, tied}
 use Rattle.pgn_game.specs.Public.TextLines.{joined}
 use Rattle.pgn_game.specs.Private.CommentWords.{word_front, after_front, found_words, found_size}
 use Rattle.pgn_game.specs.Private.CommentWords.{closing, tied_words}

@@ -1,6 +1,6 @@
 -- Where a comment is cut at white space.
 use Rattle.std.proofs.Common.{◌≡◌, ℕ, ◌+◌, ◌-◌, ◌<◌, ◌≤◌, true, false, List, [], ◌∷◌, ◌++◌, length}
-use Rattle.std.proofs.Common.{map, take, drop, get_or, refl, sym, ap, subst, ◌∙◌, arith}
+use Rattle.std.proofs.Common.{take, drop, get_or, refl, sym, ap, subst, ◌∙◌, arith}
 use Rattle.std.proofs.Common.{append_assoc, length-append}
 use Rattle.std.specs.Prelude.{if◌then◌else◌, ◌==◌, not, filter}
 use Rattle.std.proofs.Math.Seq.{take-append_seam}
@@ -8,11 +8,9 @@ use Rattle.std.proofs.lemmas.Bool.{ne_eqb, both_ways}
 use Rattle.std.proofs.lemmas.Bool.Decides.{nat_tests}
 use Rattle.pgn_text.specs.Public.Bytes.{is_white, is_empty}
 use Rattle.pgn_game.specs.Public.Comments.{in_first, cut_at_white, words_in, unbraced, later_word}
-use Rattle.pgn_game.specs.Public.Comments.{closed, braced}
-use Rattle.pgn_game.specs.Public.TextLines.{joined}
 use Rattle.chess.specs.Shared.SetFacts.{false_of}
 use Rattle.pgn_game.specs.Private.CommentWords.{word_front, after_front, after_white, IsBare}
-use Rattle.pgn_game.specs.Private.CommentWords.{IsAfterBare, IsAfterKept, IsSpaced, IsSpacedAfter}
+use Rattle.pgn_game.specs.Private.CommentWords.{IsAfterBare, IsAfterKept}
 
 -- a text is its first run and what follows it
 pub front_whole : (text : List ℕ) → word_front text ++ after_front text ≡ text
@@ -148,9 +146,6 @@ bare_byte b other = ap (λ t. (if t then 41 else b) ∷ []) (ne_eqb b 125 other)
 no_white : (b : ℕ) → 32 < b → is_white b ≡ false
 no_white b high = grind (arith, nat_tests)
 
-pub bare_first : (text : List ℕ) → IsAfterBare text text
-bare_first text = record { front = []; whole = refl; bare = refl; same = refl }
-
 pub bare_next : (text rest : List ℕ) (b : ℕ) (after : List ℕ) → rest ≡ b ∷ after → 32 < b
     → (b ≡ 125 → ⊥) → IsAfterBare text rest → IsAfterBare text after
 bare_next text rest b after cut high other kept = record {
@@ -194,30 +189,3 @@ kept_word text word rest front after full bare later = record {
   bare = bare;
   later = later ∙ bare;
 }
-
-joined_more : (word next : List ℕ) (more : List (List ℕ))
-    → joined (closed (word ∷ next ∷ more)) ≡ word ++ (32 ∷ joined (closed (next ∷ more)))
-joined_more word next [] = refl
-joined_more word next (other ∷ more) = refl
-
--- words with one space between each two: none are left, or one space, a word, and the rest
-pub spaced_end : (rest : List ℕ) → rest ≡ [] → IsSpacedAfter rest
-spaced_end rest none = subst IsSpacedAfter (sym none) (λ word. refl)
-
-pub spaced_step : (more after : List ℕ) → IsAfterKept more after → IsSpacedAfter after
-    → IsSpacedAfter (32 ∷ more)
-spaced_step more after kept spaced word =
-    ap (λ words. joined (closed (word ∷ map later_word words))) kept.words
-    ∙ ap (λ next. joined (closed (word ∷ next ∷ map later_word (words_in after)))) kept.later
-    ∙ joined_more word kept.word (map later_word (words_in after))
-    ∙ ap (λ rest. word ++ (32 ∷ rest)) (spaced kept.word)
-    ∙ ap (λ rest. word ++ (32 ∷ rest)) (sym (append_assoc kept.word after (125 ∷ []))
-    ∙ ap (λ text. text ++ 125 ∷ []) (sym kept.whole))
-
-pub spaced_whole : (text rest : List ℕ) → IsAfterKept text rest → IsSpacedAfter rest → IsSpaced text
-spaced_whole text rest kept spaced =
-    ap (λ words. joined (braced words)) kept.words
-    ∙ ap (λ word. joined (closed ((123 ∷ word) ∷ map later_word (words_in rest)))) kept.bare
-    ∙ spaced (123 ∷ kept.word)
-    ∙ ap (λ after. 123 ∷ after) (sym (append_assoc kept.word rest (125 ∷ []))
-    ∙ ap (λ whole. whole ++ 125 ∷ []) (sym kept.whole))

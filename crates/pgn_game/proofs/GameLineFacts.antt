@@ -342,19 +342,3 @@ puts_move {notation} {old} {new} word outside puts = record {
         ≡ word ∷ main_words items new.depth
     words items = main_word word items old.depth outside
         ∙ ap (λ d. word ∷ main_words items d) (sym puts.depth)
-
-pub puts_nothing : {notation : Notation} {old new : MainWalk} {bytes : List ℕ} (item : Item)
-    → ((items : List Item) → main_words (item ∷ items) old.depth ≡ main_words items new.depth)
-    → new.position ≡ old.position → new.plies ≡ old.plies
-    → PutsElement notation old new item bytes bytes
-puts_nothing {notation} {old} {new} {bytes} item words position plies = record {
-  own = [];
-  put = sym (append-nil bytes);
-  completes =
-      λ items rest are. subst (λ ws. AreWritten notation old.position ws rest) (sym (words items))
-      (subst (λ s. AreWritten notation s (main_words items new.depth) rest) position are);
-  faults = λ items fault met. subst (λ ws.
-      IsMoveFault old.position old.plies ws fault) (sym (words items))
-      (subst (λ s. IsMoveFault s old.plies (main_words items new.depth) fault) position
-      (subst (λ n. IsMoveFault new.position n (main_words items new.depth) fault) plies met));
-}

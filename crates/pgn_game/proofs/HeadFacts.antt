@@ -87,9 +87,8 @@ named_again (Some name) = refl
 
 pub mark_below : (check stuck : Bool) → marks_number check stuck < 4
 mark_below true true = omega arith
-mark_below true false = omega arith
 mark_below false true = omega arith
-mark_below false false = omega arith
+mark_below _ _ = omega arith
 
 head_whole : (h : ℕ) → 32 * (h / 32) + 16 * (h / 16 % 2) + 4 * (h / 4 % 4) + h % 4 ≡ h
 head_whole h = omega arith

@@ -62,16 +62,8 @@ move_unspaced Uci now m x is =
 castling_king : (P : State) (m : Move) (kind : Kind) (wing : Wing) → Goes P m kind
     → m.castle ≡ Some wing → kind ≡ King
 castling_king P m King wing goes castle = refl
-castling_king P m Queen wing goes castle = let never : None ≡ Some wing = sym goes.0 ∙ castle in
-    absurd (cc)
-castling_king P m Rook wing goes castle = let never : None ≡ Some wing = sym goes.0 ∙ castle in
-    absurd (cc)
-castling_king P m Bishop wing goes castle = let never : None ≡ Some wing = sym goes.0 ∙ castle in
-    absurd (cc)
-castling_king P m Knight wing goes castle = let never : None ≡ Some wing = sym goes.0 ∙ castle in
-    absurd (cc)
-castling_king P m Pawn wing goes castle = let never : None ≡ Some wing = sym goes.0 ∙ castle in
-    absurd (cc)
+castling_king P m _ wing goes castle =
+    let never : None ≡ Some wing = sym goes.0 ∙ castle in absurd (cc)
 
 castles : (P : State) (m : Move) (kind : Kind) (wing : Wing) → Goes P m kind → m.castle ≡ Some wing
     → Castles P wing m
@@ -149,11 +141,7 @@ kind_at b = if b == 75 then Some King else if b == 81 then Some Queen else if b 
 
 kind_at_letter : (kind : Kind) → kind_at (kind_letter kind) ≡ Some kind
 kind_at_letter King = refl
-kind_at_letter Queen = refl
-kind_at_letter Rook = refl
-kind_at_letter Bishop = refl
-kind_at_letter Knight = refl
-kind_at_letter Pawn = refl
+kind_at_letter _ = refl
 
 pub same_letter : (a b : Kind) → kind_letter a ≡ kind_letter b → a ≡ b
 same_letter a b is = same_Some a b (sym (kind_at_letter a) ∙ ap kind_at is ∙ kind_at_letter b)

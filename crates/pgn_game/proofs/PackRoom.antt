@@ -1,8 +1,7 @@
 -- The record of a game of a block is no larger than the largest: a tag takes at least half of its
 -- bytes of a text, and a ply likewise.
-use Rattle.std.proofs.Common.{◌≡◌, ℕ, ◌+◌, ◌*◌, ◌≤◌, ◌==◌, Bool, true, false, List, [], ◌∷◌, ◌++◌}
-use Rattle.std.proofs.Common.{length, Option, Some, None, refl, sym, ap, subst, ◌∙◌, arith, inl}
-use Rattle.std.proofs.Common.{inr}
+use Rattle.std.proofs.Common.{◌≡◌, ℕ, ◌+◌, ◌*◌, ◌≤◌, ◌∷◌, Some, None, refl, sym, ap, ◌∙◌, inl, inr}
+use Rattle.std.proofs.Common.{◌==◌, Bool, true, false, List, [], ◌++◌, length, Option, subst, arith}
 use Rattle.std.specs.Prelude.{IfSome, bytes_eq, if◌then◌else◌}
 use Rattle.std.specs.FinMap.{FinMap, empty, entries, entries_sorted, get, insert, get-empty}
 use Rattle.std.specs.FinMap.{get-entries, get-insert, entries-insert, len-empty, len-entries}

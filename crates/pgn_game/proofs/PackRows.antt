@@ -17,14 +17,12 @@ use Rattle.pgn_text.specs.Public.GameTexts.{tag_names}
 use Rattle.pgn_text.specs.Public.Limits.{largest_offset}
 use Rattle.pgn_game.specs.Public.CodeLines.{AreLegalMoves, positions_from}
 use Rattle.pgn_game.specs.Public.PackReading.{and_then, number_at, text_at, name_at, tag_at}
-use Rattle.pgn_game.specs.Public.PackReading.{follows}
-use Rattle.pgn_game.specs.Public.PackReading.{next_tag, after_tags, body_at}
+use Rattle.pgn_game.specs.Public.PackReading.{follows, next_tag, after_tags, body_at}
 use Rattle.pgn_game.specs.Public.PackStreams.{Window, HasNoRecord, PassesOn, BreaksOff, IsPastEnd}
 use Rattle.pgn_game.specs.Public.PackedGames.{Tag, PackedGame, FitsRecord, FitsTag, record_bytes}
 use Rattle.pgn_game.specs.Public.PackedGames.{with_length, tag_bytes, named_number, name_bytes}
 use Rattle.pgn_game.specs.Public.PackedGames.{tail_bytes, body_bytes, name_size, tags_size}
-use Rattle.pgn_game.specs.Public.PackedGames.{is_origin}
-use Rattle.pgn_game.specs.Public.PackedGames.{begins_control, is_shown, is_shown_name}
+use Rattle.pgn_game.specs.Public.PackedGames.{is_origin, begins_control, is_shown, is_shown_name}
 use Rattle.pgn_game.specs.Public.PlyCodes.{PlyCode, AreCodes, bit, marks_number, kind_number}
 use Rattle.pgn_game.specs.Public.PlyCodes.{side_number, castle_number, man_number, numbered_kind}
 use Rattle.pgn_game.specs.declared.pack.error.RecordError.TheVariants.{CutShort, TagOrder}

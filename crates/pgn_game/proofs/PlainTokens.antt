@@ -221,11 +221,7 @@ glyph_may number =
 
 pub kind_high : (kind : Kind) → (64 < kind_letter kind) × (kind_letter kind < 91)
 kind_high King = (omega arith, omega arith)
-kind_high Queen = (omega arith, omega arith)
-kind_high Rook = (omega arith, omega arith)
-kind_high Bishop = (omega arith, omega arith)
-kind_high Knight = (omega arith, omega arith)
-kind_high Pawn = (omega arith, omega arith)
+kind_high _ = (omega arith, omega arith)
 
 empty_plain : IsPlain []
 empty_plain = (record {}, record {})

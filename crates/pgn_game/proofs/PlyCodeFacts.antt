@@ -116,11 +116,7 @@ one_of false s t p q = q
 king_castles : (P : State) (m : Move) (kind : Kind) (wing : Wing) → Goes P m kind
     → m.castle ≡ Some wing → (kind ≡ King) × (m.promote ≡ None)
 king_castles P m King wing goes e = (refl, goes.0)
-king_castles P m Queen wing goes e = absurd (none-some wing (sym goes.0 ∙ e))
-king_castles P m Rook wing goes e = absurd (none-some wing (sym goes.0 ∙ e))
-king_castles P m Bishop wing goes e = absurd (none-some wing (sym goes.0 ∙ e))
-king_castles P m Knight wing goes e = absurd (none-some wing (sym goes.0 ∙ e))
-king_castles P m Pawn wing goes e = absurd (none-some wing (sym goes.0 ∙ e))
+king_castles P m _ wing goes e = absurd (none-some wing (sym goes.0 ∙ e))
 
 king_of_castling : (P : State) (m : Move) (c : PlyCode) (castle : Option Wing) → IsPseudoLegal P m
     → IsCode P m c → m.castle ≡ castle → IfSome castle (λ _. c.man.kind ≡ King)
@@ -284,15 +280,13 @@ code_fits a b d = record {
 
 pub first_mark : (check stuck : Bool) → ((marks_number check stuck) % 2 == 1) ≡ check
 first_mark true true = refl
-first_mark true false = refl
 first_mark false true = refl
-first_mark false false = refl
+first_mark _ _ = refl
 
 pub second_mark : (check stuck : Bool) → ((marks_number check stuck) / 2 == 1) ≡ stuck
 second_mark true true = refl
-second_mark true false = refl
 second_mark false true = refl
-second_mark false false = refl
+second_mark _ _ = refl
 
 -- the code of the bytes that spell a code is that code
 pub code_again : (c : PlyCode) → FitsCode c

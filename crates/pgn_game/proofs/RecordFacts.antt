@@ -13,10 +13,9 @@ use Rattle.pgn_game.specs.declared.pack.error.RecordError.{RecordError}
 use Rattle.pgn_game.specs.declared.pack.error.RecordError.TheVariants.{CutShort, TooLarge, TagOrder}
 use Rattle.pgn_game.specs.declared.pack.error.RecordError.TheVariants.{PartOfPly, NoOrigin}
 use Rattle.pgn_game.specs.Public.PlyCodes.{PlyCode, FitsCode, marks_number, code_bytes, code_of}
-use Rattle.pgn_game.specs.Public.PackedGames.{PackedGame, Tag, FitsTag, FitsRecord, with_length}
-use Rattle.pgn_game.specs.Public.PackedGames.{name_bytes, numbered_result, tag_bytes, head_of}
-use Rattle.pgn_game.specs.Public.PackedGames.{tail_bytes, body_bytes, record_bytes, largest_body}
-use Rattle.pgn_game.specs.Public.PackedGames.{is_origin}
+use Rattle.pgn_game.specs.Public.PackedGames.{PackedGame, Tag, FitsRecord, with_length, name_bytes}
+use Rattle.pgn_game.specs.Public.PackedGames.{FitsTag, numbered_result, record_bytes, largest_body}
+use Rattle.pgn_game.specs.Public.PackedGames.{tag_bytes, head_of, tail_bytes, body_bytes, is_origin}
 use Rattle.pgn_game.specs.Public.PackReading.{Gives, RawRecord, raw_of, number_at, text_at, name_at}
 use Rattle.pgn_game.specs.Public.PackReading.{tag_at, follows}
 use Rattle.pgn_game.specs.Public.PackReading.{next_tag, after_tags, body_at, size_at, record_at}

@@ -1,19 +1,17 @@
 -- The text of the position from which a game starts: there is one, it holds no space, and no other
 -- position has it.
-use Rattle.std.proofs.Common.{◌≡◌, ◌≢◌, ℕ, suc, ◌+◌, ◌-◌, ◌*◌, ◌≤◌, Bool, true, false, List, []}
-use Rattle.std.proofs.Common.{◌∷◌, ◌++◌, length, map, refl, sym, ap, ◌∙◌, subst, arith}
-use Rattle.std.proofs.Common.{length-append}
+use Rattle.std.proofs.Common.{◌≡◌, ◌≢◌, suc, ◌+◌, ◌-◌, ◌*◌, ◌≤◌, [], ◌∷◌, map, refl, sym, ap, ◌∙◌}
+use Rattle.std.proofs.Common.{ℕ, Bool, true, false, List, ◌++◌, length, subst, arith, length-append}
 use Rattle.std.proofs.lemmas.Bool.Decides.{nat_tests}
 use Rattle.std.proofs.lemmas.Bool.{and_parts}
-use Rattle.std.proofs.lemmas.Fmt.{decimal_digit}
 use Rattle.std.proofs.lemmas.Slice.Eq.{bytes_eq-Decides}
 use Rattle.std.specs.Prelude.{◌==◌, if◌then◌else◌, bytes_eq, codes, decimal, Option, Some, None}
 use Rattle.std.specs.Prelude.{Result, Ok, Err, OnOk, is_ok}
 use Rattle.std.specs.List.{list_all}
 use Rattle.chess.specs.Public.Squares.{Place}
-use Rattle.chess.specs.Public.Placements.{Placement, man_at}
+use Rattle.chess.specs.Public.Placements.{Placement}
 use Rattle.chess.specs.Public.Positions.{State, IsSound, FitsEnPassant}
-use Rattle.chess.specs.Public.Start.{initial, initial_man, initial_men}
+use Rattle.chess.specs.Public.Start.{initial}
 use Rattle.chess.specs.Public.Letters.{man_letter}
 use Rattle.chess.specs.Public.Fen.{IsSquares, SpellsRank, SpellRanks, row, side_text, is_digit}
 use Rattle.chess.specs.Public.Fen.{number_from, IsCount, GiveCounts, joined, or_dash}
@@ -21,14 +19,13 @@ use Rattle.chess.specs.Public.Fen.{rights_letters, en_passant_text, IsFen}
 use Rattle.chess.specs.Public.Fen.IsSquares.{letter, step}
 use Rattle.chess.specs.declared.board.man.Man.{Man}
 use Rattle.chess.specs.declared.board.man.Kind.{Kind}
-use Rattle.chess.specs.declared.board.man.Kind.TheVariants.{King, Queen, Rook, Bishop, Knight, Pawn}
+use Rattle.chess.specs.declared.board.man.Kind.TheVariants.{King}
 use Rattle.chess.specs.declared.board.man.Side.{Side}
 use Rattle.chess.specs.declared.board.man.Side.TheVariants.{White, Black}
 use Rattle.chess.specs.declared.board.man.CastlingRights.{CastlingRights}
 use Rattle.chess.proofs.FenOnce.{one_spelling}
 use Rattle.chess.proofs.FenOneText.{one_fen, some_fen}
 use Rattle.chess.proofs.FenReadBack.{fen_spells}
-use Rattle.chess.proofs.FenTextFacts.{spell_ranks, shortest_ranks}
 use Rattle.chess.proofs.SoundRead.{read_sound}
 use Rattle.chess.proofs.StartFacts.{initial_kept}
 use Rattle.chess.proofs.StartText.{initial_fen, initial_has_fen}
@@ -162,17 +159,8 @@ lined_joined separator free (x ∷ y ∷ more) all =
 
 lined_man : (side : Side) (kind : Kind) → IsLined (man_letter (record { side = side; kind = kind }))
 lined_man White King = omega arith
-lined_man White Queen = omega arith
-lined_man White Rook = omega arith
-lined_man White Bishop = omega arith
-lined_man White Knight = omega arith
-lined_man White Pawn = omega arith
 lined_man Black King = omega arith
-lined_man Black Queen = omega arith
-lined_man Black Rook = omega arith
-lined_man Black Bishop = omega arith
-lined_man Black Knight = omega arith
-lined_man Black Pawn = omega arith
+lined_man _ _ = omega arith
 
 lined_byte : (b : ℕ) (squares : List (Option Man)) → IsSquares b squares → IsLined b
 lined_byte b squares (letter man) = lined_man man.side man.kind

@@ -1,10 +1,9 @@
 -- A tag is found among those of a record.
-use Rattle.std.proofs.Common.{◌≡◌, ℕ, zero, suc, ◌+◌, ◌/◌, ◌<◌, ◌≤◌, Bool, true, false}
+use Rattle.std.proofs.Common.{◌≡◌, ℕ, zero, suc, ◌+◌, ◌/◌, ◌<◌, Bool, true, false}
 use Rattle.std.proofs.Common.{if◌then◌else◌, List, [], ◌∷◌, ◌++◌, length, drop, Some, None, Ok, Err}
 use Rattle.std.proofs.Common.{refl, sym, ap, ◌∙◌, append_assoc, arith}
 use Rattle.std.specs.Prelude.{bytes_eq}
 use Rattle.std.specs.List.{flat_map, AllByRecursion}
-use Rattle.std.proofs.Math.ListN.{drop_of_length-le}
 use Rattle.std.proofs.lemmas.List.Concat.{flat_map-cons}
 use Rattle.pgn_text.specs.Public.GameTexts.{tag_in}
 use Rattle.pgn_game.specs.declared.pack.error.RecordError.{RecordError}
@@ -24,10 +23,6 @@ pub record IsSought (wanted : List ℕ) (game : PackedGame) (i : ℕ) (rest : Li
 abbrev pub AreSought : List ℕ → RawRecord → ℕ → List ℕ → Type 0
 AreSought wanted raw i rest = (game : PackedGame) → FitsRecord game → raw ≡ raw_of game
     → IsSought wanted game i rest
-
-pub sought_from_first : (wanted : List ℕ) (raw : RawRecord) → AreSought wanted raw 0 raw.tail
-sought_from_first wanted raw game fits shows =
-    record { left = ap (λ (r : RawRecord). r.tail) shows; later = refl }
 
 pub tag_again : (t : Tag) (rest : List ℕ) → FitsTag t
     → tag_at (tag_bytes t ++ rest) ≡ Ok ((t.0, t.1), rest)
@@ -123,13 +118,3 @@ pub never_cut : (wanted : List ℕ) (raw : RawRecord) (i : ℕ) (rest : List ℕ
 never_cut wanted raw i rest e lt all read game fits shows =
     let next = next_is wanted raw i rest game lt all fits shows in
     absurd (no_error e _ (sym read ∙ next.read))
-
--- after the last one none has the wanted name
-pub is_none : (wanted : List ℕ) (raw : RawRecord) (i : ℕ) (rest : List ℕ) → raw.head / 32 ≤ i
-    → AreSought wanted raw i rest
-    → (game : PackedGame) → FitsRecord game → raw ≡ raw_of game → None ≡ tag_in wanted game.tags
-is_none wanted raw i rest le all game fits shows =
-    let so_far = all game fits shows in
-    sym (so_far.later
-    ∙ ap (tag_in wanted)
-    (drop_of_length-le game.tags (omega (arith, count_is raw game fits shows))))

@@ -8,9 +8,8 @@ use Rattle.chess.specs.declared.moves.Move.{Move}
 use Rattle.pgn_text.specs.Public.Games.{Item}
 use Rattle.pgn_game.specs.Public.MainLines.{main_words}
 use Rattle.pgn_game.specs.Public.Starts.{IsStart, IsBadStart}
-use Rattle.pgn_game.specs.Public.AllLines.{Line, LineEnd, ThenMove, ThenGlyph, ThenComment}
-use Rattle.pgn_game.specs.Public.AllLines.{ThenVariation, spelled, is_pass, IsTurn, after_turn}
-use Rattle.pgn_game.specs.Public.AllLines.{IsPlayed}
+use Rattle.pgn_game.specs.Public.AllLines.{Line, ThenGlyph, ThenComment, ThenVariation, after_turn}
+use Rattle.pgn_game.specs.Public.AllLines.{LineEnd, ThenMove, spelled, is_pass, IsTurn, IsPlayed}
 use Rattle.pgn_game.specs.declared.turns.line_move.LineMove.{LineMove}
 use Rattle.pgn_game.specs.declared.replays.replayer.Lines.{Lines}
 use Rattle.pgn_game.specs.declared.replays.replayer.Lines.TheVariants.{Main, All}

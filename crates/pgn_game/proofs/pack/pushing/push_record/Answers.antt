@@ -1,6 +1,5 @@
 use Rattle.std.proofs.Common.{refl}
-use Rattle.pgn_game.specs.Public.PackedGames.{IsRecordOf, record_bytes}
-use Rattle.pgn_game.specs.Public.PackedGames.{name_of}
+use Rattle.pgn_game.specs.Public.PackedGames.{IsRecordOf, record_bytes, name_of}
 use Rattle.pgn_game.proofs.pack.pushing.push_record.Goals as goal
 
 pub returns-clause-record : goal.returns-clause-record
