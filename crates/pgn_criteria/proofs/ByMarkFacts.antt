@@ -80,23 +80,17 @@ has_one a b turn check stuck =
 
 pub has_all : (turn : Side) (check stuck : Bool) → IsTrue (has_marks 255 turn check stuck)
 has_all White false false = refl
-has_all White false true = refl
 has_all White true false = refl
-has_all White true true = refl
 has_all Black false false = refl
-has_all Black false true = refl
 has_all Black true false = refl
-has_all Black true true = refl
+has_all _ _ _ = refl
 
 pub has_none : (turn : Side) (check stuck : Bool) → has_marks 0 turn check stuck ≡ false
 has_none White false false = refl
-has_none White false true = refl
 has_none White true false = refl
-has_none White true true = refl
 has_none Black false false = refl
-has_none Black false true = refl
 has_none Black true false = refl
-has_none Black true true = refl
+has_none _ _ _ = refl
 
 bit_of : (x : ℕ) → x < 2 → bit (x == 1) ≡ x
 bit_of zero low = refl
@@ -221,17 +215,6 @@ module _ (heading : Heading) (replay : Replay) (ply : ℕ) (P : State) (check st
   held_end set left whole none so_far = (
     λ has. so_far.0 (inl has),
     λ hold. elim (so_far.1 hold) [ inl has ↦ has | inr some ↦ absurd (subst Hold none some) ],
-  )
-
-  -- and at first none is had
-  pub held_none : (whole : List Conditions) → (Has 0 ⊎ Hold whole) ↔ Hold whole
-  held_none whole = (
-    λ has. elim has [
-      | inl none ↦ absurd (false≢true (sym (has_none P.turn check stuck) ∙ none))
-      | inr some ↦
-          some
-    ],
-    λ some. inr some,
   )
 
 -- ---- plies

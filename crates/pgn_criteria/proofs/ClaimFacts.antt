@@ -186,9 +186,7 @@ position_keyed text (Flip pattern) spells = ((flip_read text pattern spells).0, 
 position_keyed text (Material white black) spells =
     ((material_read text white black spells).key_is, refl, refl)
 position_keyed text (Turn side) spells = ((turn_read text side spells).0, refl, refl)
-position_keyed text Check spells = (ap run_of spells, refl, refl)
-position_keyed text Mate spells = (ap run_of spells, refl, refl)
-position_keyed text Stalemate spells = (ap run_of spells, refl, refl)
+position_keyed text _ spells = (ap run_of spells, refl, refl)
 
 pub position_ends : (text : List ℕ) (claim : PositionClaim (List ℕ)) → SpellsPosition text claim
     → EndsSolid text
@@ -370,20 +368,10 @@ can_by_key key = not (total key == 510) && not (total key == 423) && not (total 
 pub can_read : (claim : PositionClaim (List ℕ))
     → can_be_mirrored claim ≡ can_by_key (position_key claim)
 can_read (Fen pattern) = refl
-can_read (Flip pattern) = refl
-can_read (Material white black) = refl
-can_read (Turn side) = refl
-can_read Check = refl
-can_read Mate = refl
-can_read Stalemate = refl
+can_read _ = refl
 
 -- whatever its texts are held in
 pub can_be_seen : {T : Type 0} (bytes : T → List ℕ) (claim : PositionClaim T)
     → can_be_mirrored (position_seen bytes claim) ≡ can_be_mirrored claim
 can_be_seen bytes (Fen pattern) = refl
-can_be_seen bytes (Flip pattern) = refl
-can_be_seen bytes (Material white black) = refl
-can_be_seen bytes (Turn side) = refl
-can_be_seen bytes Check = refl
-can_be_seen bytes Mate = refl
-can_be_seen bytes Stalemate = refl
+can_be_seen bytes _ = refl

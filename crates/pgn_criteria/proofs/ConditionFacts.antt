@@ -4,9 +4,8 @@ use Rattle.std.proofs.Common.{subst, inl, inr}
 use Rattle.std.specs.Prelude.{codes}
 use Rattle.pgn_criteria.specs.Public.Mirrors.{can_be_mirrored}
 use Rattle.pgn_criteria.specs.Private.Reading.{core_of, run_of, after_word, ReadsWord}
-use Rattle.pgn_criteria.specs.Public.Lines.{SpellsGame, SpellsPosition, SpellsMove, SpellsSpan}
-use Rattle.pgn_criteria.specs.Public.Lines.{SpellsTaken, SpellsTurned, SpellsCondition, Spells}
-use Rattle.pgn_criteria.specs.Public.Lines.{IsLine}
+use Rattle.pgn_criteria.specs.Public.Lines.{SpellsGame, SpellsMove, SpellsSpan, SpellsTaken, IsLine}
+use Rattle.pgn_criteria.specs.Public.Lines.{SpellsPosition, SpellsTurned, SpellsCondition, Spells}
 use Rattle.pgn_criteria.specs.declared.condition.Condition.{Condition}
 use Rattle.pgn_criteria.specs.declared.condition.Condition.TheVariants.{Game, Position, Move, Span}
 use Rattle.pgn_criteria.specs.declared.condition.PositionClaim.{PositionClaim}
@@ -14,9 +13,8 @@ use Rattle.pgn_criteria.specs.declared.line.Meaning.{Meaning}
 use Rattle.pgn_criteria.specs.declared.line.Meaning.TheVariants.{Nothing, Or, Asks}
 use Rattle.pgn_criteria.proofs.SolidFacts.{BeginsSolid, EndsSolid, ends_after, begins_some}
 use Rattle.pgn_criteria.proofs.SolidFacts.{word_read, word_spelled}
-use Rattle.pgn_criteria.proofs.ClaimFacts.{games_are, positions_are, moves_are, spans_are}
-use Rattle.pgn_criteria.proofs.ClaimFacts.{claim_begins, taken_begins, taken_ends, taken_either}
-use Rattle.pgn_criteria.proofs.ClaimFacts.{ends_as}
+use Rattle.pgn_criteria.proofs.ClaimFacts.{games_are, moves_are, spans_are, taken_ends, ends_as}
+use Rattle.pgn_criteria.proofs.ClaimFacts.{positions_are, claim_begins, taken_begins, taken_either}
 use Rattle.pgn_criteria.proofs.CoreFacts.{core_about, solid_core, empty_core, comment_core}
 
 turned_begins : (text : List ℕ) (either denied : Bool) (claim : PositionClaim (List ℕ))

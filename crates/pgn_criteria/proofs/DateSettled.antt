@@ -1,6 +1,5 @@
 -- Whether a date stands in a comparison to days is settled.
-use Rattle.std.proofs.Common.{◌≤◌, ◌+◌, ◌*◌, ℕ, List, [], ◌∷◌, refl, subst, inl, inr}
-use Rattle.std.proofs.Common.{arith}
+use Rattle.std.proofs.Common.{◌≤◌, ◌+◌, ◌*◌, ℕ, List, [], ◌∷◌, refl, subst, inl, inr, arith}
 use Rattle.chess.proofs.Settled.{Settled, SearchIn, settled_like, settled_not, settled_both}
 use Rattle.chess.proofs.Settled.{settled_either, settled_le, settled_below, cases_bytes}
 use Rattle.pgn_criteria.specs.Public.Dates.{StandsFor, MayWrite, MayBe, IsWithin, StandsTo}

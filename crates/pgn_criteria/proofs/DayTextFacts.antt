@@ -1,6 +1,5 @@
 -- The days that a condition on a date names: what spells them is solid, and spells no others.
-use Rattle.std.proofs.Common.{◌≡◌, ◌≢◌, ◌≤◌, ℕ, true, false, List, [], ◌∷◌, refl, sym, ◌∙◌}
-use Rattle.std.proofs.Common.{arith}
+use Rattle.std.proofs.Common.{◌≡◌, ◌≢◌, ◌≤◌, ℕ, true, false, List, [], ◌∷◌, refl, sym, ◌∙◌, arith}
 use Rattle.std.specs.Prelude.{◌==◌, if◌then◌else◌, Option, Some, None, MatchOption}
 use Rattle.chess.specs.Public.Fen.{is_digit, parted_at, before_first}
 use Rattle.pgn_criteria.specs.Public.Lines.{SpellsField, SpellsOne, SpellsDays}

@@ -10,10 +10,9 @@ use Rattle.pgn_criteria.specs.Public.Patterns.{FitsPattern}
 use Rattle.pgn_criteria.specs.Private.Stages.{SaysOfSeen, OfSeen, AllSaid, EachOfSeen, AllOfSeen}
 use Rattle.pgn_criteria.specs.Private.Stages.{AreFixed, IsMirrorOf, IsMirrored, AreMirrored}
 use Rattle.pgn_criteria.specs.declared.condition.PositionCondition.{PositionCondition}
-use Rattle.pgn_criteria.specs.declared.condition.PositionClaim.TheVariants.{Fen, Flip, Material}
-use Rattle.pgn_criteria.specs.declared.condition.PositionClaim.TheVariants.{Turn}
+use Rattle.pgn_criteria.specs.declared.condition.PositionClaim.TheVariants.{Flip, Material}
 use Rattle.pgn_criteria.specs.declared.material.Limits.{Limits}
-use Rattle.pgn_criteria.proofs.MirrorFacts.{flipped_mirrored, material_mirrored, turn_exchanged}
+use Rattle.pgn_criteria.proofs.MirrorFacts.{flipped_mirrored, material_mirrored}
 use Rattle.pgn_criteria.proofs.TakenFacts.{same_taken}
 use Rattle.pgn_criteria.proofs.SeenFacts.{said_of_men, can_be_turned}
 
@@ -22,11 +21,6 @@ use Rattle.pgn_criteria.proofs.SeenFacts.{said_of_men, can_be_turned}
 abbrev pub FitsMirror : List ℕ → List ℕ → Type 0
 FitsMirror own pattern = (men : Placement)
     → FitsPattern men own ↔ FitsPattern (mirrored_men men) pattern
-
-pub fen_mirror : (own pattern : List ℕ) → FitsMirror own pattern
-    → IsMirrorOf (Fen own) (Fen pattern)
-fen_mirror own pattern fits =
-    record { can = refl; alike = λ men turn denied. same_taken denied (fits men) }
 
 pub flip_mirror : (own pattern : List ℕ) → FitsMirror own pattern
     → IsMirrorOf (Flip own) (Flip pattern)
@@ -49,14 +43,6 @@ material_mirror white black =
     record {
       can = refl;
       alike = λ men turn denied. let same = material_mirrored men white black in
-          same_taken denied (same.1, same.0);
-    }
-
-pub turn_mirror : (side : Side) → IsMirrorOf (Turn (opposite side)) (Turn side)
-turn_mirror side =
-    record {
-      can = refl;
-      alike = λ men turn denied. let same = turn_exchanged turn side in
           same_taken denied (same.1, same.0);
     }
 

@@ -13,7 +13,7 @@ use Rattle.chess.specs.Public.Letters.{is_check_sign}
 use Rattle.chess.specs.Public.San.{promotion_text, castling_text, IsDisambiguation, is_capture}
 use Rattle.chess.specs.Public.San.{capture_text, IsPieceText, IsBody, IsCheckSign, IsSan}
 use Rattle.chess.specs.Public.San.IsDisambiguation.{alone, by_file, by_rank, by_both}
-use Rattle.chess.specs.Public.San.IsCheckSign.{mate, check, quiet}
+use Rattle.chess.specs.Public.San.IsCheckSign.{mate}
 use Rattle.chess.specs.declared.board.man.Kind.{Kind}
 use Rattle.chess.specs.declared.board.man.Kind.TheVariants.{King, Queen, Rook, Bishop, Knight, Pawn}
 use Rattle.chess.specs.declared.board.man.Wing.{Wing}
@@ -38,8 +38,7 @@ no_mark b above = grind (arith, nat_tests, above)
 
 mark_is_none : (P : State) (mark : List ℕ) → IsCheckSign P mark → without_check_signs mark ≡ []
 mark_is_none P _ (mate is) = refl
-mark_is_none P _ (check is never) = refl
-mark_is_none P _ (quiet never) = refl
+mark_is_none P _ _ = refl
 
 -- so the body of a text is what it is without its mark
 bare_body : (P : State) (body mark : List ℕ) → AreAbove body → IsCheckSign P mark
@@ -52,11 +51,7 @@ bare_body P (b ∷ body) mark above is =
 
 above_kind : (piece : Kind) → 43 < kind_letter piece
 above_kind King = omega arith
-above_kind Queen = omega arith
-above_kind Rook = omega arith
-above_kind Bishop = omega arith
-above_kind Knight = omega arith
-above_kind Pawn = omega arith
+above_kind _ = omega arith
 
 above_square : (s : Place) → AreAbove (square_text s)
 above_square s = (omega arith, (omega arith, tt))

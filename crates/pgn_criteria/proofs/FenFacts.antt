@@ -11,9 +11,9 @@ use Rattle.chess.specs.declared.board.man.Man.{Man}
 use Rattle.chess.specs.declared.board.man.Side.{Side}
 use Rattle.chess.specs.declared.board.man.Side.TheVariants.{White, Black}
 use Rattle.chess.specs.declared.board.man.Kind.{Kind}
-use Rattle.chess.specs.declared.board.man.Kind.TheVariants.{King, Queen, Rook, Bishop, Knight, Pawn}
-use Rattle.pgn_criteria.specs.Public.Patterns.{IsStretch, spelled, any, occupied, white, black}
-use Rattle.pgn_criteria.specs.Public.Patterns.{many, among, other, AreRanks, IsPattern, items_where}
+use Rattle.chess.specs.declared.board.man.Kind.TheVariants.{King}
+use Rattle.pgn_criteria.specs.Public.Patterns.{IsStretch, spelled}
+use Rattle.pgn_criteria.specs.Public.Patterns.{among, other, AreRanks, IsPattern, items_where}
 use Rattle.pgn_criteria.specs.Private.Items.{AreItems, is_letter, items_of}
 use Rattle.pgn_criteria.specs.Private.Reading.{run_of, after_word}
 use Rattle.pgn_criteria.specs.Public.Lines.{SpellsPosition}
@@ -26,17 +26,8 @@ use Rattle.pgn_criteria.proofs.SolidFacts.{BeginsSolid, begins_some}
 letter_solid : (side : Side) (kind : Kind)
     → is_solid (man_letter (record { side = side; kind = kind })) ≡ true
 letter_solid White King = refl
-letter_solid White Queen = refl
-letter_solid White Rook = refl
-letter_solid White Bishop = refl
-letter_solid White Knight = refl
-letter_solid White Pawn = refl
 letter_solid Black King = refl
-letter_solid Black Queen = refl
-letter_solid Black Rook = refl
-letter_solid Black Bishop = refl
-letter_solid Black Knight = refl
-letter_solid Black Pawn = refl
+letter_solid _ _ = refl
 
 digit_solid : (n : ℕ) → is_solid (48 + n) ≡ true
 digit_solid n = grind (arith, nat_tests)
@@ -61,14 +52,10 @@ set_solid (b ∷ x) solid = let parts = and_parts (is_solid b) (list_all is_soli
 stretch_solid : (item : List ℕ) (own : List (Option Man)) → IsStretch item own → AreSolid item
 stretch_solid _ _ (spelled byte squares is) =
     and_from (is_solid byte) true (squares_solid byte squares is) refl
-stretch_solid _ _ (any square) = refl
-stretch_solid _ _ (occupied man) = refl
-stretch_solid _ _ (white man of) = refl
-stretch_solid _ _ (black man of) = refl
-stretch_solid _ _ (many squares) = refl
 stretch_solid _ _ (among letters man are has) = set_solid letters (letters_solid letters are.1)
 stretch_solid _ _ (other letters square are none) =
     set_solid (94 ∷ letters) (letters_solid letters are.1)
+stretch_solid _ _ _ = refl
 
 -- so is a text that is cut into items
 cut_solid : (in_set : Bool) (x : List ℕ) → EachSolid (items_where in_set x) → AreSolid x

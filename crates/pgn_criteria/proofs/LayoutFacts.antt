@@ -1,20 +1,16 @@
 -- What patterns ask of squares, as it is laid out.
-use Rattle.std.proofs.Common.{◌≡◌, ◌↔◌, ◌≤◌, ◌<◌, ◌+◌, ◌-◌, ℕ, zero, suc, Bool, true, false, List}
+use Rattle.std.proofs.Common.{◌≡◌, ◌↔◌, ◌≤◌, ◌<◌, ◌+◌, ◌-◌, ℕ, zero, suc, Bool, true, List}
 use Rattle.std.proofs.Common.{[], ◌∷◌, ◌++◌, length, take, drop, get_or, Option, Some, None, IsTrue}
 use Rattle.std.proofs.Common.{refl, sym, ap, ◌∙◌, subst, arith, inl, inr, length-drop}
-use Rattle.std.specs.Prelude.{◌||◌}
 use Rattle.std.proofs.Math.ListN.{get_or-append}
-use Rattle.std.proofs.lemmas.Bool.{cases_lt, or_cases, or_left, or_right}
+use Rattle.std.proofs.lemmas.Bool.{cases_lt}
 use Rattle.std.proofs.lemmas.List.{get_or-drop, take-append-drop, drop-drop, length-take}
 use Rattle.chess.specs.Public.Fen.{row}
-use Rattle.chess.specs.Public.Squares.{Place, same_square}
+use Rattle.chess.specs.Public.Squares.{Place}
 use Rattle.chess.specs.Public.Placements.{Placement, man_at}
-use Rattle.chess.specs.Public.Sets.{is_in}
 use Rattle.chess.specs.declared.board.man.Man.{Man}
-use Rattle.chess.proofs.PlaceFacts.{same_square-then, same_square-same}
 use Rattle.pgn_criteria.specs.Public.Patterns.{CanBeSplit}
-use Rattle.pgn_criteria.specs.Private.Items.{items_of}
-use Rattle.pgn_criteria.specs.Private.Items.{IsOf, EachOf, Reads, IsNextItem, has_man}
+use Rattle.pgn_criteria.specs.Private.Items.{items_of, IsOf, EachOf, Reads, IsNextItem, has_man}
 use Rattle.chess.specs.declared.board.man.Kind.{Kind}
 use Rattle.chess.specs.declared.board.man.Kind.TheVariants.{King, Queen, Rook, Bishop, Knight, Pawn}
 use Rattle.chess.specs.declared.board.man.Side.TheVariants.{White, Black}
@@ -142,16 +138,6 @@ lays_barred old new class square one is at items asked empty = record {
       );
 }
 
-pub lays_unbarred : (fact : Placement → Type 0) (old : Layout)
-    → Lays (λ p. IsTrue false → fact p) (λ p. Unit {0}) old old true
-lays_unbarred fact old =
-    record {
-      sound = λ s. tt;
-      needed = λ p laid all. (laid, tt);
-      enough =
-          λ so p laid left. (laid, λ t. absurd (cc));
-    }
-
 -- two facts, one after the other, and the same fact in other words
 pub lays_both : {T : Type 0} {Sound : T → Type 0} {Stands : Placement → T
     → Type 0} (first second : Placement → Type 0) (a b c : T)
@@ -206,36 +192,6 @@ both_sides men square = (
     λ kind has is. none (record { side = Black; kind = kind }) has is,
   ),
 )
-
--- a square more that must be empty
-pub lays_empty : (old new : Layout) (square : Place)
-    → ((s : Place) → is_in new.empty s ≡ (same_square square s || is_in old.empty s))
-    → new.asked.items ≡ old.asked.items → new.barred.items ≡ old.barred.items
-    → Lays (λ p. man_at p square ≡ None) (λ p. Unit {0}) old new true
-lays_empty old new square reports items barred = record {
-  sound = λ s. tt;
-  needed = λ p laid here. (
-    (
-      subst (AllStand p) (sym items) laid.0,
-      subst (AllStand p) (sym barred) laid.1,
-      λ s is. elim (or_cases (same_square square s) (is_in old.empty s) (sym (reports s) ∙ is)) [
-        | inl same ↦ subst (λ t. man_at p t ≡ None) (same_square-then square s same) here
-        | inr before ↦ laid.2 s before
-      ],
-    ),
-    tt,
-  );
-  enough = λ so p laid left. (
-    (
-      subst (AllStand p) items laid.0,
-      subst (AllStand p) barred laid.1,
-      λ s is. laid.2 s (reports s ∙ or_right (same_square square s) (is_in old.empty s) is),
-    ),
-    laid.2 square (reports square
-        ∙ or_left (same_square square square) (is_in old.empty square)
-        (same_square-same square square refl)),
-  );
-}
 
 -- one square of a run, and those after it
 pub each_step : (men : Placement) (class : SquareTest) (rank before step count : ℕ) → step < count

@@ -10,7 +10,7 @@ use Rattle.std.proofs.lemmas.List.Folds.{list_all-append}
 use Rattle.chess.specs.Public.Fen.{is_digit, has_byte, is_distinct}
 use Rattle.chess.specs.Public.Letters.{kind_letter}
 use Rattle.chess.specs.declared.board.man.Kind.{Kind}
-use Rattle.chess.specs.declared.board.man.Kind.TheVariants.{King, Queen, Rook, Bishop, Knight, Pawn}
+use Rattle.chess.specs.declared.board.man.Kind.TheVariants.{King}
 use Rattle.pgn_criteria.specs.Public.Lines.{SpellsLimit, one, exactly, at_least, at_most, any}
 use Rattle.pgn_criteria.specs.Public.Lines.{SpellsEntries, IsLimitIn, SpellsLimits}
 use Rattle.pgn_criteria.specs.Public.Materials.{limit_of}
@@ -31,11 +31,7 @@ is_low b = nat_le 33 b && nat_le b 57
 
 letter_high : (kind : Kind) → is_high (kind_letter kind) ≡ true
 letter_high King = refl
-letter_high Queen = refl
-letter_high Rook = refl
-letter_high Bishop = refl
-letter_high Knight = refl
-letter_high Pawn = refl
+letter_high _ = refl
 
 high_solid : (b : ℕ) → is_high b ≡ true → is_solid b ≡ true
 high_solid b high = grind (arith, nat_tests)

@@ -27,8 +27,7 @@ use Rattle.pgn_criteria.specs.Private.Stages.{SaysOfSeen, on_positions}
 use Rattle.pgn_criteria.specs.Private.PrefilterTests.{FitsPlaced, Nowhere}
 use Rattle.pgn_criteria.specs.declared.condition.PositionCondition.{PositionCondition}
 use Rattle.pgn_criteria.specs.declared.condition.PositionClaim.{PositionClaim}
-use Rattle.pgn_criteria.specs.declared.condition.PositionClaim.TheVariants.{Fen, Flip, Material}
-use Rattle.pgn_criteria.specs.declared.condition.PositionClaim.TheVariants.{Turn, Check, Mate}
+use Rattle.pgn_criteria.specs.declared.condition.PositionClaim.TheVariants.{Material, Check, Mate}
 use Rattle.pgn_criteria.specs.declared.condition.PositionClaim.TheVariants.{Stalemate}
 use Rattle.pgn_criteria.specs.declared.marks.Mark.{Mark}
 use Rattle.pgn_criteria.specs.declared.marks.Mark.TheVariants as mark
@@ -47,42 +46,23 @@ SaysOfPosition P denied claim =
 asked : (which : Mark) (claim : PositionClaim (List ℕ)) → asks_mark which claim ≡ true
     → (can_be_mirrored claim ≡ false)
     × ((P : State) → SaysOfPosition P false claim → IsMarked which P)
-asked mark.Check (Fen pattern) asks = absurd (cc)
-asked mark.Check (Flip pattern) asks = absurd (cc)
-asked mark.Check (Material white black) asks = absurd (cc)
-asked mark.Check (Turn side) asks = absurd (cc)
 asked mark.Check Check asks = (refl, λ P says. says)
 asked mark.Check Mate asks = (refl, λ P says. says.0)
-asked mark.Check Stalemate asks = absurd (cc)
-asked mark.Stuck (Fen pattern) asks = absurd (cc)
-asked mark.Stuck (Flip pattern) asks = absurd (cc)
-asked mark.Stuck (Material white black) asks = absurd (cc)
-asked mark.Stuck (Turn side) asks = absurd (cc)
-asked mark.Stuck Check asks = absurd (cc)
 asked mark.Stuck Mate asks = (refl, λ P says. says.1)
 asked mark.Stuck Stalemate asks = (refl, λ P says. says.1)
+asked _ _ asks = absurd (cc)
 
 -- what a line `material` says of the men, as it stands and of the mirror
 plain_numbers : (P : State) (either : Bool) (claim : PositionClaim (List ℕ))
     → SaysOfPosition P false claim → SaysOfNumbers either claim P.men
-plain_numbers P either (Fen pattern) says = tt
-plain_numbers P either (Flip pattern) says = tt
 plain_numbers P either (Material white black) says = inl says
-plain_numbers P either (Turn side) says = tt
-plain_numbers P either Check says = tt
-plain_numbers P either Mate says = tt
-plain_numbers P either Stalemate says = tt
+plain_numbers P either _ says = tt
 
 turned_numbers : (P : State) (either : Bool) (claim : PositionClaim (List ℕ)) → either ≡ true
     → SaysOfPosition (mirror P) false claim → SaysOfNumbers either claim P.men
-turned_numbers P either (Fen pattern) is says = tt
-turned_numbers P either (Flip pattern) is says = tt
 turned_numbers P either (Material white black) is says =
     inr (is, (material_mirrored P.men white black).0 says)
-turned_numbers P either (Turn side) is says = tt
-turned_numbers P either Check is says = tt
-turned_numbers P either Mate is says = tt
-turned_numbers P either Stalemate is says = tt
+turned_numbers P either _ is says = tt
 
 numbers_of : (P other : State) (condition : PositionCondition (List ℕ))
     → condition.is_denied ≡ false

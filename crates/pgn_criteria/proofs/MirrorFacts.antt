@@ -7,10 +7,9 @@ use Rattle.std.proofs.lemmas.List.Folds.{fold-map}
 use Rattle.chess.specs.Public.Squares.{Place, IsOnBoard, square_at}
 use Rattle.chess.specs.Shared.SetFacts.{square_at-index_of}
 use Rattle.chess.specs.Shared.CellFacts.{man_at-men_of, on_board-men_of, same_men, on_board_or_not}
-use Rattle.chess.specs.Public.Placements.{Placement, man_at, opposite, AreOnBoard}
+use Rattle.chess.specs.Public.Placements.{Placement, man_at, AreOnBoard}
 use Rattle.chess.specs.Public.Fen.{row}
 use Rattle.chess.specs.declared.board.man.Man.{Man}
-use Rattle.chess.specs.declared.board.man.Side.{Side}
 use Rattle.chess.specs.declared.board.man.Side.TheVariants.{White, Black}
 use Rattle.chess.proofs.PlaceFacts.{opposite-opposite}
 use Rattle.pgn_criteria.specs.Public.Materials.{Allows, limit_of, is_man, squares_to, count_of}
@@ -160,11 +159,6 @@ flipped_mirrored men =
     flipped_at (mirrored_men men) s on_s ∙ mirrored_at men (beside s) (beside_on s on_s)
     ∙ sym (mirrored_at (flipped_men men) s on_s
     ∙ ap exchanged (flipped_at men (across s) (across_on s on_s))))
-
--- who is to move
-pub turn_exchanged : (turn side : Side) → (opposite turn ≡ side) ↔ (turn ≡ opposite side)
-turn_exchanged turn side =
-    (λ e. sym (opposite-opposite turn) ∙ ap opposite e, λ e. ap opposite e ∙ opposite-opposite side)
 
 -- how many men there are
 is_other : (man : Man) (square : Option Man)

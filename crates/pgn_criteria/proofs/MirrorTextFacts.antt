@@ -14,7 +14,7 @@ use Rattle.chess.specs.declared.board.man.Man.{Man}
 use Rattle.chess.specs.declared.board.man.Side.{Side}
 use Rattle.chess.specs.declared.board.man.Side.TheVariants.{White, Black}
 use Rattle.chess.specs.declared.board.man.Kind.{Kind}
-use Rattle.chess.specs.declared.board.man.Kind.TheVariants.{King, Queen, Rook, Bishop, Knight, Pawn}
+use Rattle.chess.specs.declared.board.man.Kind.TheVariants.{King}
 use Rattle.chess.proofs.FieldFacts.{parted_by_run}
 use Rattle.pgn_criteria.specs.Public.Patterns.{AreMen, IsStretch, spelled, any, occupied, white}
 use Rattle.pgn_criteria.specs.Public.Patterns.{black, many, among, other, CanBeSplit, FitRanks}
@@ -46,17 +46,8 @@ letter_of : (side : Side) (kind : Kind)
     → other_letter (man_letter (record { side = side; kind = kind }))
     ≡ man_letter (record { side = opposite side; kind = kind })
 letter_of White King = refl
-letter_of White Queen = refl
-letter_of White Rook = refl
-letter_of White Bishop = refl
-letter_of White Knight = refl
-letter_of White Pawn = refl
 letter_of Black King = refl
-letter_of Black Queen = refl
-letter_of Black Rook = refl
-letter_of Black Bishop = refl
-letter_of Black Knight = refl
-letter_of Black Pawn = refl
+letter_of _ _ = refl
 
 letter_is : (man : Man) → other_letter (man_letter man) ≡ man_letter (other_man man)
 letter_is man = letter_of man.side man.kind
@@ -64,17 +55,8 @@ letter_is man = letter_of man.side man.kind
 is_letter_of : (side : Side) (kind : Kind)
     → is_letter (man_letter (record { side = side; kind = kind })) ≡ true
 is_letter_of White King = refl
-is_letter_of White Queen = refl
-is_letter_of White Rook = refl
-is_letter_of White Bishop = refl
-is_letter_of White Knight = refl
-is_letter_of White Pawn = refl
 is_letter_of Black King = refl
-is_letter_of Black Queen = refl
-is_letter_of Black Rook = refl
-is_letter_of Black Bishop = refl
-is_letter_of Black Knight = refl
-is_letter_of Black Pawn = refl
+is_letter_of _ _ = refl
 
 one_letter : (b : ℕ) → is_letter b ≡ true → is_letter (other_letter b) ≡ true
 one_letter b is =

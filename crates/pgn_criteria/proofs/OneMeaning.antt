@@ -12,11 +12,10 @@ use Rattle.chess.specs.declared.board.man.Kind.TheVariants.{King, Queen, Rook, B
 use Rattle.pgn_criteria.specs.Private.Reading.{run_of, after_word, core_of, ReadsWord}
 use Rattle.pgn_criteria.specs.Public.Materials.{limit_of}
 use Rattle.pgn_criteria.specs.Public.Lines.{SpellsTag, SpellsGame, SpellsPosition, SpellsMove}
-use Rattle.pgn_criteria.specs.Public.Lines.{SpellsDays}
-use Rattle.pgn_criteria.specs.Public.Lines.{SpellsSpan, SpellsTaken, SpellsTurned, SpellsCondition}
-use Rattle.pgn_criteria.specs.Public.Lines.{SpellsLimits, Spells, IsLine, AreLines, side_text}
-use Rattle.pgn_criteria.specs.Public.Lines.{relation_text, comparison_text, alternatives_of}
-use Rattle.pgn_criteria.specs.Public.Lines.{IsFirstBad}
+use Rattle.pgn_criteria.specs.Public.Lines.{SpellsDays, SpellsSpan, SpellsTaken, SpellsTurned}
+use Rattle.pgn_criteria.specs.Public.Lines.{SpellsCondition, SpellsLimits, Spells, IsLine, AreLines}
+use Rattle.pgn_criteria.specs.Public.Lines.{side_text, relation_text, comparison_text}
+use Rattle.pgn_criteria.specs.Public.Lines.{alternatives_of, IsFirstBad}
 use Rattle.pgn_criteria.specs.Public.Laws.{TextHasOneMeaning, TextHasOneAnswer}
 use Rattle.pgn_criteria.specs.Public.Laws.{MemoryIsTheOnlyFault}
 use Rattle.pgn_criteria.specs.declared.compare.Comparison.{Comparison}
@@ -65,13 +64,7 @@ relation_at n = if n == 61 then Equal else if n == 122 then Unequal else if n ==
 
 relation_back : (relation : Relation) → relation_at (total (relation_text relation)) ≡ relation
 relation_back Equal = refl
-relation_back Unequal = refl
-relation_back Less = refl
-relation_back LessOrEqual = refl
-relation_back Greater = refl
-relation_back GreaterOrEqual = refl
-relation_back Has = refl
-relation_back Begins = refl
+relation_back _ = refl
 
 one_relation : (a b : Relation) → relation_text a ≡ relation_text b → a ≡ b
 one_relation a b e = sym (relation_back a) ∙ ap (λ x. relation_at (total x)) e ∙ relation_back b
@@ -120,11 +113,7 @@ comparison_at n = if n == 61 then compared.Equal else if n == 122 then compared.
 comparison_back : (comparison : Comparison)
     → comparison_at (total (comparison_text comparison)) ≡ comparison
 comparison_back compared.Equal = refl
-comparison_back compared.Unequal = refl
-comparison_back compared.Less = refl
-comparison_back compared.LessOrEqual = refl
-comparison_back compared.Greater = refl
-comparison_back compared.GreaterOrEqual = refl
+comparison_back _ = refl
 
 one_comparison : (a b : Comparison) → comparison_text a ≡ comparison_text b → a ≡ b
 one_comparison a b e = sym (comparison_back a) ∙ ap (λ x. comparison_at (total x)) e

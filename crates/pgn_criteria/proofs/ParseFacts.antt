@@ -1,7 +1,6 @@
 -- The lines of a text read one after the other, and the alternatives that they spell.
-use Rattle.std.proofs.Common.{◌≡◌, ◌≤◌, ◌<◌, ℕ, Bool, true, false, List, [], ◌∷◌, ◌++◌, length}
-use Rattle.std.proofs.Common.{refl, sym, ap, ◌∙◌, subst, append_assoc, append-nil, length-append}
-use Rattle.std.proofs.Common.{arith}
+use Rattle.std.proofs.Common.{◌≡◌, ◌≤◌, ◌<◌, ℕ, Bool, true, List, [], ◌∷◌, ◌++◌, refl, sym, ap, ◌∙◌}
+use Rattle.std.proofs.Common.{false, length, subst, append_assoc, append-nil, length-append, arith}
 use Rattle.std.specs.Prelude.{◌+◌, ◌==◌, if◌then◌else◌, Option, Some, None, MatchOption}
 use Rattle.chess.specs.Public.Fen.{parted_at, before_first}
 use Rattle.pgn_criteria.specs.Public.Lines.{SpellsGame, SpellsTaken, SpellsCondition, IsLine}
@@ -162,9 +161,7 @@ joined_none a =
 with_joined : (condition : Condition (List ℕ)) (a : Conditions)
     → joined (with_condition condition no_conditions) a ≡ with_condition condition a
 with_joined (Game own) a = refl
-with_joined (Position own) a = refl
-with_joined (Move own) a = refl
-with_joined (Span claim) a = refl
+with_joined _ a = refl
 
 -- there is always a first alternative
 pub some_alternative : (means : List (Meaning (List ℕ)))

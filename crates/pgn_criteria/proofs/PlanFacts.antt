@@ -1,5 +1,5 @@
 -- What is planned of patterns, in whichever way they are asked.
-use Rattle.std.proofs.Common.{◌≡◌, ◌↔◌, ℕ, Bool, true, List, [], ◌∷◌, ◌++◌, IsTrue, refl, sym}
+use Rattle.std.proofs.Common.{◌≡◌, ◌↔◌, ℕ, Bool, true, List, [], ◌∷◌, ◌++◌, refl, sym}
 use Rattle.std.proofs.Common.{subst, inl, inr}
 use Rattle.std.proofs.lemmas.Result.{IfOk-weaker}
 use Rattle.std.specs.Prelude.{◌⊎◌, Result, IfOk}
@@ -184,17 +184,6 @@ plans_denied fact old new one layout ways denied is same = record {
 -- what is denied
 pub denied : {A B : Type 0} → A ↔ B → (A → ⊥) ↔ (B → ⊥)
 denied same = (λ no b. no (same.1 b), λ no a. no (same.0 a))
-
--- nothing more is planned
-pub plans_none : (fact : Placement → Type 0) (old : Plan) (all : Bool)
-    → (IsTrue all → (p : Placement) → fact p) → Plans fact (λ p. Unit {0}) old old all
-plans_none fact old all holds =
-    record {
-      sound = λ are. are;
-      needed = λ p planned is. (planned, tt);
-      enough =
-          λ so p planned left. (planned, holds so p);
-    }
 
 -- what a pattern says is planned, where that is asked at its stage
 pub planned_claim : {E : Type 0} (r : Result Bool E) (old new : Plan) (denied d : Bool)

@@ -7,9 +7,7 @@ use Rattle.pgn_criteria.specs.Private.Reading.{run_of, after_word}
 use Rattle.pgn_criteria.specs.Public.Lines.{SpellsGame, SpellsSpan, SpellsCompared, SpellsDigits}
 use Rattle.pgn_criteria.specs.Public.Lines.{SpellsCount, comparison_text}
 use Rattle.pgn_criteria.specs.declared.compare.Comparison.{Comparison}
-use Rattle.pgn_criteria.specs.declared.compare.Comparison.TheVariants.{Equal, Unequal, Less}
-use Rattle.pgn_criteria.specs.declared.compare.Comparison.TheVariants.{LessOrEqual, Greater}
-use Rattle.pgn_criteria.specs.declared.compare.Comparison.TheVariants.{GreaterOrEqual}
+use Rattle.pgn_criteria.specs.declared.compare.Comparison.TheVariants.{Equal}
 use Rattle.pgn_criteria.specs.declared.condition.GameClaim.TheVariants.{Plies}
 use Rattle.pgn_criteria.specs.declared.condition.SpanClaim.TheVariants.{For, Count}
 use Rattle.pgn_criteria.proofs.SolidFacts.{is_solid, AreSolid, BeginsSolid, EndsSolid, all_solid}
@@ -18,19 +16,11 @@ use Rattle.pgn_criteria.proofs.SolidFacts.{word_read, word_spelled}
 
 pub comparison_solid : (comparison : Comparison) → AreSolid (comparison_text comparison)
 comparison_solid Equal = refl
-comparison_solid Unequal = refl
-comparison_solid Less = refl
-comparison_solid LessOrEqual = refl
-comparison_solid Greater = refl
-comparison_solid GreaterOrEqual = refl
+comparison_solid _ = refl
 
 comparison_some : (comparison : Comparison) → comparison_text comparison ≢ []
 comparison_some Equal none = cc
-comparison_some Unequal none = cc
-comparison_some Less none = cc
-comparison_some LessOrEqual none = cc
-comparison_some Greater none = cc
-comparison_some GreaterOrEqual none = cc
+comparison_some _ none = cc
 
 pub comparison_begins : (comparison : Comparison) → BeginsSolid (comparison_text comparison)
 comparison_begins comparison =

@@ -1,7 +1,6 @@
 -- A man who is put on a square, or goes from it, has that square more or less.
-use Rattle.std.proofs.Common.{◌≡◌, ◌↔◌, ◌⊎◌, inl, inr, ◌||◌, ◌&&◌, not, Bool, true, false, cond}
-use Rattle.std.proofs.Common.{Option, Some, None, ℕ, zero, suc, ◌<◌, ◌≤◌, arith, refl, sym, ap}
-use Rattle.std.proofs.Common.{subst, ◌∙◌}
+use Rattle.std.proofs.Common.{◌≡◌, ◌↔◌, ◌⊎◌, inl, inr, Bool, true, false, cond, Option, Some, None}
+use Rattle.std.proofs.Common.{ℕ, zero, suc, ◌<◌, ◌≤◌, arith, refl, sym, ap, subst, ◌∙◌}
 use Rattle.std.specs.Prelude.{◌==◌}
 use Rattle.std.proofs.lemmas.Bool.Decides.{nat_tests}
 use Rattle.chess.specs.Public.Squares.{Place, IsOnBoard, same_square}
@@ -15,22 +14,10 @@ use Rattle.chess.specs.Public.Moves.{with_rook}
 use Rattle.chess.specs.declared.board.man.Side.{Side}
 use Rattle.chess.specs.declared.board.man.Side.TheVariants.{White, Black}
 use Rattle.chess.specs.declared.board.man.Wing.{Wing}
-use Rattle.chess.specs.declared.board.man.Wing.TheVariants.{KingSide, QueenSide}
+use Rattle.chess.specs.declared.board.man.Wing.TheVariants.{KingSide}
 use Rattle.pgn_game.specs.Public.PlyCodes.{man_number, numbered_castle, numbered_man}
 use Rattle.pgn_game.proofs.PlyCodeFacts.{man_again, man_back}
 use Rattle.pgn_criteria.specs.Private.PrefilterTests.{AreTaken, IsPut}
-
-pub is_inserted : (swapped same was : Bool) → swapped ≡ same → (swapped || was) ≡ cond same true was
-is_inserted true true was e = refl
-is_inserted false false was e = refl
-is_inserted true false was e = absurd cc
-is_inserted false true was e = absurd cc
-
-pub is_removed : (same was : Bool) → (was && not same) ≡ cond same false was
-is_removed true true = refl
-is_removed true false = refl
-is_removed false true = refl
-is_removed false false = refl
 
 at_same : (men : Placement) (man : Man) (t s : Place) (x : Option Man) (his : Bool) → IsOnBoard t
     → ((his ≡ true) ↔ (x ≡ Some man)) → s ≡ t
@@ -88,15 +75,13 @@ home s a b d e = record { file_low = a; file_high = b; rank_low = d; rank_high =
 
 from_on_board : (side : Side) (wing : Wing) → IsOnBoard (rook_from side wing)
 from_on_board White KingSide = home _ (omega arith) (omega arith) (omega arith) (omega arith)
-from_on_board White QueenSide = home _ (omega arith) (omega arith) (omega arith) (omega arith)
 from_on_board Black KingSide = home _ (omega arith) (omega arith) (omega arith) (omega arith)
-from_on_board Black QueenSide = home _ (omega arith) (omega arith) (omega arith) (omega arith)
+from_on_board _ _ = home _ (omega arith) (omega arith) (omega arith) (omega arith)
 
 to_on_board : (side : Side) (wing : Wing) → IsOnBoard (rook_to side wing)
 to_on_board White KingSide = home _ (omega arith) (omega arith) (omega arith) (omega arith)
-to_on_board White QueenSide = home _ (omega arith) (omega arith) (omega arith) (omega arith)
 to_on_board Black KingSide = home _ (omega arith) (omega arith) (omega arith) (omega arith)
-to_on_board Black QueenSide = home _ (omega arith) (omega arith) (omega arith) (omega arith)
+to_on_board _ _ = home _ (omega arith) (omega arith) (omega arith) (omega arith)
 
 -- he or another castles
 pub castles : (men : Placement) (man : Man) (side : Side) (wing : Wing) (s3 s4 s5 : Places)

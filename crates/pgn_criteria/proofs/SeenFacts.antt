@@ -90,31 +90,13 @@ module _ (men : Placement) (turn : Side) (Checked Stuck : Type 0) where
     none_of_stage Replies conditions (λ is. cc) patterns,
   )
 
-  -- one condition that is no pattern is all of the rest
-  pub rest_of_pattern : (condition : PositionCondition (List ℕ))
-      → stage_of condition.claim ≡ Squares → AllOfRest men turn Checked Stuck (condition ∷ [])
-  rest_of_pattern condition is = patterns_rest (condition ∷ []) (is, tt)
-
-  pub rest_of_one : (condition : PositionCondition (List ℕ))
-      → (stage_of condition.claim ≡ Squares → ⊥)
-      → OfSeen men turn Checked Stuck condition ↔ AllOfRest men turn Checked Stuck (condition ∷ [])
-  rest_of_one condition other = (
-    λ here. ((λ is. here, tt), (λ is. here, tt), (λ is. here, tt)),
-    λ rest. one_stage condition.is_denied condition.claim (λ is.
-        absurd (other is)) rest.0.0 rest.1.0 rest.2.0,
-  )
-
   -- what patterns say is said of the men alone
   one_pattern : (denied : Bool) (claim : PositionClaim (List ℕ))
       → (stage_of claim ≡ Squares → Says denied claim)
       ↔ (stage_of claim ≡ Squares → SaysOfSeen men White ⊥ ⊥ denied claim)
   one_pattern denied (Fen pattern) = (λ says. says, λ says. says)
   one_pattern denied (Flip pattern) = (λ says. says, λ says. says)
-  one_pattern denied (Material white black) = (λ says is. absurd (cc), λ says is. absurd (cc))
-  one_pattern denied (Turn side) = (λ says is. absurd (cc), λ says is. absurd (cc))
-  one_pattern denied Check = (λ says is. absurd (cc), λ says is. absurd (cc))
-  one_pattern denied Mate = (λ says is. absurd (cc), λ says is. absurd (cc))
-  one_pattern denied Stalemate = (λ says is. absurd (cc), λ says is. absurd (cc))
+  one_pattern denied _ = (λ says is. absurd (cc), λ says is. absurd (cc))
 
   pub patterns_said : (conditions : List (PositionCondition (List ℕ)))
       → SayAll Squares conditions ↔ AllOfPatterns men conditions
@@ -126,19 +108,10 @@ module _ (men : Placement) (turn : Side) (Checked Stuck : Type 0) where
 
 -- ---- check, and whether there is a move, said otherwise
 
--- a position is seen as itself
-pub of_position : (P : State) (condition : PositionCondition (List ℕ))
-    → OfSeen P.men P.turn (IsCheck P.men P.turn) (¬ HasMove P) condition ≡ Holds P condition
-of_position P condition = refl
-
 -- facts that say the same give the same answers
 module _ (men : Placement) (turn : Side) (A B C D : Type 0) (check : A ↔ B) (stuck : C ↔ D) where
   one_said : (denied : Bool) (claim : PositionClaim (List ℕ))
       → SaysOfSeen men turn A C denied claim ↔ SaysOfSeen men turn B D denied claim
-  one_said denied (Fen pattern) = (λ says. says, λ says. says)
-  one_said denied (Flip pattern) = (λ says. says, λ says. says)
-  one_said denied (Material white black) = (λ says. says, λ says. says)
-  one_said denied (Turn side) = (λ says. says, λ says. says)
   one_said denied Check = same_taken denied check
   one_said denied Mate =
       same_taken denied (
@@ -149,6 +122,7 @@ module _ (men : Placement) (turn : Side) (A B C D : Type 0) (check : A ↔ B) (s
     λ both. ((λ b. both.0 (check.1 b)), stuck.0 both.1),
     λ both. ((λ a. both.0 (check.0 a)), stuck.1 both.1),
   )
+  one_said denied _ = (λ says. says, λ says. says)
 
   pub said : (condition : PositionCondition (List ℕ))
       → OfSeen men turn A C condition ↔ OfSeen men turn B D condition
@@ -183,13 +157,10 @@ all_said men turn A B C D conditions check stuck =
 pub said_of_men : (men : Placement) (turn : Side) (A B C D : Type 0) (denied : Bool)
     (claim : PositionClaim (List ℕ)) → can_be_mirrored claim ≡ true
     → SaysOfSeen men turn A C denied claim ↔ SaysOfSeen men turn B D denied claim
-said_of_men men turn A B C D denied (Fen pattern) can = (λ says. says, λ says. says)
-said_of_men men turn A B C D denied (Flip pattern) can = (λ says. says, λ says. says)
-said_of_men men turn A B C D denied (Material white black) can = (λ says. says, λ says. says)
-said_of_men men turn A B C D denied (Turn side) can = (λ says. says, λ says. says)
 said_of_men men turn A B C D denied Check can = absurd (cc)
 said_of_men men turn A B C D denied Mate can = absurd (cc)
 said_of_men men turn A B C D denied Stalemate can = absurd (cc)
+said_of_men men turn A B C D denied _ can = (λ says. says, λ says. says)
 
 pub can_be_turned : (condition : PositionCondition (List ℕ)) → is_turned condition ≡ true
     → can_be_mirrored condition.claim ≡ true

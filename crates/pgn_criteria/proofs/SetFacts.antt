@@ -17,11 +17,10 @@ use Rattle.chess.specs.declared.board.man.Side.TheVariants.{White, Black}
 use Rattle.chess.specs.declared.board.man.Kind.{Kind}
 use Rattle.chess.specs.declared.board.man.Kind.TheVariants.{King, Queen, Rook, Bishop, Knight, Pawn}
 use Rattle.pgn_criteria.specs.Public.Patterns.{AreMen, IsStretch, CanBeSplit, items_where}
-use Rattle.pgn_criteria.specs.Private.Items.{AreItems, is_letter, IsItem, items_of}
+use Rattle.pgn_criteria.specs.Private.Items.{AreItems, is_letter, IsItem, items_of, Fits, Reads}
+use Rattle.pgn_criteria.specs.Private.Items.{IsNextItem, HasNoItem, item_of, has_man, men_in}
 use Rattle.pgn_criteria.specs.Public.Patterns.IsStretch.{spelled, any, occupied, white, black, many}
 use Rattle.pgn_criteria.specs.Public.Patterns.IsStretch.{among, other}
-use Rattle.pgn_criteria.specs.Private.Items.{Fits, Reads, IsNextItem, HasNoItem, item_of, has_man}
-use Rattle.pgn_criteria.specs.Private.Items.{men_in}
 use Rattle.pgn_criteria.specs.declared.rank.SquareTest.{SquareTest}
 use Rattle.pgn_criteria.specs.declared.rank.SquareTest.TheVariants.{Among, Other}
 use Rattle.pgn_criteria.specs.declared.rank.Item.{Item}
@@ -94,17 +93,8 @@ named_of : (letters : List ℕ) (side : Side) (kind : Kind)
     → has_man (men_in letters) (record { side = side; kind = kind })
     ≡ has_byte (man_letter (record { side = side; kind = kind })) letters
 named_of letters White King = refl
-named_of letters White Queen = refl
-named_of letters White Rook = refl
-named_of letters White Bishop = refl
-named_of letters White Knight = refl
-named_of letters White Pawn = refl
 named_of letters Black King = refl
-named_of letters Black Queen = refl
-named_of letters Black Rook = refl
-named_of letters Black Bishop = refl
-named_of letters Black Knight = refl
-named_of letters Black Pawn = refl
+named_of letters _ _ = refl
 
 named : (letters : List ℕ) (man : Man) → has_man (men_in letters) man
     ≡ has_byte (man_letter man) letters
@@ -269,22 +259,13 @@ no_bracket b own s e =
 open_stretch : (item : List ℕ) (own : List (Option Man)) → IsStretch item own → (x : List ℕ)
     → item ≡ 91 ∷ x → after_run 93 x ≡ [] → ⊥
 open_stretch _ _ (spelled b own s) x e unclosed = no_bracket b own s (ap first_of e)
-open_stretch _ _ (any square) x e unclosed = let clash : false ≡ true =
-    ap (λ y. first_of y == 91) e in cc
-open_stretch _ _ (occupied man) x e unclosed = let clash : false ≡ true =
-    ap (λ y. first_of y == 91) e in cc
-open_stretch _ _ (white man side) x e unclosed = let clash : false ≡ true =
-    ap (λ y. first_of y == 91) e in cc
-open_stretch _ _ (black man side) x e unclosed = let clash : false ≡ true =
-    ap (λ y. first_of y == 91) e in cc
-open_stretch _ _ (many own) x e unclosed = let clash : false ≡ true =
-    ap (λ y. first_of y == 91) e in cc
 open_stretch _ _ (among letters man are has) x e unclosed =
     let same : letters ++ 93 ∷ [] ≡ x = ap rest_of e in
     no_end letters (ap (after_run 93) same ∙ unclosed)
 open_stretch _ _ (other letters square are none) x e unclosed =
     let same : (94 ∷ letters) ++ 93 ∷ [] ≡ x = ap rest_of e in
     no_end (94 ∷ letters) (ap (after_run 93) same ∙ unclosed)
+open_stretch _ _ _ x e unclosed = let clash : false ≡ true = ap (λ y. first_of y == 91) e in cc
 
 pub open_fails : (x : List ℕ) → after_run 93 x ≡ [] → HasNoItem (91 ∷ x)
 open_fails x unclosed text more cut item =

@@ -18,8 +18,7 @@ use Rattle.pgn_criteria.specs.declared.rank.SquareTest.TheVariants.{Empty, This,
 use Rattle.pgn_criteria.specs.declared.rank.SquareTest.TheVariants.{Of, Among, Other}
 use Rattle.pgn_criteria.specs.declared.rank.Item.{Item}
 use Rattle.pgn_criteria.specs.declared.rank.Item.TheVariants.{Run, Many}
-use Rattle.pgn_criteria.specs.Public.Patterns.IsStretch.{spelled, any, occupied, white, black, many}
-use Rattle.pgn_criteria.specs.Public.Patterns.IsStretch.{among, other}
+use Rattle.pgn_criteria.specs.Public.Patterns.IsStretch.{spelled, among, other}
 use Rattle.std.specs.List.{list_all}
 use Rattle.pgn_criteria.proofs.ItemFacts.{item_exact, no_stretch}
 use Rattle.pgn_criteria.proofs.SetFacts.{first_of, rest_of, among_read, other_read, no_set}
@@ -117,26 +116,15 @@ inside_of item = without_last (rest_of item)
 
 bracketed : (item : List ℕ) (own : List (Option Man)) → IsStretch item own → (b c : ℕ) (x : List ℕ)
     → item ≡ b ∷ c ∷ x → item ≡ 91 ∷ (inside_of item ++ 93 ∷ [])
-bracketed _ _ (spelled n own s) b c x e = absurd (cc)
-bracketed _ _ (any square) b c x e = absurd (cc)
-bracketed _ _ (occupied man) b c x e = absurd (cc)
-bracketed _ _ (white man side) b c x e = absurd (cc)
-bracketed _ _ (black man side) b c x e = absurd (cc)
-bracketed _ _ (many own) b c x e = absurd (cc)
 bracketed _ _ (among letters man are has) b c x e =
     ap (λ y. 91 ∷ (y ++ 93 ∷ [])) (sym (last_dropped letters 93))
 bracketed _ _ (other letters square are none) b c x e =
     ap (λ y. 91 ∷ (y ++ 93 ∷ [])) (sym (last_dropped (94 ∷ letters) 93))
+bracketed _ _ _ b c x e = absurd (cc)
 
 empty_item : (item : List ℕ) (own : List (Option Man)) → IsStretch item own → item ≡ [] → ⊥
 empty_item _ _ (spelled n own s) e = cc
-empty_item _ _ (any square) e = cc
-empty_item _ _ (occupied man) e = cc
-empty_item _ _ (white man side) e = cc
-empty_item _ _ (black man side) e = cc
-empty_item _ _ (many own) e = cc
-empty_item _ _ (among letters man are has) e = cc
-empty_item _ _ (other letters square are none) e = cc
+empty_item _ _ _ e = cc
 
 settled_long : (item : List ℕ) (own : List (Option Man)) (b c : ℕ) (x : List ℕ) → item ≡ b ∷ c ∷ x
     → Settled (item ≡ 91 ∷ (inside_of item ++ 93 ∷ [])) → Settled (IsStretch item own)

@@ -1,9 +1,9 @@
 -- Conditions on a game are what they say of the game alone and what they say of a position.
-use Rattle.std.proofs.Common.{◌≡◌, ◌↔◌, ◌+◌, ◌++◌, ◌<◌, ℕ, zero, suc, Bool, true, false, List, []}
+use Rattle.std.proofs.Common.{◌≡◌, ◌↔◌, ◌+◌, ◌++◌, ◌<◌, ℕ, Bool, true, false, List, []}
 use Rattle.std.proofs.Common.{◌∷◌, length, get_or, Option, Some, None, IsTrue, refl, sym, ◌∙◌}
 use Rattle.std.proofs.Common.{subst, inl, inr, arith}
 use Rattle.std.proofs.lemmas.Option.{slice_get_within, slice_get-get_or, get_or_from_slice_get}
-use Rattle.std.specs.Prelude.{◌⊎◌, replicate}
+use Rattle.std.specs.Prelude.{◌⊎◌}
 use Rattle.std.specs.Option.{unwrap_or}
 use Rattle.std.specs.List.{slice_get}
 use Rattle.chess.specs.Public.Moves.{HasMove}
@@ -542,27 +542,3 @@ module _ (heading : Heading) (replay : Replay) (before : List Conditions) (own :
       ],
     );
   }
-
--- no ply meets no alternative
-pub none_met : (heading : Heading) (replay : Replay) (count : ℕ)
-    → length replay.positions ≡ count + 1
-    → AreMet heading replay [] (replicate count false ++ false ∷ [])
-none_met heading replay count size = record {
-  each = lasting count ∙ sym size;
-  reports = λ ply is here. (
-    λ t. let no = all_false count ply is here in
-        absurd (cc (no, t)),
-    λ met. absurd met.hold,
-  );
-}
-  where
-    lasting : (count : ℕ) → length (replicate count false ++ false ∷ []) ≡ count + 1
-    lasting zero = refl
-    lasting (suc count) = let rest = lasting count in omega (arith, rest)
-
-    all_false : (count ply : ℕ) (is : Bool)
-        → slice_get (replicate count false ++ false ∷ []) ply ≡ Some is → is ≡ false
-    all_false zero zero is here = cc (here)
-    all_false zero (suc ply) is here = absurd (cc (here))
-    all_false (suc count) zero is here = cc (here)
-    all_false (suc count) (suc ply) is here = all_false count ply is here

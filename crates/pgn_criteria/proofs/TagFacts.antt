@@ -9,14 +9,11 @@ use Rattle.chess.specs.Public.Fen.{parted_at}
 use Rattle.pgn_text.specs.Public.Bytes.{is_name_byte}
 use Rattle.pgn_text.specs.Public.Strings.{IsContents}
 use Rattle.pgn_criteria.specs.Private.Reading.{after_word, ReadsNamed}
-use Rattle.pgn_criteria.specs.Public.Lines.{SpellsNamed, SpellsTag, AreNames, SpellsDigits}
-use Rattle.pgn_criteria.specs.Public.Lines.{SpellsDays}
-use Rattle.pgn_criteria.specs.Public.Lines.{CanBeCompared, relation_text, comparison_text}
+use Rattle.pgn_criteria.specs.Public.Lines.{SpellsNamed, SpellsTag, SpellsDigits, SpellsDays}
+use Rattle.pgn_criteria.specs.Public.Lines.{AreNames, CanBeCompared, relation_text, comparison_text}
 use Rattle.pgn_criteria.specs.declared.compare.Comparison.{Comparison}
 use Rattle.pgn_criteria.specs.declared.compare.Relation.{Relation}
-use Rattle.pgn_criteria.specs.declared.compare.Relation.TheVariants.{Equal, Unequal, Less}
-use Rattle.pgn_criteria.specs.declared.compare.Relation.TheVariants.{LessOrEqual, Greater}
-use Rattle.pgn_criteria.specs.declared.compare.Relation.TheVariants.{GreaterOrEqual, Has, Begins}
+use Rattle.pgn_criteria.specs.declared.compare.Relation.TheVariants.{Equal, Has}
 use Rattle.pgn_criteria.specs.declared.condition.ValueClaim.TheVariants.{Text, Number, Date}
 use Rattle.pgn_criteria.specs.declared.dates.Days.{Days}
 use Rattle.pgn_criteria.proofs.PliesFacts.{comparison_solid, comparison_begins, count_begins}
@@ -46,23 +43,11 @@ names_some (b ∷ x) are none = cc
 
 relation_solid : (relation : Relation) → AreSolid (relation_text relation)
 relation_solid Equal = refl
-relation_solid Unequal = refl
-relation_solid Less = refl
-relation_solid LessOrEqual = refl
-relation_solid Greater = refl
-relation_solid GreaterOrEqual = refl
-relation_solid Has = refl
-relation_solid Begins = refl
+relation_solid _ = refl
 
 relation_some : (relation : Relation) → relation_text relation ≢ []
 relation_some Equal none = cc
-relation_some Unequal none = cc
-relation_some Less none = cc
-relation_some LessOrEqual none = cc
-relation_some Greater none = cc
-relation_some GreaterOrEqual none = cc
-relation_some Has none = cc
-relation_some Begins none = cc
+relation_some _ none = cc
 
 -- a string with these contents
 abbrev pub quoted : List ℕ → List ℕ
@@ -202,14 +187,8 @@ date_spelled text names operator date comparison days reads sign spelled =
     (date, named, spelled)
 
 has_read : (relation : Relation) → relation_text relation ≡ codes "has" → relation ≡ Has
-has_read Equal is = cc
-has_read Unequal is = cc
-has_read Less is = cc
-has_read LessOrEqual is = cc
-has_read Greater is = cc
-has_read GreaterOrEqual is = cc
 has_read Has is = refl
-has_read Begins is = cc
+has_read _ is = cc
 
 -- what is read can be compared where what is spelled can
 pub read_fits : (relation other : Relation) (contents found : List ℕ)

@@ -1,7 +1,6 @@
 -- The items of a rank, as the matcher reads them.
-use Rattle.std.specs.Prelude.{◌≡◌, ◌↔◌, ℕ, ◌+◌, ◌<◌, ◌≤◌, ◌==◌, ◌++◌, if◌then◌else◌, Bool, false}
-use Rattle.std.specs.Prelude.{codes, IsTrue, List, [], ◌∷◌, length, drop, get_or, Option, Some}
-use Rattle.std.specs.Prelude.{None}
+use Rattle.std.specs.Prelude.{◌≡◌, ◌↔◌, ℕ, ◌+◌, ◌<◌, ◌≤◌, ◌++◌, Bool, List, ◌∷◌, drop, Some, None}
+use Rattle.std.specs.Prelude.{◌==◌, if◌then◌else◌, false, codes, IsTrue, [], length, get_or, Option}
 use Rattle.std.specs.Int.{bit_at}
 use Rattle.chess.specs.Public.Fen.{has_byte}
 use Rattle.pgn_criteria.specs.Public.Patterns.{IsStretch, CanBeSplit, items_where}

@@ -1,8 +1,7 @@
 use Rattle.std.proofs.Common.{◌∷◌, ◌++◌, ◌-◌, [], length, take, drop, sym, ◌∙◌, subst}
 use Rattle.std.specs.Prelude.{slice_index_or}
 use Rattle.chess.proofs.RestFacts.{first_and_rest, no_bytes}
-use Rattle.pgn_criteria.specs.Private.Items.{IsItem}
-use Rattle.pgn_criteria.specs.Private.Items.{Reads}
+use Rattle.pgn_criteria.specs.Private.Items.{IsItem, Reads}
 use Rattle.pgn_criteria.specs.declared.rank.Item.TheVariants.{Run}
 use Rattle.pgn_criteria.proofs.SetFacts.{open_fails, set_next, set_fails, after_shorter}
 use Rattle.pgn_criteria.proofs.rank.next_set.Goals as goal
