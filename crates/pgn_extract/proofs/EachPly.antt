@@ -1,7 +1,6 @@
 -- The entries of a game where there are no criteria: plies in a row.
-use Rattle.std.proofs.Common.{◌≡◌, ◌↔◌, ℕ, zero, suc, ◌+◌, ◌-◌, ◌<◌, ◌≤◌, List, [], ◌∷◌, ◌++◌}
-use Rattle.std.proofs.Common.{length, drop, Option, None, true, sym, refl, ap, subst, arith, inl}
-use Rattle.std.proofs.Common.{inr}
+use Rattle.std.proofs.Common.{◌≡◌, zero, List, ◌++◌, length, drop, Option, None, true, subst, arith}
+use Rattle.std.proofs.Common.{◌↔◌, ℕ, suc, ◌+◌, ◌-◌, ◌<◌, ◌≤◌, [], ◌∷◌, sym, refl, ap, inl, inr}
 use Rattle.std.proofs.lemmas.Bool.{cases_lt}
 use Rattle.chess.specs.Public.Positions.{State}
 use Rattle.pgn_game.specs.Public.Replays.{Replay}

@@ -1,6 +1,6 @@
 -- What a line shows after a ply is one text, and there is one for each ply of a main line.
 use Rattle.std.proofs.Common.{◌≡◌, ◌<◌, ℕ, zero, suc, Bool, true, false, not, List, [], ◌∷◌, ◌++◌}
-use Rattle.std.proofs.Common.{length, Some, refl, sym, ap, ◌∙◌, subst, append_assoc, arith}
+use Rattle.std.proofs.Common.{length, Some, refl, sym, ap, ◌∙◌, subst, arith}
 use Rattle.std.specs.Prelude.{◌&&◌, Option, None, MatchOption, codes}
 use Rattle.std.specs.List.{slice_get}
 use Rattle.std.proofs.lemmas.Option.{slice_get-get_or, same_Some}
@@ -148,9 +148,3 @@ pub no_fields : (fields : Fields) → is_plain fields ≡ true → (replay : Rep
 no_fields fields plain replay ply =
     let none = plain_fields fields.fen fields.next plain replay ply in
     ([], [], none.0, none.1, refl)
-
--- the parts of a line make it
-pub whole_line : (text mark digits fen next : List ℕ)
-    → (((text ++ (mark ++ 32 ∷ digits)) ++ fen) ++ next) ++ 10 ∷ []
-    ≡ text ++ (mark ++ 32 ∷ digits ++ ((fen ++ next) ++ 10 ∷ []))
-whole_line text mark digits fen next = simp append_assoc refl

@@ -23,9 +23,8 @@ use Rattle.pgn_extract.specs.Public.GameReports.AreChosen.{none, keep, leave}
 use Rattle.pgn_extract.specs.Public.Listing.{Entry, AreFields, entry_line, listing}
 use Rattle.pgn_extract.specs.Private.Finding.{IsOfGame, AsksFor, named_mark, AddsEntries}
 use Rattle.pgn_extract.specs.Private.Finding.{StopsAtFault}
-use Rattle.pgn_extract.specs.Private.Lines.{EachReplay, MeetsHere, GoesTo, IsNeverMet}
-use Rattle.pgn_extract.specs.Private.Lines.{Finds, HandsOn, NoneBefore, Stands, marked_lines}
-use Rattle.pgn_extract.specs.Private.Lines.{or_some}
+use Rattle.pgn_extract.specs.Private.Lines.{EachReplay, MeetsHere, GoesTo, IsNeverMet, Finds}
+use Rattle.pgn_extract.specs.Private.Lines.{HandsOn, NoneBefore, Stands, marked_lines, or_some}
 use Rattle.pgn_extract.proofs.Chosen.{entry_at}
 use Rattle.pgn_extract.proofs.Picks.{leaves, leaves_all}
 

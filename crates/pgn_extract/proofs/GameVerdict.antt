@@ -17,11 +17,9 @@ use Rattle.pgn_text.specs.declared.game.pieces.PieceStart.TheVariants as marks
 use Rattle.pgn_text.specs.declared.game.pieces.Piece.{Piece}
 use Rattle.pgn_text.specs.declared.game.pieces.Piece.TheVariants as given
 use Rattle.pgn_extract.specs.Public.Choices.{is_chosen}
-use Rattle.pgn_extract.specs.Private.Blockwise.{id_at, by_itself, AddsVerdict, AddsReplayed}
-use Rattle.pgn_extract.specs.Private.Blockwise.{AddsGame}
-use Rattle.pgn_extract.specs.Private.Blockwise.{AddsMark}
-use Rattle.pgn_extract.specs.Private.Blockwise.{IsPieceOf, AddsPiece, NamesBlockStop}
-use Rattle.pgn_extract.specs.Private.Blockwise.{IsBlockVerdict, IsMarkReport, IsMarkVerdict}
+use Rattle.pgn_extract.specs.Private.Blockwise.{id_at, AddsGame, AddsMark, IsPieceOf, AddsPiece}
+use Rattle.pgn_extract.specs.Private.Blockwise.{by_itself, AddsVerdict, AddsReplayed, IsMarkReport}
+use Rattle.pgn_extract.specs.Private.Blockwise.{NamesBlockStop, IsBlockVerdict, IsMarkVerdict}
 use Rattle.pgn_extract.specs.Public.Index.{fault_text, mark_line}
 use Rattle.pgn_extract.specs.Public.Listing.{IsGameOf}
 use Rattle.pgn_extract.specs.Public.Exports.{faulty_text}

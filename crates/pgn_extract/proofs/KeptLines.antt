@@ -1,9 +1,9 @@
 -- A line that is kept stands at a position of the game, and goes on by one ply.
 use Rattle.std.proofs.Common.{◌≡◌, ◌↔◌, ◌+◌, ◌-◌, ◌<◌, ◌≤◌, ℕ, zero, suc, List, [], ◌∷◌, ◌++◌}
 use Rattle.std.proofs.Common.{length, Option, Some, Bool, true, false, IsTrue, refl, sym, ap, ◌∙◌}
-use Rattle.std.proofs.Common.{subst, append_assoc, length-append, arith}
+use Rattle.std.proofs.Common.{subst, append_assoc, length-append, arith, None}
 use Rattle.std.specs.List.{slice_get}
-use Rattle.std.proofs.lemmas.Option.{same_Some}
+use Rattle.std.proofs.lemmas.Option.{same_Some, slice_get_within, slice_get_past}
 use Rattle.chess.specs.Public.Moves.{after, IsLegal}
 use Rattle.chess.specs.Public.Positions.{State}
 use Rattle.chess.specs.declared.moves.Move.{Move}
@@ -14,28 +14,22 @@ use Rattle.pgn_game.specs.Public.Replays.{Replay, IsReplay}
 use Rattle.pgn_game.specs.Public.Starts.{fen_tag}
 use Rattle.pgn_game.specs.declared.replays.replayer.Lines.TheVariants.{Main}
 use Rattle.pgn_game.proofs.CodeLineFacts.{line_legal, line_positions}
-use Rattle.pgn_criteria.specs.Public.Meeting.{heading_of}
+use Rattle.pgn_criteria.specs.Public.Meeting.{heading_of, Heading, Meets, IsFirst}
 use Rattle.pgn_extract.specs.Public.Aims.{Aim, GameId, IsMet, IsWanted, IsEntry}
-use Rattle.pgn_extract.specs.Public.Listing.{AreFields}
+use Rattle.pgn_extract.specs.Public.Listing.{AreFields, IsFenField, IsNextMove, IsNextField}
 use Rattle.pgn_extract.specs.Private.KeptLines.{IsKeptWith}
-use Rattle.pgn_extract.specs.Private.Finding.{IsOfGame, IsChosen}
-use Rattle.pgn_extract.specs.Private.Lines.{GoesTo, MeetsHere, ShowsFields, HandsOn}
-use Rattle.pgn_extract.specs.Private.Lines.{or_some}
+use Rattle.pgn_extract.specs.Private.Finding.{IsOfGame, IsChosen, ShowsPosition}
+use Rattle.pgn_extract.specs.Private.Lines.{GoesTo, MeetsHere, ShowsFields, HandsOn, or_some}
 use Rattle.pgn_extract.specs.declared.settings.Fields.{Fields}
 use Rattle.pgn_extract.proofs.Finds.{some_chosen}
 use Rattle.pgn_extract.proofs.PackedFacts.{line_begins}
 use Rattle.pgn_extract.proofs.OneMain.{one_main, stands_main}
-use Rattle.std.proofs.Common.{None}
 use Rattle.std.proofs.lemmas.Bool.{false≢true}
-use Rattle.std.proofs.lemmas.Option.{slice_get_within, slice_get_past}
 use Rattle.std.specs.Prelude.{is_some, MatchOption, codes}
 use Rattle.chess.specs.Public.San.{IsSan}
-use Rattle.pgn_criteria.specs.Public.Meeting.{Heading, Meets, IsFirst}
 use Rattle.pgn_criteria.specs.Public.Conditions.{Conditions}
 use Rattle.pgn_criteria.proofs.OpeningFacts.{met_alike}
 use Rattle.pgn_extract.specs.Public.Exports.{HasEntry}
-use Rattle.pgn_extract.specs.Private.Finding.{ShowsPosition}
-use Rattle.pgn_extract.specs.Public.Listing.{IsFenField, IsNextMove, IsNextField}
 use Rattle.pgn_extract.proofs.FieldTexts.{IsTextAt}
 
 -- replays with the same positions and moves meet the same criteria

@@ -14,9 +14,8 @@ use Rattle.pgn_extract.specs.Public.Exports.{IsGameExport, sound as exported, fa
 use Rattle.pgn_extract.specs.Public.Exports.{IsPieceExport, AreExports, faulty_text}
 use Rattle.pgn_extract.specs.Public.Laws.{RunIndexes, RunExports}
 use Rattle.pgn_extract.specs.Public.Runs.{Adds}
-use Rattle.pgn_extract.specs.Public.Verdicts.{Verdict, SoundGame, FaultyGame, output_of}
-use Rattle.pgn_extract.specs.Public.Verdicts.{output_text, IsReplayed, IsVerdictIn}
-use Rattle.pgn_extract.specs.Public.Verdicts.{IsPieceVerdict, AreVerdicts}
+use Rattle.pgn_extract.specs.Public.Verdicts.{Verdict, SoundGame, FaultyGame, output_of, IsReplayed}
+use Rattle.pgn_extract.specs.Public.Verdicts.{output_text, IsVerdictIn, IsPieceVerdict, AreVerdicts}
 use Rattle.pgn_extract.specs.Public.Aims.{Aim, GameId}
 use Rattle.pgn_extract.specs.declared.settings.Mode.TheVariants as modes
 use Rattle.pgn_extract.proofs.ChoiceFacts.{choice_of}

@@ -12,10 +12,9 @@ use Rattle.pgn_text.specs.Public.Bytes.{is_white, is_name_byte, is_not_line_feed
 use Rattle.pgn_text.specs.Public.Limits.{depth_limit}
 use Rattle.pgn_text.specs.Public.StopPlaces.{tag_name_of}
 use Rattle.pgn_text.specs.declared.error.error_position.Within.{Within}
-use Rattle.pgn_text.specs.declared.error.error_position.Within.TheVariants.{Comment, TagName}
-use Rattle.pgn_text.specs.declared.error.error_position.Within.TheVariants.{TagValue, Tags}
-use Rattle.pgn_text.specs.declared.error.error_position.Within.TheVariants.{Variation, MainLine}
-use Rattle.pgn_text.specs.declared.error.error_position.Within.TheVariants.{Game}
+use Rattle.pgn_text.specs.declared.error.error_position.Within.TheVariants.{Comment, Tags, MainLine}
+use Rattle.pgn_text.specs.declared.error.error_position.Within.TheVariants.{TagName, Game}
+use Rattle.pgn_text.specs.declared.error.error_position.Within.TheVariants.{TagValue, Variation}
 use Rattle.pgn_text.proofs.EachStops.{stop_exists}
 use Rattle.pgn_text.proofs.Fronts.{list_all-run}
 use Rattle.pgn_game.proofs.PlainTokens.{AreDigits, decimal_digits}

@@ -13,17 +13,15 @@ use Rattle.pgn_game.specs.Public.Starts.{fen_tag}
 use Rattle.pgn_game.specs.declared.replays.replayer.Lines.TheVariants.{Main}
 use Rattle.pgn_criteria.specs.Public.Meeting.{heading_of}
 use Rattle.pgn_extract.specs.Public.Aims.{Aim, GameId}
-use Rattle.pgn_extract.specs.Private.EntryRows.{AreGameEntries, sound as sound_rows}
-use Rattle.pgn_extract.specs.Private.EntryRows.{faulty as faulty_rows, ArePieceEntries}
-use Rattle.pgn_extract.specs.Private.EntryRows.{AreEntryRows}
+use Rattle.pgn_extract.specs.Private.EntryRows.{AreGameEntries, ArePieceEntries, AreEntryRows}
+use Rattle.pgn_extract.specs.Private.EntryRows.{sound as sound_rows, faulty as faulty_rows}
 use Rattle.pgn_extract.specs.Public.GameReports.{AreListed, IsReplayOf}
 use Rattle.pgn_extract.specs.Public.Index.{mark_line}
 use Rattle.pgn_extract.specs.Public.Listing.{Entry, AreEntries, IsGameOf, listing}
-use Rattle.pgn_extract.specs.Public.Searching.{AreGameRecords, sound, faulty, ArePieceRecords}
-use Rattle.pgn_extract.specs.Public.Searching.{AreRecords, IsPackOf, IsRecordListing}
-use Rattle.pgn_extract.specs.Public.Searching.{AreRecordLines, ArePackLines, BeginsWithRecords}
-use Rattle.pgn_extract.specs.Public.Searching.{IsSoundPiece, IsIndexOfSoundGames, none as no_pieces}
-use Rattle.pgn_extract.specs.Public.Searching.{keep, leave, of_all}
+use Rattle.pgn_extract.specs.Public.Searching.{AreGameRecords, faulty, AreRecordLines, IsSoundPiece}
+use Rattle.pgn_extract.specs.Public.Searching.{sound, AreRecords, IsPackOf, keep, leave, of_all}
+use Rattle.pgn_extract.specs.Public.Searching.{ArePieceRecords, IsRecordListing, none as no_pieces}
+use Rattle.pgn_extract.specs.Public.Searching.{ArePackLines, BeginsWithRecords, IsIndexOfSoundGames}
 use Rattle.pgn_extract.specs.declared.settings.Mode.{Mode}
 use Rattle.pgn_extract.specs.declared.settings.Mode.TheVariants as modes
 use Rattle.pgn_extract.proofs.ExactEntries.{are_entries}

@@ -1,15 +1,15 @@
 -- A line that is played stands at a position of the game, and goes on by a move.
-use Rattle.std.proofs.Common.{◌≡◌, ◌+◌, ℕ, List, [], ◌∷◌, ◌++◌, length, Option, None}
-use Rattle.std.proofs.Common.{true, false, Bool, refl, sym, ap, ◌∙◌, subst, append_assoc}
-use Rattle.std.proofs.Common.{append-nil, length-append, inr, arith}
+use Rattle.std.proofs.Common.{◌≡◌, ◌+◌, ℕ, List, [], ◌∷◌, ◌++◌, length, Option, None, true, false}
+use Rattle.std.proofs.Common.{Bool, refl, sym, ap, ◌∙◌, subst, append_assoc, append-nil}
+use Rattle.std.proofs.Common.{length-append, inr, arith, Some}
 use Rattle.chess.specs.Public.Positions.{State}
 use Rattle.chess.specs.declared.moves.Move.{Move}
 use Rattle.pgn_text.specs.Public.GameTexts.{GameText, tag_in}
 use Rattle.pgn_text.specs.Public.Games.{Item}
 use Rattle.pgn_game.specs.Public.Faults.{Fault, IsMoveFault, IsFault}
-use Rattle.pgn_game.specs.Public.MainLines.{IsMainLine}
+use Rattle.pgn_game.specs.Public.MainLines.{IsMainLine, main_words}
 use Rattle.pgn_game.specs.Public.PlayedLines.{PlayedLine, PlaysWord, HasEnded, HasAdvanced, IsBegun}
-use Rattle.pgn_game.specs.Public.Replays.{Replay}
+use Rattle.pgn_game.specs.Public.Replays.{Replay, IsReplay, IsSomeReplay}
 use Rattle.pgn_game.specs.Public.Starts.{fen_tag}
 use Rattle.pgn_game.specs.declared.replays.replayer.Lines.TheVariants.{Main}
 use Rattle.pgn_criteria.specs.Public.Meeting.{heading_of, SomeHold}
@@ -18,7 +18,7 @@ use Rattle.pgn_extract.specs.Public.Aims.{Aim}
 use Rattle.pgn_extract.specs.Private.Finding.{AsksFor, IsPlayedTo, ShowsHere, StopsInLine}
 use Rattle.pgn_extract.specs.Private.Lines.{Stands, GoesTo, NoneAfter, Where, ShowsFields, HasFault}
 use Rattle.pgn_extract.specs.Private.Lines.{IsNeverMet, Fails, aim_with}
-use Rattle.pgn_extract.specs.Public.Listing.{AreFields}
+use Rattle.pgn_extract.specs.Public.Listing.{AreFields, IsFenField, IsNextMove, IsNextField}
 use Rattle.pgn_extract.specs.declared.settings.Fields.{Fields}
 use Rattle.pgn_extract.specs.declared.entries.finding.Finder.{Finder}
 use Rattle.pgn_extract.specs.Private.PlayedLines.{IsPlayedWith}
@@ -26,15 +26,11 @@ use Rattle.pgn_extract.proofs.Finds.{at_seam}
 use Rattle.pgn_extract.proofs.PackedFacts.{line_begins}
 use Rattle.std.specs.List.{slice_get}
 use Rattle.std.specs.Prelude.{MatchOption, codes}
-use Rattle.std.proofs.Common.{Some}
 use Rattle.chess.specs.Public.Moves.{after}
 use Rattle.chess.specs.Public.San.{IsSan}
-use Rattle.pgn_game.specs.Public.MainLines.{main_words}
 use Rattle.pgn_game.specs.Public.PlayedLines.{IsNextText}
-use Rattle.pgn_game.specs.Public.Replays.{IsReplay, IsSomeReplay}
 use Rattle.pgn_game.proofs.OneReplay.{one_move, one_start}
 use Rattle.pgn_extract.specs.Private.Finding.{GoesOnWith, ShowsPosition, ShowsNext}
-use Rattle.pgn_extract.specs.Public.Listing.{IsFenField, IsNextMove, IsNextField}
 
 -- what is left after one more move
 goes_after : {old new : PlayedLine} (word : PlaysWord old new) (before positions : List State)

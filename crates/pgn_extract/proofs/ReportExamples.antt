@@ -12,9 +12,8 @@ use Rattle.pgn_game.specs.Public.Replays.{Replay}
 use Rattle.pgn_game.specs.declared.exports.style.Style.{Style}
 use Rattle.pgn_game.specs.declared.replays.replayer.Lines.TheVariants.{All, Main}
 use Rattle.pgn_extract.specs.Public.Aims.{Aim, GameId}
-use Rattle.pgn_extract.specs.Public.Exports.{HasEntry, IsPieceExport, IsSelected, IsWritten}
-use Rattle.pgn_extract.specs.Public.Exports.{faulty_text, lines_in, selected, unselected}
-use Rattle.pgn_extract.specs.Public.Exports.{written_lines}
+use Rattle.pgn_extract.specs.Public.Exports.{HasEntry, IsWritten, lines_in, selected, unselected}
+use Rattle.pgn_extract.specs.Public.Exports.{IsPieceExport, IsSelected, faulty_text, written_lines}
 use Rattle.pgn_extract.specs.Public.Choices.{is_chosen}
 use Rattle.pgn_extract.specs.Public.GameReports.{AreListed, cause_text}
 use Rattle.pgn_extract.specs.Public.Index.{fault_text, index, mark, mark_line}
@@ -24,9 +23,8 @@ use Rattle.pgn_extract.specs.Public.Outcomes.{Writes}
 use Rattle.pgn_extract.specs.Public.Several.{AreOfPaths, AtPath, FileOf, IsOfPath, IsOpened, IsRead}
 use Rattle.pgn_extract.specs.Public.Several.{IsRefused, NoFile, Order, name_at, own_summary}
 use Rattle.pgn_extract.specs.Public.Several.{summary_text}
-use Rattle.pgn_extract.specs.Public.Verdicts.{FaultyGame, IsOutput, IsReplayed, IsVerdict}
-use Rattle.pgn_extract.specs.Public.Verdicts.{SoundGame, Verdict, is_faulty, output_text}
-use Rattle.pgn_extract.specs.Public.Verdicts.{replayed_lines}
+use Rattle.pgn_extract.specs.Public.Verdicts.{FaultyGame, IsReplayed, output_text, replayed_lines}
+use Rattle.pgn_extract.specs.Public.Verdicts.{IsOutput, IsVerdict, SoundGame, Verdict, is_faulty}
 use Rattle.pgn_extract.proofs.ChoiceFacts.{when_taken}
 use Rattle.pgn_extract.proofs.TwoFiles.{plain}
 use Rattle.pgn_extract.specs.declared.settings.Form.TheVariants.{AsItStands, Record, Standard}

@@ -1,79 +1,13 @@
 -- Searches of packs, one after the other.
-use Rattle.std.proofs.Common.{◌≡◌, ◌≢◌, ◌++◌, ◌<◌, ◌+◌, ℕ, List, [], ◌∷◌, Option, IfSome, drop}
+use Rattle.std.proofs.Common.{◌≡◌, ◌++◌, ◌<◌, ◌+◌, ℕ, List, [], ◌∷◌, drop}
 use Rattle.std.proofs.Common.{get_or, length, map, take, refl, sym, subst}
-use Rattle.std.specs.Io.KnownBytes.{Keeps}
-use Rattle.std.specs.declared.io.ErrorKind.{ErrorKind}
-use Rattle.std.specs.declared.io.ErrorKind.TheVariants.{OutOfMemory}
 use Rattle.pgn_extract.proofs.SeveralFacts.{parted_there, path_there}
-use Rattle.pgn_extract.specs.Private.PackStops.{StopsAmongPacks, StopsAtPack, StopsInPack}
+use Rattle.pgn_extract.specs.Private.PackStops.{StopsAmongPacks, StopsAtPack}
 use Rattle.pgn_extract.specs.Public.Aims.{Aim}
-use Rattle.pgn_extract.specs.Public.Outcomes.{AppendsFront}
-use Rattle.pgn_extract.specs.Public.Runs.{Adds, Passage, Stream}
-use Rattle.pgn_extract.specs.Public.Searching.{Searches}
-use Rattle.pgn_extract.specs.Public.Several.{AtPath, FileOf, IsOpened, IsRefused, NamesUnopened}
-use Rattle.pgn_extract.specs.Public.Several.{NoFile, Unknown}
+use Rattle.pgn_extract.specs.Public.Runs.{Passage, Stream}
+use Rattle.pgn_extract.specs.Public.Several.{AtPath}
 use Rattle.pgn_extract.specs.Private.SeveralPacks.{SearchesPath, SearchesPaths}
 use Rattle.pgn_extract.specs.declared.app.packs.PackFailure.{PackFailure}
-use Rattle.pgn_extract.specs.declared.app.packs.PackFailure.TheVariants.{Search, Report}
-use Rattle.pgn_extract.specs.declared.output.outcome.RunError.{RunError}
-use Rattle.pgn_extract.specs.declared.packed.searching.Searched.{Searched}
-
--- a pack that was opened and searched to its end
-pub path_searched : (aim : Aim) (path : List ℕ) (at : AtPath) (left : Option (List ℕ))
-    (out err : Passage) → at ≢ Unknown → IsOpened at left → err.new ≡ err.old
-    → IfSome left (λ whole. (searched : Searched)
-    × Searches aim whole out.old.bytes out.new.bytes searched)
-    → SearchesPath aim path at out err
-path_searched aim path Unknown left out err known opened same searched = absurd (known refl)
-path_searched aim path NoFile left out err known opened same searched = absurd opened
-path_searched aim path (FileOf whole) left out err known opened same searched = (
-  subst (λ (bytes : Option (List ℕ)). IfSome bytes (λ text. (own : Searched)
-      × Searches aim text out.old.bytes out.new.bytes own)) opened searched,
-  same,
-)
-
--- one whose search stopped
-pub path_stopped : (failure : PackFailure) (aim : Aim) (path : List ℕ) (at : AtPath)
-    (left : Option (List ℕ)) (out err : Passage) → at ≢ Unknown → IsOpened at left → err.new
-    ≡ err.old
-    → IfSome left (λ whole. StopsInPack failure aim path whole out)
-    → StopsAtPack failure aim path at out err
-path_stopped failure aim path Unknown left out err known opened same stopped = absurd (known refl)
-path_stopped failure aim path NoFile left out err known opened same stopped = absurd opened
-path_stopped (Search name error) aim path (FileOf whole) left out err known opened same stopped = (
-  subst (λ (bytes : Option (List ℕ)). IfSome bytes
-      (λ text. StopsInPack (Search name error) aim path text out))
-      opened stopped,
-  same,
-)
-path_stopped (Report error) aim path (FileOf whole) left out err known opened same stopped =
-    absurd (subst (λ (bytes : Option (List ℕ)). IfSome bytes
-    (λ text. StopsInPack (Report error) aim path text out))
-    opened stopped)
-
--- a path where no file could be opened, which was named
-pub path_named : (aim : Aim) (path : List ℕ) (at : AtPath) (kind : ErrorKind) (line : List ℕ)
-    (out err : Passage) → at ≢ Unknown → IsRefused at kind → kind ≢ OutOfMemory → out.new ≡ out.old
-    → NamesUnopened path line → Adds err line → SearchesPath aim path at out err
-path_named aim path Unknown kind line out err known refused other same names adds =
-    absurd (known refl)
-path_named aim path NoFile kind line out err known refused other same names adds =
-    (same, (line, names, adds))
-path_named aim path (FileOf whole) kind line out err known refused other same names adds =
-    absurd (other refused)
-
--- and one where that could not be said
-pub path_unnamed : (error : RunError) (aim : Aim) (path : List ℕ) (at : AtPath) (kind : ErrorKind)
-    (line : List ℕ) (out err : Passage) → at ≢ Unknown → IsRefused at kind
-    → (kind ≡ OutOfMemory → Keeps err.old.bytes err.new.bytes) → out.new ≡ out.old
-    → NamesUnopened path line → AppendsFront err.old.bytes err.new.bytes line
-    → StopsAtPack (Report error) aim path at out err
-path_unnamed error aim path Unknown kind line out err known refused kept same names front =
-    absurd (known refl)
-path_unnamed error aim path NoFile kind line out err known refused kept same names front =
-    (same, (line, names, front))
-path_unnamed error aim path (FileOf whole) kind line out err known refused kept same names front =
-    (same, kept refused)
 
 -- one path more
 paths_searched : (aim : Aim) (known : List ℕ → AtPath) (before : List (List ℕ)) (path : List ℕ)

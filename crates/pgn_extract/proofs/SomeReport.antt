@@ -31,10 +31,9 @@ use Rattle.pgn_extract.specs.declared.settings.Form.TheVariants.{Standard, AsItS
 use Rattle.pgn_extract.specs.Public.Exports.{line_with, lines_in, written_lines, HasEntry, IsTextOf}
 use Rattle.pgn_extract.specs.Public.Exports.{IsWritten, selected, unselected, as_it_stands}
 use Rattle.pgn_extract.specs.Public.Exports.{faulty_text}
-use Rattle.pgn_extract.specs.Public.Verdicts.{Verdict, SoundGame, FaultyGame, AreEntryLines}
-use Rattle.pgn_extract.specs.Public.Verdicts.{IsOutput, IsReplayed, replayed_lines, IsVerdictIn}
-use Rattle.pgn_extract.specs.Public.Verdicts.{IsReportedBy, IsPieceVerdict, AreVerdicts}
-use Rattle.pgn_extract.specs.Public.Verdicts.{IsUnreadableVerdict}
+use Rattle.pgn_extract.specs.Public.Verdicts.{Verdict, SoundGame, FaultyGame, IsOutput, IsReplayed}
+use Rattle.pgn_extract.specs.Public.Verdicts.{AreEntryLines, IsVerdictIn, IsReportedBy, AreVerdicts}
+use Rattle.pgn_extract.specs.Public.Verdicts.{replayed_lines, IsPieceVerdict, IsUnreadableVerdict}
 use Rattle.pgn_game.specs.Public.Replays.{Replay}
 use Rattle.pgn_criteria.specs.Public.Meeting.{Heading, heading_of}
 use Rattle.pgn_extract.specs.Public.Aims.{Aim, GameId, IsMet, IsWanted, IsEntry}

@@ -7,10 +7,9 @@ use Rattle.pgn_text.specs.Public.Limits.{depth_limit}
 use Rattle.pgn_text.specs.Public.StopPlaces.{StandsWithin, tag_name_of}
 use Rattle.pgn_text.specs.Public.Stops.{IsErrorPosition}
 use Rattle.pgn_text.specs.declared.error.error_position.Within.{Within}
-use Rattle.pgn_text.specs.declared.error.error_position.Within.TheVariants.{Comment, TagName}
-use Rattle.pgn_text.specs.declared.error.error_position.Within.TheVariants.{TagValue, Tags}
-use Rattle.pgn_text.specs.declared.error.error_position.Within.TheVariants.{Variation, MainLine}
-use Rattle.pgn_text.specs.declared.error.error_position.Within.TheVariants.{Game}
+use Rattle.pgn_text.specs.declared.error.error_position.Within.TheVariants.{Comment, Tags, MainLine}
+use Rattle.pgn_text.specs.declared.error.error_position.Within.TheVariants.{TagName, Game}
+use Rattle.pgn_text.specs.declared.error.error_position.Within.TheVariants.{TagValue, Variation}
 use Rattle.pgn_extract.specs.Public.Notes.{indented}
 use Rattle.pgn_extract.specs.declared.explain.notes.Origin.{Origin}
 

@@ -11,9 +11,8 @@ use Rattle.pgn_extract.specs.Public.Aims.{Aim}
 use Rattle.pgn_extract.specs.Public.Outcomes.{AppendsFront}
 use Rattle.pgn_extract.specs.Public.Searching.{ArePackLines}
 use Rattle.pgn_extract.specs.declared.packed.searching.SearchError.{SearchError}
-use Rattle.pgn_extract.specs.declared.packed.searching.SearchError.TheVariants.{Read, Write}
-use Rattle.pgn_extract.specs.declared.packed.searching.SearchError.TheVariants.{OutOfMemory}
-use Rattle.pgn_extract.specs.declared.packed.searching.SearchError.TheVariants.{InputTooLong}
+use Rattle.pgn_extract.specs.declared.packed.searching.SearchError.TheVariants.{Read, OutOfMemory}
+use Rattle.pgn_extract.specs.declared.packed.searching.SearchError.TheVariants.{Write, InputTooLong}
 use Rattle.pgn_extract.specs.declared.packed.searching.SearchError.TheVariants.{BadPack}
 
 -- these records are read, the last of them the one that is held; their lines are written in part,

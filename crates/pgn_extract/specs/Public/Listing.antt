@@ -1,8 +1,7 @@
 -- The listing of a text: the plies of its sound games whose position is looked for, each by the
 -- mark of its game.
-use Rattle.std.specs.Prelude.{◌≡◌, ◌↔◌, ◌⊎◌, ℕ, ◌+◌, ◌<◌, nat_le, List, [], ◌∷◌, ◌++◌, length}
-use Rattle.std.specs.Prelude.{Option, Some, MatchOption, Bool, true, false, not, ◌&&◌, codes}
-use Rattle.std.specs.Prelude.{decimal}
+use Rattle.std.specs.Prelude.{◌≡◌, nat_le, List, length, Option, MatchOption, false, codes, decimal}
+use Rattle.std.specs.Prelude.{◌↔◌, ◌⊎◌, ℕ, ◌+◌, ◌<◌, [], ◌∷◌, ◌++◌, Some, Bool, true, not, ◌&&◌}
 use Rattle.std.specs.List.{Contains, filter, slice_get}
 use Rattle.chess.specs.Public.Fen.{IsFen}
 use Rattle.chess.specs.Public.Positions.{State}

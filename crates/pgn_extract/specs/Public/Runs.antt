@@ -1,8 +1,7 @@
 -- The words of the contract of `run`, in the order in which they are best read: what is asked, what
 -- is met, and what stands then.
-use Rattle.std.specs.Prelude.{◌≡◌, ◌↔◌, ◌⊎◌, ℕ, ◌^◌, ◌<◌, ◌≤◌, Bool, true, false, List, length}
-use Rattle.std.specs.Prelude.{take, drop, count_by, Option, Result, IfSome, IfOk, IfErr, OnOk}
-use Rattle.std.specs.Prelude.{IsErrOf}
+use Rattle.std.specs.Prelude.{◌≡◌, ◌↔◌, ◌⊎◌, ℕ, ◌<◌, ◌≤◌, Bool, true, false, List, length, take}
+use Rattle.std.specs.Prelude.{drop, count_by, Option, Result, IfSome, IfOk, IfErr, OnOk, IsErrOf}
 use Rattle.std.specs.Io.KnownBytes.{Appends}
 use Rattle.pgn_text.specs.Public.Limits.{block_limit, depth_limit, largest_offset}
 use Rattle.pgn_text.specs.Public.Marks.{MarkedPiece, AreMarkedPieces}

@@ -10,8 +10,7 @@ use Rattle.pgn_text.specs.Public.Marks.{PieceKind, ReadableGame, UnreadableRest,
 use Rattle.pgn_text.specs.Public.Marks.{MarkedPiece, AreMarkedPieces}
 use Rattle.pgn_game.specs.Public.Faults.{Fault}
 use Rattle.pgn_game.specs.Public.PackedGames.{PackedGame, FitsRecord, IsPacked, record_bytes}
-use Rattle.pgn_game.specs.Public.PackedGames.{pack_bytes}
-use Rattle.pgn_game.specs.Public.PackedGames.{longest_name, is_shown_name}
+use Rattle.pgn_game.specs.Public.PackedGames.{pack_bytes, longest_name, is_shown_name}
 use Rattle.pgn_game.specs.Public.PackStreams.{HasNoRecord}
 use Rattle.pgn_game.specs.Public.Replays.{Replay}
 use Rattle.pgn_game.specs.declared.replays.replayer.Lines.TheVariants.{Main}
@@ -27,9 +26,8 @@ use Rattle.pgn_extract.specs.Public.GameReports.{AreListed, IsReplayOf, IsFaultO
 use Rattle.pgn_extract.specs.Public.Listing.{Entry, AreEntries, IsGameOf, listing}
 use Rattle.pgn_extract.specs.Public.Outcomes.{AppendsFront}
 use Rattle.pgn_extract.specs.declared.packed.searching.SearchError.{SearchError}
-use Rattle.pgn_extract.specs.declared.packed.searching.SearchError.TheVariants.{Read, Write}
-use Rattle.pgn_extract.specs.declared.packed.searching.SearchError.TheVariants.{OutOfMemory}
-use Rattle.pgn_extract.specs.declared.packed.searching.SearchError.TheVariants.{InputTooLong}
+use Rattle.pgn_extract.specs.declared.packed.searching.SearchError.TheVariants.{Read, OutOfMemory}
+use Rattle.pgn_extract.specs.declared.packed.searching.SearchError.TheVariants.{Write, InputTooLong}
 use Rattle.pgn_extract.specs.declared.packed.searching.SearchError.TheVariants.{BadPack}
 use Rattle.pgn_extract.specs.declared.packed.searching.Searched.{Searched}
 use Rattle.pgn_extract.specs.Public.GivenMarks.{game_id}

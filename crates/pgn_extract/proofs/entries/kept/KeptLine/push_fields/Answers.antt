@@ -1,7 +1,6 @@
 use Rattle.std.proofs.Common.{◌++◌, refl, ap, ◌∙◌, append_assoc}
 use Rattle.std.proofs.lemmas.Result.{on_ok_weaker}
-use Rattle.pgn_extract.proofs.KeptLines.{position_shown}
-use Rattle.pgn_extract.proofs.KeptLines.{shows_kept}
+use Rattle.pgn_extract.proofs.KeptLines.{position_shown, shows_kept}
 use Rattle.pgn_extract.proofs.entries.kept.KeptLine.push_fields.Goals as goal
 
 pub returns-clause-shown : goal.returns-clause-shown
