@@ -1,6 +1,7 @@
 """Reads `.antt` files: their imports and what they define."""
 import re
 from dataclasses import dataclass, field
+from functools import cache
 from pathlib import Path
 
 from words import is_name, locals_of, words_of
@@ -73,10 +74,26 @@ def add_import(source, line):
     if items is None:
         source.modules[alias or module.rsplit(".", 1)[-1]] = module
         return
+    passed = passed_on(common_file(source.path, module))
     for item in items.split(","):
         name, _, other = item.strip().partition(" as ")
         if name:
-            source.imports[other.strip() or name] = (module, name)
+            source.imports[other.strip() or name] = passed.get(name, (module, name))
+
+
+def common_file(path, module):
+    """The file `proofs/Common.antt` of a crate of the repository, where that is the module; else none."""
+    crate, _, rest = module.partition(".")
+    crates = next((it for it in Path(path).parents if it.name == "crates"), None)
+    return crates / crate / "proofs/Common.antt" if crates and rest == "proofs.Common" else None
+
+
+@cache
+def passed_on(file):
+    """What a crate's Common passes on: each name with what it imports it as."""
+    if file is None or not file.is_file():
+        return {}
+    return read_source(file, file.parent.parent.name, "proofs", "Common").imports
 
 
 def read_source(path, crate, folder, file):

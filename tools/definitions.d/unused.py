@@ -67,9 +67,18 @@ def unused_definitions(sources, used):
                 yield f"{source.path}:{definition.line}: nothing names {definition.name}"
 
 
+def is_common(source):
+    """The file passes on names from one place, and declares nothing."""
+    return source.path.name == "Common.antt"
+
+
 def unused_imports(sources):
     """Imports that their file does not use."""
+    cited = {(source.crate, target) for source in sources if source.folder == "proofs" and not is_common(source) for target in source.imports.values()}
     for source in sources:
+        if is_common(source):
+            yield from (f"{source.path}: nothing imports {name}" for name, target in sorted(source.imports.items()) if (source.crate, target) not in cited)
+            continue
         words = set().union(*(spoken_in(it) for it in source.definitions)) if source.definitions else set()
         meant = meant_by_words(source, words)
         for name, target in sorted(source.imports.items()):
