@@ -1,17 +1,9 @@
 -- Who stands where after a move.
-use Rattle.std.proofs.Common.{◌≡◌, ◌⊎◌, inl, inr, ap, refl, sym, subst, ◌∙◌, arith, Option, Some}
-use Rattle.std.proofs.Common.{None}
-use Rattle.chess.specs.Public.Squares.{Place, IsOnBoard}
-use Rattle.chess.specs.Public.Placements.{Placement, man_at, with_man, AreOnBoard, IsEmpty}
-use Rattle.chess.specs.Public.Positions.{State, rook_of, rook_from, rook_to}
-use Rattle.chess.specs.Public.Moves.{arriving, capture_square, with_rook, men_after}
-use Rattle.chess.specs.Shared.CellFacts.{man_at-same, man_at-other}
-use Rattle.chess.specs.declared.board.man.Man.{Man}
-use Rattle.chess.specs.declared.board.man.Side.{Side}
-use Rattle.chess.specs.declared.board.man.Side.TheVariants.{White, Black}
-use Rattle.chess.specs.declared.board.man.Wing.{Wing}
-use Rattle.chess.specs.declared.board.man.Wing.TheVariants.{KingSide, QueenSide}
-use Rattle.chess.specs.declared.moves.Move.{Move}
+use Rattle.chess.proofs.Common.{◌≡◌, ◌⊎◌, inl, inr, ap, refl, sym, subst, ◌∙◌, arith, Option, Some}
+use Rattle.chess.proofs.Common.{None, Place, IsOnBoard, Placement, man_at, with_man, AreOnBoard}
+use Rattle.chess.proofs.Common.{IsEmpty, State, rook_of, rook_from, rook_to, arriving}
+use Rattle.chess.proofs.Common.{capture_square, with_rook, men_after, man_at-same, man_at-other}
+use Rattle.chess.proofs.Common.{Man, Side, White, Black, Wing, KingSide, QueenSide, Move}
 use Rattle.chess.proofs.PlaceFacts.{cases_place, some_not_none}
 
 -- the men after the man that moves has left and arrived

@@ -1,21 +1,12 @@
 -- Men that attack a square, found from the square outwards.
-use Rattle.std.proofs.Common.{◌≡◌, ◌⊎◌, ◌<◌, ◌^◌, bit_and, w64, ℕ, true, inl, inr, ap, refl, sym}
-use Rattle.std.proofs.Common.{◌∙◌, arith, Some, ◌&&◌}
-use Rattle.std.specs.Int.{trailing_zeros}
-use Rattle.std.proofs.lemmas.Bool.{and_parts, and_from, eq-eqb}
-use Rattle.std.proofs.lemmas.Nat.{and_le_l}
-use Rattle.std.proofs.lemmas.Nat.Bits.{bit_at-trailing_zeros}
-use Rattle.chess.specs.Public.Squares.{Place, IsOnBoard, index_of, square_at}
-use Rattle.chess.specs.Shared.SquareFacts.{index_of-square_at}
-use Rattle.chess.specs.Shared.SetFacts.{on_board-square_at}
-use Rattle.chess.specs.Public.Placements.{Placement, AreOnBoard}
-use Rattle.chess.specs.Public.Attacks.{IsAttacked, Reaches}
-use Rattle.chess.specs.Shared.SetBitboards.{has_bit}
-use Rattle.chess.specs.Private.Bitboards.{DoMeet, IsMan, IsAttackedBy, IsAttackedStraight}
-use Rattle.chess.specs.Private.Bitboards.{IsAttackedDiagonal}
-use Rattle.chess.specs.declared.board.man.Side.{Side}
-use Rattle.chess.specs.declared.board.man.Kind.{Kind}
-use Rattle.chess.specs.declared.board.man.Kind.TheVariants.{King, Queen, Rook, Bishop, Knight, Pawn}
+use Rattle.chess.proofs.Common.{◌≡◌, ◌⊎◌, ◌<◌, ◌^◌, bit_and, w64, ℕ, true, inl, inr, ap, refl, sym}
+use Rattle.chess.proofs.Common.{◌∙◌, arith, Some, ◌&&◌, trailing_zeros, and_parts, and_from, eq-eqb}
+use Rattle.chess.proofs.Common.{and_le_l, bit_at-trailing_zeros, Place, IsOnBoard, index_of}
+use Rattle.chess.proofs.Common.{square_at, index_of-square_at, on_board-square_at, Placement}
+use Rattle.chess.proofs.Common.{AreOnBoard, IsAttacked, Reaches, has_bit, IsMan, IsAttackedBy}
+use Rattle.chess.proofs.Common.{IsAttackedStraight, IsAttackedDiagonal, Side, Kind, King, Queen}
+use Rattle.chess.proofs.Common.{Rook, Bishop, Knight, Pawn}
+use Rattle.chess.specs.Private.Bitboards.{DoMeet}
 use Rattle.chess.proofs.PlaceFacts.{true_not_false, man_of}
 use Rattle.chess.proofs.AxisSteps.{straight_or_not}
 use Rattle.chess.proofs.FillFacts.{bit_of_both, no_bit}

@@ -1,21 +1,12 @@
 -- The squares from which a man attacks, out of those from which he sees the target.
-use Rattle.std.proofs.Common.{◌≡◌, ◌↔◌, ◌⊎◌, ◌∙◌, ◌<◌, ◌^◌, ◌&&◌, ◌||◌, ℕ, Bool, true, false, inl}
-use Rattle.std.proofs.Common.{inr, ap, sym, subst, bit_and, Some, None, IsTrue}
-use Rattle.std.proofs.lemmas.Bool.{and_parts, and_from}
-use Rattle.chess.specs.Public.Squares.{Place, IsOnBoard, index_of, same_square}
-use Rattle.chess.specs.Public.Attacks.{Reaches}
-use Rattle.chess.specs.Public.Placements.{Placement, IsEmpty, man_at}
-use Rattle.chess.specs.Public.Sets.{Places, is_in, no_places, HoldsExactly}
-use Rattle.chess.specs.Shared.SetBitboards.{has_bit, HasOnly, IsTakenFirst}
-use Rattle.chess.specs.Shared.SetFacts.{false_of}
-use Rattle.chess.specs.Private.Bitboards.{IsBitboardOf, IsMan, IsRunner, IsAttackedStraight}
-use Rattle.chess.specs.Private.Bitboards.{IsAttackedDiagonal}
-use Rattle.chess.specs.Private.MoveWords.{IsLeft, IsSifted}
-use Rattle.chess.specs.Private.PseudoAttacks.{IsPseudoAttack, StandsBetween, IsUnblocked}
-use Rattle.chess.specs.declared.board.man.Man.{Man}
-use Rattle.chess.specs.declared.board.man.Side.{Side}
-use Rattle.chess.specs.declared.board.man.Kind.{Kind}
-use Rattle.chess.specs.declared.board.man.Kind.TheVariants.{Rook, Bishop}
+use Rattle.chess.proofs.Common.{◌≡◌, ◌↔◌, ◌⊎◌, ◌∙◌, ◌<◌, ◌^◌, ◌&&◌, ◌||◌, ℕ, Bool, true, false, inl}
+use Rattle.chess.proofs.Common.{inr, ap, sym, subst, bit_and, Some, None, IsTrue, and_parts}
+use Rattle.chess.proofs.Common.{and_from, Place, IsOnBoard, index_of, same_square, Reaches}
+use Rattle.chess.proofs.Common.{Placement, IsEmpty, man_at, Places, is_in, no_places, HoldsExactly}
+use Rattle.chess.proofs.Common.{has_bit, HasOnly, IsTakenFirst, false_of, IsBitboardOf, IsMan}
+use Rattle.chess.proofs.Common.{IsRunner, IsAttackedStraight, IsAttackedDiagonal, IsLeft, IsSifted}
+use Rattle.chess.proofs.Common.{IsPseudoAttack, StandsBetween, IsUnblocked, Man, Side, Kind, Rook}
+use Rattle.chess.proofs.Common.{Bishop}
 use Rattle.chess.proofs.PlaceFacts.{true_not_false}
 use Rattle.chess.proofs.FillFacts.{bit_of_both, no_bit}
 use Rattle.chess.proofs.BitFacts.{no_man_or}

@@ -1,15 +1,11 @@
 -- A way as two steps, one of the file and one of the rank, each of them up, down or none: what
 -- holds of each step holds of the way.
-use Rattle.std.proofs.Common.{◌≡◌, ◌⊎◌, ◌≤◌, ◌+◌, ◌-◌, ◌*◌, ◌/◌, ◌%◌, ◌&&◌, ℕ, Bool, true, max}
-use Rattle.std.proofs.Common.{refl, inl, inr, sym, ap, ap₂, ◌∙◌, arith}
-use Rattle.std.specs.Prelude.{ltb}
 use Rattle.std.proofs.Math.Dec.{leb}
 use Rattle.std.proofs.lemmas.Bool.{and_parts, and_from, ltb-true, lt-ltb, leb-true, le-leb}
-use Rattle.chess.specs.Public.Squares.{Place, IsOnBoard, IsStraight, IsAhead, index_of, gap}
-use Rattle.chess.specs.declared.board.direction.Direction.{Direction}
-use Rattle.chess.specs.declared.board.direction.Direction.TheVariants.{North, South, East, West}
-use Rattle.chess.specs.declared.board.direction.Direction.TheVariants.{NorthEast, NorthWest}
-use Rattle.chess.specs.declared.board.direction.Direction.TheVariants.{SouthEast, SouthWest}
+use Rattle.chess.proofs.Common.{◌≡◌, ◌⊎◌, ◌≤◌, ◌+◌, ◌-◌, ◌*◌, ◌/◌, ◌%◌, ◌&&◌, ℕ, Bool, true, max}
+use Rattle.chess.proofs.Common.{refl, inl, inr, sym, ap, ap₂, ◌∙◌, arith, ltb, Place, IsOnBoard}
+use Rattle.chess.proofs.Common.{IsStraight, IsAhead, index_of, gap, Direction, North, South, East}
+use Rattle.chess.proofs.Common.{West, NorthEast, NorthWest, SouthEast, SouthWest}
 use Rattle.chess.proofs.PlaceFacts.{place_of}
 
 -- how a file or a rank goes on along a way

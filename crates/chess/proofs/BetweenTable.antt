@@ -1,20 +1,13 @@
 -- The squares between two squares are those that the table has: by computing.
-use Rattle.std.proofs.Common.{◌≡◌, ◌⊎◌, ◌+◌, ◌-◌, ◌^◌, ◌%◌, ◌/◌, ◌<◌, ◌≤◌, ◌||◌, not, ℕ, zero, suc}
-use Rattle.std.proofs.Common.{Bool, true, false, nat_eq, bit_or, [], get_or, refl, inl, inr, sym}
-use Rattle.std.proofs.Common.{ap, ◌∙◌, subst, arith}
-use Rattle.std.specs.Int.{bit_at}
-use Rattle.std.proofs.lemmas.Bool.{agree_below, agree_below_at, cases_eq, eqb-true, eq-eqb}
-use Rattle.std.proofs.lemmas.Bool.{or_cases, false≢true}
-use Rattle.std.proofs.lemmas.Nat.Bits.{bit_at_or, bit_at-lt, bit_at-pow_same, bit_at-pow_other}
-use Rattle.std.proofs.lemmas.Nat.Bits.{bit_at-zero}
-use Rattle.chess.specs.Public.Squares.{Place, IsOnBoard, IsAhead, square_at, index_of}
-use Rattle.chess.specs.Shared.SetFacts.{square_at-index_of, index_of-below}
-use Rattle.chess.specs.Shared.SetBitboards.{has_bit}
-use Rattle.chess.specs.Private.Bitboards.{IsBitboardOf}
-use Rattle.chess.specs.Private.PseudoAttacks.{StandsBetween}
+use Rattle.chess.proofs.Common.{◌≡◌, ◌⊎◌, ◌+◌, ◌-◌, ◌^◌, ◌%◌, ◌/◌, ◌<◌, ◌≤◌, ◌||◌, not, ℕ, zero}
+use Rattle.chess.proofs.Common.{suc, Bool, true, false, nat_eq, bit_or, [], get_or, refl, inl, inr}
+use Rattle.chess.proofs.Common.{sym, ap, ◌∙◌, subst, arith, bit_at, agree_below, agree_below_at}
+use Rattle.chess.proofs.Common.{cases_eq, eqb-true, eq-eqb, or_cases, false≢true, bit_at_or}
+use Rattle.chess.proofs.Common.{bit_at-lt, bit_at-pow_same, bit_at-pow_other, bit_at-zero, Place}
+use Rattle.chess.proofs.Common.{IsOnBoard, IsAhead, square_at, index_of, square_at-index_of}
+use Rattle.chess.proofs.Common.{index_of-below, has_bit, IsBitboardOf, StandsBetween, Direction}
+use Rattle.chess.proofs.Common.{North}
 use Rattle.chess.specs.declared.board.attack_tables.between_table.TheConstants.{BETWEEN}
-use Rattle.chess.specs.declared.board.direction.Direction.{Direction}
-use Rattle.chess.specs.declared.board.direction.Direction.TheVariants.{North}
 use Rattle.chess.proofs.AxisSteps.{has_room, ahead_at, room_from, room_at, between_ahead}
 use Rattle.chess.proofs.AxisSteps.{ahead_index, seven_steps}
 use Rattle.chess.proofs.PseudoAttackFacts.{any_line, straight, diagonal}

@@ -1,30 +1,20 @@
 -- Twelve words as a board: the man on a square, a man that is put, and the words of a man and of
 -- the empty squares.
-use Rattle.std.proofs.Common.{◌≡◌, ◌↔◌, ◌⊎◌, ◌<◌, ◌≤◌, ◌+◌, ◌-◌, ◌^◌, bit_or, bit_and, w64, length}
-use Rattle.std.proofs.Common.{slice_set, ◌&&◌, ◌||◌, ℕ, zero, suc, Bool, true, false, not, nat_eq}
-use Rattle.std.proofs.Common.{inl, inr, ap, refl, sym, subst, ◌∙◌, arith, if◌then◌else◌, List}
-use Rattle.std.proofs.Common.{Option, Some, None}
-use Rattle.std.proofs.lemmas.Bool.{agree_below, agree_below_at, cases_eq, eqb-true, eq-eqb, ne_eqb}
-use Rattle.std.proofs.lemmas.Bool.{not-true, or_cases, or_left, or_right, cases_Bool}
-use Rattle.std.specs.Int.{bit_at, bit_not}
 use Rattle.std.proofs.lemmas.Nat.Bits.{bit_at-lt, bit_at_not, bit_at-pow_same, bit_at-pow_other}
-use Rattle.std.specs.Prelude.{replicate}
-use Rattle.std.proofs.lemmas.List.{get_or-set_same, get_or-set_other, get_or-replicate, length-set}
-use Rattle.std.proofs.lemmas.Bool.Decides.{nat_tests}
 use Rattle.std.proofs.Math.Bool.{or_comm}
-use Rattle.chess.specs.Public.Squares.{Place, IsOnBoard, index_of}
-use Rattle.chess.specs.Public.Placements.{Placement, no_men, man_at, with_man, IsEmpty}
-use Rattle.chess.specs.Shared.SetBitboards.{has_bit}
-use Rattle.chess.specs.Shared.SetFacts.{index_of-below, false_of}
-use Rattle.chess.specs.Shared.CellFacts.{man_at-men_of, men_of-put, men_of-none}
-use Rattle.chess.specs.Private.Bitboards.{IsBitboardOf, AreApart, man_below, man_in, words_men}
-use Rattle.chess.specs.Private.Bitboards.{bitboard_at, square_bitboard, row_of, man_of_row, is_row}
-use Rattle.chess.specs.Private.Bitboards.{IsCleared, IsBitSet, number_of_side, number_of_kind}
-use Rattle.chess.specs.declared.board.man.Man.{Man}
-use Rattle.chess.specs.declared.board.man.Side.{Side}
-use Rattle.chess.specs.declared.board.man.Kind.{Kind}
-use Rattle.chess.specs.declared.board.man.Side.TheVariants.{White, Black}
-use Rattle.chess.specs.declared.board.man.Kind.TheVariants.{King}
+use Rattle.chess.proofs.Common.{◌≡◌, ◌↔◌, ◌⊎◌, ◌<◌, ◌≤◌, ◌+◌, ◌-◌, ◌^◌, bit_or, bit_and, w64}
+use Rattle.chess.proofs.Common.{length, slice_set, ◌&&◌, ◌||◌, ℕ, zero, suc, Bool, true, false, not}
+use Rattle.chess.proofs.Common.{nat_eq, inl, inr, ap, refl, sym, ◌∙◌, arith, if◌then◌else◌}
+use Rattle.chess.proofs.Common.{List, Option, Some, None, agree_below, agree_below_at, cases_eq}
+use Rattle.chess.proofs.Common.{eqb-true, eq-eqb, ne_eqb, not-true, or_cases, or_left, or_right}
+use Rattle.chess.proofs.Common.{cases_Bool, bit_at, bit_not, replicate, get_or-set_same}
+use Rattle.chess.proofs.Common.{get_or-set_other, get_or-replicate, length-set, nat_tests, Place}
+use Rattle.chess.proofs.Common.{IsOnBoard, index_of, Placement, no_men, man_at, with_man, IsEmpty}
+use Rattle.chess.proofs.Common.{has_bit, index_of-below, false_of, man_at-men_of, men_of-put}
+use Rattle.chess.proofs.Common.{men_of-none, IsBitboardOf, AreApart, man_in, words_men, bitboard_at}
+use Rattle.chess.proofs.Common.{square_bitboard, row_of, man_of_row, IsCleared, IsBitSet}
+use Rattle.chess.proofs.Common.{number_of_side, Man, Side, Kind, White, Black, King}
+use Rattle.chess.specs.Private.Bitboards.{man_below, is_row, number_of_kind}
 use Rattle.chess.proofs.PlaceFacts.{true_not_false}
 use Rattle.chess.proofs.FillFacts.{bit_of_either, bit_of_both, no_bit, common_none, common_some}
 
@@ -115,8 +105,7 @@ bitboard_of_man words man apart s on =
           (index_of-below s on) e ∙ ap Some (man_of_row-row_of man)),
       (λ here.
           let f = found_man words 12 (index_of s) man (sym at ∙ here) in
-          subst (λ r. has_bit (bitboard_at words r) (index_of s)
-          ≡ true) (sym (ap row_of f.3 ∙ row_of-man_of_row f.0 f.1)) f.2),
+          rw (ap row_of f.3 ∙ row_of-man_of_row f.0 f.1) f.2),
     )
 
 -- ---- the empty squares

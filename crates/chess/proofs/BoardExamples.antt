@@ -1,31 +1,19 @@
 -- Worked rows of squares, attacks, positions, moves and sets: what the Laws say of single squares.
-use Rattle.std.proofs.Common.{◌≡◌, ◌≤◌, ◌+◌, ℕ, true, false, inl, inr, ap, refl, sym, subst, ◌∙◌}
-use Rattle.std.proofs.Common.{arith, Some, None}
 use Rattle.std.specs.FinMap.{get-empty}
-use Rattle.chess.specs.Shared.CellFacts.{man_at-same, man_at-other}
-use Rattle.chess.specs.Shared.SetFacts.{is_in-empty}
-use Rattle.chess.specs.Public.Squares.{Place, IsOnBoard, IsStraight, IsAhead, gap, square_at}
-use Rattle.chess.specs.Public.Squares.{index_of, same_square, place_cmp}
-use Rattle.chess.specs.Public.Placements.{Placement, no_men, man_at, with_man, opposite}
-use Rattle.chess.specs.Public.Placements.{IsOccupiedBy, IsEmpty}
-use Rattle.chess.specs.Public.Attacks.{Reaches, IsOnRay, IsForward, IsNear, IsJump, IsPawnAttack}
-use Rattle.chess.specs.Public.Attacks.{IsAttackedFrom, IsAttacked}
-use Rattle.chess.specs.Public.Positions.{State, king_of, pawn_of, home_rank, pawn_rank, passed_rank}
-use Rattle.chess.specs.Public.Positions.{has_right, king_from, king_to, rook_from, rook_to}
-use Rattle.chess.specs.Public.Positions.{FitsEnPassant, IsSound}
-use Rattle.chess.specs.Public.Moves.{IsPromotion, Promotes, IsBetween, one_more}
-use Rattle.chess.specs.Public.Moves.{fullmove_number_after, keeps_right}
-use Rattle.chess.specs.Public.Sets.{Places, no_places, is_in, HoldsExactly}
-use Rattle.chess.specs.Shared.SetBitboards.{IsTakenFirst}
-use Rattle.chess.specs.declared.board.man.Man.{Man}
-use Rattle.chess.specs.declared.board.man.Side.TheVariants.{White, Black}
-use Rattle.chess.specs.declared.board.man.Kind.TheVariants.{Queen, Rook, Bishop, Knight}
-use Rattle.chess.specs.declared.board.man.Wing.TheVariants.{KingSide, QueenSide}
-use Rattle.chess.specs.declared.board.man.CastlingRights.{CastlingRights}
-use Rattle.chess.specs.declared.moves.Move.{Move}
-use Rattle.chess.specs.declared.board.direction.Direction.TheVariants.{North, South, East, West}
-use Rattle.chess.specs.declared.board.direction.Direction.TheVariants.{NorthEast, NorthWest}
-use Rattle.chess.specs.declared.board.direction.Direction.TheVariants.{SouthEast, SouthWest}
+use Rattle.chess.proofs.Common.{◌≡◌, ◌≤◌, ◌+◌, ℕ, true, false, inl, inr, ap, refl, sym, subst, ◌∙◌}
+use Rattle.chess.proofs.Common.{arith, Some, None, man_at-same, man_at-other, is_in-empty, Place}
+use Rattle.chess.proofs.Common.{IsOnBoard, IsStraight, IsAhead, gap, square_at, index_of}
+use Rattle.chess.proofs.Common.{same_square, place_cmp, Placement, no_men, man_at, with_man}
+use Rattle.chess.proofs.Common.{opposite, IsOccupiedBy, IsEmpty, Reaches, IsOnRay, IsForward}
+use Rattle.chess.proofs.Common.{IsNear, IsJump, IsPawnAttack, IsAttacked, State, king_of, pawn_of}
+use Rattle.chess.proofs.Common.{home_rank, pawn_rank, passed_rank, has_right, king_from, king_to}
+use Rattle.chess.proofs.Common.{rook_from, rook_to, FitsEnPassant, IsSound, IsPromotion, Promotes}
+use Rattle.chess.proofs.Common.{IsBetween, keeps_right, Places, no_places, is_in, HoldsExactly}
+use Rattle.chess.proofs.Common.{IsTakenFirst, Man, White, Black, Queen, Rook, Bishop, Knight}
+use Rattle.chess.proofs.Common.{KingSide, QueenSide, CastlingRights, Move, North, South, East, West}
+use Rattle.chess.proofs.Common.{NorthEast, NorthWest, SouthEast, SouthWest}
+use Rattle.chess.specs.Public.Attacks.{IsAttackedFrom}
+use Rattle.chess.specs.Public.Moves.{one_more, fullmove_number_after}
 
 abbrev at : ℕ → ℕ → Place
 at file rank = record { file = file; rank = rank }

@@ -1,12 +1,10 @@
 -- Facts that boards rest on.
-use Rattle.std.proofs.Common.{◌≡◌, ◌↔◌, ◌<◌, ◌≤◌, ◌+◌, ◌&&◌, ◌||◌, ℕ, Bool, true, false, inl, inr}
-use Rattle.std.proofs.Common.{ap, refl, sym, subst, ◌∙◌, arith, IsTrue, Some, None}
-use Rattle.std.proofs.lemmas.Bool.{cases_eq, or_cases, or_left, true≢false}
-use Rattle.chess.specs.Public.Squares.{Place, IsOnBoard, square_at, index_of, same_square}
-use Rattle.chess.specs.Shared.SquareFacts.{index_of-square_at}
-use Rattle.chess.specs.Shared.SetFacts.{square_at-index_of, on_board-square_at, same_squares}
-use Rattle.chess.specs.Shared.SetFacts.{other_squares, is_in-empty}
-use Rattle.chess.specs.Public.Placements.{Placement, man_at}
+use Rattle.chess.proofs.Common.{◌≡◌, ◌↔◌, ◌<◌, ◌≤◌, ◌+◌, ◌&&◌, ◌||◌, ℕ, Bool, true, false, inl, inr}
+use Rattle.chess.proofs.Common.{ap, refl, sym, subst, ◌∙◌, arith, IsTrue, Some, None, cases_eq}
+use Rattle.chess.proofs.Common.{or_cases, or_left, true≢false, Place, IsOnBoard, square_at}
+use Rattle.chess.proofs.Common.{index_of, same_square, index_of-square_at, square_at-index_of}
+use Rattle.chess.proofs.Common.{on_board-square_at, is_in-empty, Placement, man_at}
+use Rattle.chess.specs.Shared.SetFacts.{same_squares, other_squares}
 use Rattle.chess.specs.Public.Sets.{Places, is_in, no_places, IsReachOf}
 use Rattle.chess.proofs.PlaceFacts.{same_square-then}
 

@@ -1,22 +1,13 @@
 -- The men that may make the move that a text says, whether or not their king is then attacked.
-use Rattle.std.proofs.Common.{◌≡◌, ◌⊎◌, ℕ, Bool, true, false, inl, inr, ap, refl, sym, subst, ◌∙◌}
-use Rattle.std.proofs.Common.{Option, Some, None, IfSome, is_some}
-use Rattle.std.proofs.lemmas.Bool.{cases_eq}
-use Rattle.chess.specs.Public.Squares.{Place, IsOnBoard}
-use Rattle.chess.specs.Public.Placements.{man_at, IsOccupiedBy}
-use Rattle.chess.specs.Public.Attacks.{Reaches}
-use Rattle.chess.specs.Public.Positions.{State, IsSound, FitsEnPassant}
-use Rattle.chess.specs.Public.Moves.{IsPawnMove, IsPawnCapture, IsSingleStep, IsDoubleStep}
-use Rattle.chess.specs.Public.Moves.{IsKingMove, Promotes, Goes}
-use Rattle.chess.specs.Private.MoveWords.{IsMover, IsStepper, IsTaker}
-use Rattle.chess.specs.Public.San.{Said, HasRival, kind_said}
-use Rattle.chess.specs.Private.SanWords.{IsMoveSaid, IsAsked, ChangesFile, IsCandidate, CanGoSaid}
-use Rattle.chess.specs.Private.SanWords.{man_said, move_from}
-use Rattle.chess.specs.Public.Sets.{Places, is_in, no_places, HoldsExactly, IsAttacker}
-use Rattle.chess.specs.Shared.SetBitboards.{IsTakenFirst}
-use Rattle.chess.specs.declared.board.man.Kind.{Kind}
-use Rattle.chess.specs.declared.board.man.Kind.TheVariants.{King, Pawn}
-use Rattle.chess.specs.declared.moves.Move.{Move}
+use Rattle.chess.proofs.Common.{◌≡◌, ◌⊎◌, ℕ, Bool, true, false, inl, inr, ap, refl, sym, subst, ◌∙◌}
+use Rattle.chess.proofs.Common.{Option, Some, None, IfSome, is_some, cases_eq, Place, IsOnBoard}
+use Rattle.chess.proofs.Common.{man_at, IsOccupiedBy, Reaches, State, IsSound, FitsEnPassant}
+use Rattle.chess.proofs.Common.{IsPawnMove, IsPawnCapture, IsSingleStep, IsDoubleStep, IsKingMove}
+use Rattle.chess.proofs.Common.{Promotes, Goes, IsMover, IsStepper, IsTaker, Said, HasRival}
+use Rattle.chess.proofs.Common.{kind_said, IsMoveSaid, IsCandidate, CanGoSaid, man_said, move_from}
+use Rattle.chess.proofs.Common.{Places, is_in, no_places, HoldsExactly, IsAttacker, IsTakenFirst}
+use Rattle.chess.proofs.Common.{Kind, King, Pawn, Move}
+use Rattle.chess.specs.Private.SanWords.{IsAsked, ChangesFile}
 use Rattle.chess.proofs.PlaceFacts.{cases_place, true_not_false, same_side, same_kind}
 use Rattle.chess.proofs.PlaceFacts.{some_not_none, not_opposite}
 use Rattle.chess.proofs.LoopFacts.{not_in, still_left}

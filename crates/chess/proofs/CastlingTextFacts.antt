@@ -1,16 +1,11 @@
 -- The texts of castling, with and without marks.
-use Rattle.std.proofs.Common.{◌≡◌, ◌↔◌, ◌⊎◌, ℕ, Bool, true, false, inl, inr, ap, refl, sym, subst}
-use Rattle.std.proofs.Common.{◌∙◌, arith, Some, None, List, [], ◌∷◌, ◌++◌, reverse, length}
 use Rattle.std.specs.Prelude.{if◌then◌else◌}
-use Rattle.std.specs.List.{list_all}
-use Rattle.std.proofs.lemmas.List.{append_assoc, append-nil, reverse-append, reverse-reverse}
-use Rattle.std.proofs.lemmas.Bool.{and_parts, and_from}
-use Rattle.std.proofs.lemmas.Option.{same_Some}
-use Rattle.chess.specs.Public.Letters.{is_check_sign}
-use Rattle.chess.specs.Public.San.{castling_text, castling_with_zeros, IsCastlingText}
+use Rattle.chess.proofs.Common.{◌≡◌, ◌↔◌, ◌⊎◌, ℕ, Bool, true, false, inl, inr, ap, refl, sym, subst}
+use Rattle.chess.proofs.Common.{◌∙◌, arith, Some, None, List, [], ◌∷◌, ◌++◌, reverse, length}
+use Rattle.chess.proofs.Common.{list_all, append_assoc, append-nil, reverse-append, reverse-reverse}
+use Rattle.chess.proofs.Common.{and_parts, and_from, same_Some, is_check_sign, castling_text}
+use Rattle.chess.proofs.Common.{castling_with_zeros, IsCastlingText, Wing, KingSide, QueenSide}
 use Rattle.chess.specs.Private.SanWords.{unmarked, IsCastlingStem}
-use Rattle.chess.specs.declared.board.man.Wing.{Wing}
-use Rattle.chess.specs.declared.board.man.Wing.TheVariants.{KingSide, QueenSide}
 
 all_and_one : (m : List ℕ) (b : ℕ) → list_all is_check_sign m ≡ true → is_check_sign b ≡ true
     → list_all is_check_sign (m ++ b ∷ []) ≡ true

@@ -1,12 +1,7 @@
 -- Whether a move leaves the own king attacked, by the men as they will stand.
-use Rattle.std.proofs.Common.{◌≡◌, ◌↔◌, ◌∙◌, Bool, sym, subst, Some, None, IsTrue}
-use Rattle.chess.specs.Public.Squares.{Place}
-use Rattle.chess.specs.Public.Placements.{Placement, with_man, opposite}
-use Rattle.chess.specs.Public.Attacks.{IsAttacked}
-use Rattle.chess.specs.Public.Positions.{State, IsOnlyKing, IsCheck}
-use Rattle.chess.specs.Public.Moves.{arriving, capture_square, with_rook, men_after}
-use Rattle.chess.specs.declared.board.man.Man.{Man}
-use Rattle.chess.specs.declared.moves.Move.{Move}
+use Rattle.chess.proofs.Common.{◌≡◌, ◌↔◌, ◌∙◌, Bool, sym, subst, Some, None, IsTrue, Place}
+use Rattle.chess.proofs.Common.{Placement, with_man, opposite, IsAttacked, State, IsOnlyKing}
+use Rattle.chess.proofs.Common.{IsCheck, arriving, capture_square, with_rook, men_after, Man, Move}
 use Rattle.chess.proofs.GoesFacts.{IsTried, has_arrived}
 
 -- the men after a move that is no castling
@@ -38,8 +33,5 @@ check_after P m x man t king board r plain same arrives taken_there only attacke
             (subst (λ (p : Placement). IsAttacked p (opposite man.side) king) men (attacked.0 e)),
       )),
       (λ check.
-          attacked.1 (subst (λ (p : Placement). IsAttacked p (opposite man.side) king) (sym men)
-          (subst (λ side. IsAttacked (men_after P m) (opposite side) king) (sym own)
-          (subst (λ (s : Place). IsAttacked (men_after P m) (opposite P.turn) s)
-          (only.only check.0 check.1) check.2)))),
+          attacked.1 (rw men (rw own (rw (← (only.only check.0 check.1)) check.2)))),
     )

@@ -1,10 +1,8 @@
 -- How a number is read digit by digit.
-use Rattle.std.proofs.Common.{◌≡◌, ◌≤◌, ◌<◌, ◌+◌, ◌-◌, ◌*◌, ℕ, zero, suc, true, List, ◌∷◌, length}
-use Rattle.std.proofs.Common.{sym, ap, refl, subst, ◌∙◌, arith}
 use Rattle.std.specs.Prelude.{◌&&◌}
-use Rattle.std.specs.List.{list_all}
-use Rattle.chess.specs.Public.Fen.{is_digit}
-use Rattle.chess.specs.Shared.Tens.{ten_to, IsCounted}
+use Rattle.chess.proofs.Common.{◌≡◌, ◌≤◌, ◌<◌, ◌+◌, ◌-◌, ◌*◌, ℕ, zero, suc, true, List, ◌∷◌, length}
+use Rattle.chess.proofs.Common.{sym, ap, refl, subst, ◌∙◌, arith, list_all, is_digit, IsCounted}
+use Rattle.chess.specs.Shared.Tens.{ten_to}
 
 ten_positive : (k : ℕ) → 0 < ten_to k
 ten_positive zero = omega arith

@@ -1,20 +1,10 @@
 -- What the definitions say of squares and texts that every player can check.
-use Rattle.std.proofs.Common.{◌≡◌, ℕ, ◌≤◌, true, false, [], ◌∷◌, Some, None, inl, inr, refl, sym}
-use Rattle.std.proofs.Common.{◌∙◌, arith, codes}
-use Rattle.chess.specs.Public.Squares.{IsAhead}
-use Rattle.chess.specs.Public.Placements.{Placement, man_at}
-use Rattle.chess.specs.Public.Attacks.{Reaches, IsOnRay}
-use Rattle.chess.specs.Public.Positions.{State, king_from, king_to, rook_from, rook_to, IsCheck}
-use Rattle.chess.specs.Public.Moves.{HasMove, IsStalemate}
-use Rattle.chess.specs.Public.San.{Spells, IsCheckSign}
-use Rattle.chess.specs.Public.San.IsCheckSign.{mate, check, quiet}
-use Rattle.chess.specs.Public.Fen.{fields_of, parted_at, is_shortest, number_from}
-use Rattle.chess.specs.declared.board.man.Man.{Man}
-use Rattle.chess.specs.declared.board.man.Side.TheVariants.{White, Black}
-use Rattle.chess.specs.declared.board.man.Kind.TheVariants.{King, Queen, Rook, Knight, Pawn}
-use Rattle.chess.specs.declared.board.man.Wing.TheVariants.{KingSide, QueenSide}
-use Rattle.chess.specs.declared.board.direction.Direction.{Direction}
-use Rattle.chess.specs.declared.board.direction.Direction.TheVariants.{North}
+use Rattle.chess.proofs.Common.{◌≡◌, ℕ, ◌≤◌, true, false, [], ◌∷◌, Some, None, inl, inr, refl, sym}
+use Rattle.chess.proofs.Common.{◌∙◌, arith, codes, IsAhead, Placement, man_at, Reaches, IsOnRay}
+use Rattle.chess.proofs.Common.{State, king_from, king_to, rook_from, rook_to, IsCheck, HasMove}
+use Rattle.chess.proofs.Common.{IsStalemate, Spells, IsCheckSign, mate, check, quiet, fields_of}
+use Rattle.chess.proofs.Common.{parted_at, is_shortest, number_from, Man, White, Black, King, Queen}
+use Rattle.chess.proofs.Common.{Rook, Knight, Pawn, KingSide, QueenSide, Direction, North}
 use Rattle.chess.proofs.AxisSteps.{even_gaps}
 
 -- no way leads from h4 to a5, so no rook or bishop reaches it

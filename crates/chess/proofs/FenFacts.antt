@@ -1,18 +1,11 @@
 -- What is right and what is wrong with a position that a text spells.
-use Rattle.std.proofs.Common.{◌≡◌, ◌↔◌, ℕ, List, Bool, true, false, inl, inr, sym, refl, subst, ◌∙◌}
-use Rattle.std.proofs.Common.{Option, Some, None, IfSome, IsTrue, is_some}
 use Rattle.std.proofs.lemmas.Bool.{both_ways}
-use Rattle.chess.specs.Public.Squares.{Place}
-use Rattle.chess.specs.Public.Placements.{Placement, AreOnBoard, opposite}
-use Rattle.chess.specs.Public.Attacks.{IsAttacked}
-use Rattle.chess.specs.Public.Positions.{State, king_of, IsOnlyKing, FitsEnPassant}
-use Rattle.chess.specs.Shared.Codes.{IsKept}
-use Rattle.chess.specs.Public.Fen.{SpellsPosition, HasWrongKings, HasWrongPawns, HasWrongCheck}
-use Rattle.chess.specs.Private.FenWords.{IsEdgePawn}
-use Rattle.chess.specs.Public.Sets.{Places, is_in, IsSquaresOf}
-use Rattle.chess.specs.Shared.SetBitboards.{IsTakenFirst}
-use Rattle.chess.specs.declared.board.man.Side.{Side}
-use Rattle.chess.specs.declared.board.man.Side.TheVariants.{White, Black}
+use Rattle.chess.proofs.Common.{◌≡◌, ◌↔◌, ℕ, List, Bool, true, false, inl, inr, sym, refl, subst}
+use Rattle.chess.proofs.Common.{◌∙◌, Option, Some, None, IfSome, IsTrue, is_some, Place, Placement}
+use Rattle.chess.proofs.Common.{AreOnBoard, opposite, IsAttacked, State, king_of, IsOnlyKing}
+use Rattle.chess.proofs.Common.{FitsEnPassant, IsKept, SpellsPosition, HasWrongKings, HasWrongPawns}
+use Rattle.chess.proofs.Common.{HasWrongCheck, IsEdgePawn, Places, is_in, IsSquaresOf, IsTakenFirst}
+use Rattle.chess.proofs.Common.{Side, White, Black}
 use Rattle.chess.proofs.PlaceFacts.{cases_place, opposite-opposite, true_not_false}
 use Rattle.chess.proofs.LoopFacts.{not_in, still_left, taken_none}
 
@@ -42,14 +35,12 @@ right_pawns P b test none wrong = both_ways b none (test.1 (wrong.1, ((wrong.0, 
 pub enemy_white : (P : State) (white black king : Place) → HasKings P white black → P.turn ≡ White
     → king ≡ black → IsOnlyKing P.men (opposite P.turn) king
 enemy_white P white black king kings turn e =
-    subst (λ side. IsOnlyKing P.men (opposite side) king) (sym turn)
-    (subst (λ (s : Place). IsOnlyKing P.men Black s) (sym e) kings.black_only)
+    rw turn (subst (λ (s : Place). IsOnlyKing P.men Black s) (sym e) kings.black_only)
 
 pub enemy_black : (P : State) (white black king : Place) → HasKings P white black → P.turn ≡ Black
     → king ≡ white → IsOnlyKing P.men (opposite P.turn) king
 enemy_black P white black king kings turn e =
-    subst (λ side. IsOnlyKing P.men (opposite side) king) (sym turn)
-    (subst (λ (s : Place). IsOnlyKing P.men White s) (sym e) kings.white_only)
+    rw turn (subst (λ (s : Place). IsOnlyKing P.men White s) (sym e) kings.white_only)
 
 pub wrong_check : (P : State) (king : Place) (b : Bool) → IsOnlyKing P.men (opposite P.turn) king
     → IsTrue b ↔ IsAttacked P.men P.turn king → b ≡ true
@@ -57,8 +48,7 @@ pub wrong_check : (P : State) (king : Place) (b : Bool) → IsOnlyKing P.men (op
 wrong_check P king b only test attacked = (
   king,
   only.here,
-  subst (λ side. IsAttacked P.men side king) (sym (opposite-opposite P.turn))
-      (test.0 attacked),
+  rw (opposite-opposite P.turn) (test.0 attacked),
 )
 
 pub right_check : (P : State) (king : Place) (b : Bool) → IsOnlyKing P.men (opposite P.turn) king

@@ -1,27 +1,17 @@
 -- A text spells one position at most.
-use Rattle.std.proofs.Common.{◌≡◌, ◌⊎◌, ◌↔◌, ◌≤◌, ◌+◌, ◌-◌, ℕ, zero, suc, Bool, true, false, List}
-use Rattle.std.proofs.Common.{[], ◌∷◌, ◌++◌, length, Option, Some, None, inl, inr, sym, ap, refl}
-use Rattle.std.proofs.Common.{subst, ◌∙◌, arith}
-use Rattle.std.specs.Prelude.{codes, replicate}
-use Rattle.std.proofs.lemmas.Bool.{cases_lt}
-use Rattle.chess.specs.Public.Squares.{Place, IsOnBoard}
-use Rattle.chess.specs.Public.Placements.{Placement, man_at}
-use Rattle.chess.specs.Shared.CellFacts.{same_men}
-use Rattle.chess.specs.Public.Letters.{man_letter, square_text, file_letter, rank_digit}
-use Rattle.chess.specs.Public.Positions.{State, has_right, FitsEnPassant}
-use Rattle.chess.specs.Public.Fen.{IsSquares, SpellsRank, row, SpellRanks, SpellsMen, parted_at}
-use Rattle.chess.specs.Public.Fen.{side_text, right_letter, has_byte, GivesEnPassant, IsCount}
-use Rattle.chess.specs.Public.Fen.{GiveCounts, AreAtHome, SpellsPosition, ReadsFen, IsRefused}
-use Rattle.chess.specs.Public.Fen.{HasWrongKings, HasWrongPawns, HasWrongCheck}
+use Rattle.std.specs.Prelude.{codes}
+use Rattle.chess.proofs.Common.{◌≡◌, ◌⊎◌, ◌↔◌, ◌≤◌, ◌+◌, ◌-◌, ℕ, zero, suc, Bool, true, false, List}
+use Rattle.chess.proofs.Common.{[], ◌∷◌, ◌++◌, length, Option, Some, None, inl, inr, sym, ap, refl}
+use Rattle.chess.proofs.Common.{subst, ◌∙◌, arith, replicate, cases_lt, Place, IsOnBoard, Placement}
+use Rattle.chess.proofs.Common.{man_at, same_men, man_letter, square_text, file_letter, rank_digit}
+use Rattle.chess.proofs.Common.{State, has_right, FitsEnPassant, IsSquares, SpellsRank, row}
+use Rattle.chess.proofs.Common.{SpellRanks, SpellsMen, parted_at, side_text, right_letter, has_byte}
+use Rattle.chess.proofs.Common.{GivesEnPassant, IsCount, GiveCounts, AreAtHome, SpellsPosition}
+use Rattle.chess.proofs.Common.{ReadsFen, HasWrongKings, HasWrongPawns, HasWrongCheck, Syntax}
+use Rattle.chess.proofs.Common.{Kings, Pawns, InCheck, letter, step, Man, Side, White, Black, Wing}
+use Rattle.chess.proofs.Common.{KingSide, QueenSide, CastlingRights}
+use Rattle.chess.specs.Public.Fen.{IsRefused}
 use Rattle.chess.specs.declared.fen.FenError.{FenError}
-use Rattle.chess.specs.declared.fen.FenError.TheVariants.{Syntax, Kings, Pawns, InCheck}
-use Rattle.chess.specs.Public.Fen.IsSquares.{letter, step}
-use Rattle.chess.specs.declared.board.man.Man.{Man}
-use Rattle.chess.specs.declared.board.man.Side.{Side}
-use Rattle.chess.specs.declared.board.man.Side.TheVariants.{White, Black}
-use Rattle.chess.specs.declared.board.man.Wing.{Wing}
-use Rattle.chess.specs.declared.board.man.Wing.TheVariants.{KingSide, QueenSide}
-use Rattle.chess.specs.declared.board.man.CastlingRights.{CastlingRights}
 use Rattle.chess.proofs.RankFacts.{step_only, letter_only}
 
 -- ---- ranks and men

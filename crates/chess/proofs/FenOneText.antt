@@ -1,19 +1,12 @@
 -- A position has one text in FEN: its ranks can be written in one shortest way only.
-use Rattle.std.proofs.Common.{◌≡◌, ◌≤◌, ◌+◌, ◌-◌, ℕ, zero, suc, Bool, true, not, ap, refl, sym}
-use Rattle.std.proofs.Common.{subst, ◌∙◌, arith, Option, Some, None, List, [], ◌∷◌, ◌++◌}
 use Rattle.std.specs.Prelude.{replicate, ◌&&◌, decimal}
-use Rattle.std.specs.List.{list_all}
-use Rattle.std.proofs.lemmas.Bool.Decides.{nat_tests}
-use Rattle.std.proofs.lemmas.Bool.{and_parts, and_from}
-use Rattle.chess.specs.Public.Placements.{Placement}
-use Rattle.chess.specs.Public.Positions.{State}
-use Rattle.chess.specs.Public.Letters.{man_letter}
-use Rattle.chess.specs.Public.Fen.{IsSquares, SpellsRank, SpellRanks, IsFen, is_shortest, is_step}
-use Rattle.chess.specs.Public.Fen.{joined, row, side_text, or_dash, rights_letters, en_passant_text}
-use Rattle.chess.specs.Public.Fen.IsSquares.{letter, step}
-use Rattle.chess.specs.Private.FenTextWords.{spelled_from, rank_texts}
+use Rattle.chess.proofs.Common.{◌≡◌, ◌≤◌, ◌+◌, ◌-◌, ℕ, zero, suc, Bool, true, not, ap, refl, sym}
+use Rattle.chess.proofs.Common.{subst, ◌∙◌, arith, Option, Some, None, List, [], ◌∷◌, ◌++◌}
+use Rattle.chess.proofs.Common.{list_all, nat_tests, and_parts, and_from, Placement, State}
+use Rattle.chess.proofs.Common.{man_letter, IsSquares, SpellsRank, SpellRanks, IsFen, is_shortest}
+use Rattle.chess.proofs.Common.{is_step, joined, row, side_text, or_dash, rights_letters}
+use Rattle.chess.proofs.Common.{en_passant_text, letter, step, spelled_from, rank_texts, Man}
 use Rattle.chess.proofs.FenTextFacts.{spell_ranks, shortest_ranks}
-use Rattle.chess.specs.declared.board.man.Man.{Man}
 use Rattle.chess.proofs.PlaceFacts.{true_not}
 
 -- a run of empty squares after others is a longer run

@@ -1,28 +1,19 @@
 -- The text of a sound position is read back: its fields are found again, and each gives what was
 -- written.
-use Rattle.std.proofs.Common.{◌≡◌, ◌≢◌, ◌≤◌, ◌<◌, ◌+◌, ◌-◌, ◌*◌, ◌/◌, ◌%◌, ◌||◌, ◌&&◌, ℕ, Bool}
-use Rattle.std.proofs.Common.{true, false, not, inl, inr, ap, refl, sym, subst, ◌∙◌, arith, Option}
-use Rattle.std.proofs.Common.{Some, None, IfSome, List, [], ◌∷◌, ◌++◌, length}
-use Rattle.std.specs.Prelude.{◌==◌, if◌then◌else◌, codes, decimal}
-use Rattle.std.specs.List.{list_all}
-use Rattle.std.proofs.lemmas.Bool.Decides.{nat_tests}
+use Rattle.std.specs.Prelude.{if◌then◌else◌, codes}
 use Rattle.std.proofs.lemmas.Fmt.{decimal_by_steps, length-decimal-le, decimal_nonempty}
-use Rattle.std.proofs.lemmas.Bool.{and_parts, not-true, or_from, eq-eqb, and_from}
-use Rattle.chess.specs.Public.Squares.{Place}
-use Rattle.chess.specs.Public.Placements.{Placement}
-use Rattle.chess.specs.Public.Positions.{State, has_right, FitsEnPassant, IsSound}
-use Rattle.chess.specs.Public.Fen.{before_first, parted_at, without_empty, fields_of, IsSquares}
-use Rattle.chess.specs.Public.Fen.{SpellsRank, SpellRanks, row, side_text, right_letter, has_byte}
-use Rattle.chess.specs.Public.Fen.{is_distinct, is_right_letter, GivesRights, GivesEnPassant}
-use Rattle.chess.specs.Public.Fen.{number_from, is_digit, IsCount, SpellsPosition, ReadsFen, joined}
-use Rattle.chess.specs.Public.Fen.{rights_letters, or_dash, en_passant_text, IsFen}
-use Rattle.chess.specs.Public.Fen.IsSquares.{letter, step}
-use Rattle.chess.specs.declared.board.man.Man.{Man}
-use Rattle.chess.specs.declared.board.man.Side.{Side}
-use Rattle.chess.specs.declared.board.man.Side.TheVariants.{White, Black}
-use Rattle.chess.specs.declared.board.man.Wing.{Wing}
-use Rattle.chess.specs.declared.board.man.Wing.TheVariants.{KingSide, QueenSide}
-use Rattle.chess.specs.declared.board.man.CastlingRights.{CastlingRights}
+use Rattle.std.proofs.lemmas.Bool.{or_from}
+use Rattle.chess.proofs.Common.{◌≡◌, ◌≢◌, ◌≤◌, ◌<◌, ◌+◌, ◌-◌, ◌*◌, ◌/◌, ◌%◌, ◌||◌, ◌&&◌, ℕ, Bool}
+use Rattle.chess.proofs.Common.{true, false, not, inl, inr, ap, refl, sym, subst, ◌∙◌, arith}
+use Rattle.chess.proofs.Common.{Option, Some, None, IfSome, List, [], ◌∷◌, ◌++◌, length, ◌==◌}
+use Rattle.chess.proofs.Common.{decimal, list_all, nat_tests, and_parts, not-true, eq-eqb, and_from}
+use Rattle.chess.proofs.Common.{Place, Placement, State, has_right, FitsEnPassant, IsSound}
+use Rattle.chess.proofs.Common.{before_first, parted_at, without_empty, fields_of, IsSquares}
+use Rattle.chess.proofs.Common.{SpellsRank, SpellRanks, row, side_text, right_letter, has_byte}
+use Rattle.chess.proofs.Common.{is_distinct, is_right_letter, GivesRights, GivesEnPassant}
+use Rattle.chess.proofs.Common.{number_from, is_digit, IsCount, SpellsPosition, ReadsFen, joined}
+use Rattle.chess.proofs.Common.{rights_letters, or_dash, en_passant_text, IsFen, letter, step, Man}
+use Rattle.chess.proofs.Common.{Side, White, Black, Wing, KingSide, QueenSide, CastlingRights}
 use Rattle.chess.proofs.LetterFacts.{letter_high}
 use Rattle.chess.proofs.SoundRead.{sound_read}
 

@@ -1,28 +1,16 @@
 -- A text in FEN is read, or refused.
-use Rattle.std.proofs.Common.{◌≡◌, ◌≢◌, ◌⊎◌, ◌↔◌, ◌+◌, ◌<◌, List, [], ◌∷◌, refl, sym, ◌∙◌, inl, inr}
-use Rattle.std.proofs.Common.{ℕ, Bool, true, false, Option, Some, None, length, codes, subst, arith}
-use Rattle.std.specs.List.{list_all}
-use Rattle.std.proofs.lemmas.Bool.{cases_eq}
-use Rattle.std.proofs.lemmas.Option.{same_Some}
-use Rattle.chess.specs.Public.Squares.{Place, IsOnBoard}
-use Rattle.chess.specs.Public.Placements.{Placement, man_at, AreOnBoard, opposite, IsEmpty}
-use Rattle.chess.specs.Shared.CellFacts.{on_board_or_not}
-use Rattle.chess.specs.Public.Attacks.{IsForward}
-use Rattle.chess.specs.Public.Positions.{State, king_of, pawn_of, rook_of, has_right, king_from}
-use Rattle.chess.specs.Public.Positions.{rook_from, passed_rank, IsOnlyKing, FitsEnPassant}
-use Rattle.chess.specs.Public.Letters.{square_text}
+use Rattle.chess.proofs.Common.{◌≡◌, ◌≢◌, ◌⊎◌, ◌↔◌, ◌+◌, ◌<◌, List, [], ◌∷◌, refl, sym, ◌∙◌, inl}
+use Rattle.chess.proofs.Common.{inr, ℕ, Bool, true, false, Option, Some, None, length, codes, subst}
+use Rattle.chess.proofs.Common.{arith, list_all, cases_eq, same_Some, Place, IsOnBoard, Placement}
+use Rattle.chess.proofs.Common.{man_at, AreOnBoard, opposite, IsEmpty, on_board_or_not, IsForward}
+use Rattle.chess.proofs.Common.{State, king_of, pawn_of, rook_of, has_right, king_from, rook_from}
+use Rattle.chess.proofs.Common.{passed_rank, IsOnlyKing, FitsEnPassant, square_text, fields_of}
+use Rattle.chess.proofs.Common.{SpellsMen, side_text, right_letter, has_byte, is_distinct}
+use Rattle.chess.proofs.Common.{is_right_letter, GivesRights, GivesEnPassant, is_digit, number_from}
+use Rattle.chess.proofs.Common.{IsCount, GiveCounts, AreAtHome, SpellsPosition, HasWrongKings}
+use Rattle.chess.proofs.Common.{HasWrongPawns, Syntax, Kings, Pawns, InCheck, CastlingRights, Man}
+use Rattle.chess.proofs.Common.{Side, White, Black, Wing, KingSide, QueenSide}
 use Rattle.chess.specs.Public.Laws.{EachTextIsReadOrRefused}
-use Rattle.chess.specs.Public.Fen.{fields_of, SpellsMen, side_text, right_letter, has_byte}
-use Rattle.chess.specs.Public.Fen.{is_distinct, is_right_letter, GivesRights, GivesEnPassant}
-use Rattle.chess.specs.Public.Fen.{is_digit, number_from, IsCount, GiveCounts, AreAtHome}
-use Rattle.chess.specs.Public.Fen.{SpellsPosition, HasWrongKings, HasWrongPawns}
-use Rattle.chess.specs.declared.fen.FenError.TheVariants.{Syntax, Kings, Pawns, InCheck}
-use Rattle.chess.specs.declared.board.man.CastlingRights.{CastlingRights}
-use Rattle.chess.specs.declared.board.man.Man.{Man}
-use Rattle.chess.specs.declared.board.man.Side.{Side}
-use Rattle.chess.specs.declared.board.man.Side.TheVariants.{White, Black}
-use Rattle.chess.specs.declared.board.man.Wing.{Wing}
-use Rattle.chess.specs.declared.board.man.Wing.TheVariants.{KingSide, QueenSide}
 use Rattle.chess.proofs.PlaceFacts.{cases_place}
 use Rattle.chess.proofs.Settled.{Settled, settled_like, settled_not, settled_both, settled_three}
 use Rattle.chess.proofs.Settled.{settled_either, settled_le, settled_true, settled_below}

@@ -1,26 +1,17 @@
 -- Facts about the text of a position: what is written spells the ranks, and is as short as can be.
-use Rattle.std.proofs.Common.{◌≡◌, ◌<◌, ◌≤◌, ◌+◌, ◌-◌, ◌/◌, ◌%◌, decimal, ℕ, zero, suc, Bool, true}
-use Rattle.std.proofs.Common.{false, not, ap, refl, sym, subst, ◌∙◌, arith, Option, Some, None}
-use Rattle.std.proofs.Common.{IsTrue, List, [], ◌∷◌, ◌++◌, length, append_assoc, length-append}
-use Rattle.std.specs.Prelude.{replicate, ◌&&◌}
-use Rattle.std.specs.List.{list_all}
-use Rattle.std.proofs.lemmas.List.{replicate_more, append-nil}
-use Rattle.std.proofs.lemmas.Fmt.{decimal_digit}
+use Rattle.std.proofs.Common.{decimal, append_assoc}
+use Rattle.std.specs.Prelude.{◌&&◌}
+use Rattle.std.proofs.lemmas.List.{replicate_more}
 use Rattle.itoa.proofs.Decimal.{decimal_two}
-use Rattle.chess.specs.Public.Squares.{Place}
-use Rattle.chess.specs.Public.Placements.{Placement, man_at}
-use Rattle.chess.specs.Public.Letters.{man_letter}
-use Rattle.chess.specs.Public.Fen.{SpellsRank, SpellRanks, is_shortest, is_step, joined, row}
-use Rattle.chess.specs.Public.Fen.IsSquares.{letter, step}
-use Rattle.chess.specs.Private.FenTextWords.{digit_of, spelled_from, squares_from, rank_text}
-use Rattle.chess.specs.Private.FenTextWords.{rank_texts, each_after, letter_on}
+use Rattle.chess.proofs.Common.{◌≡◌, ◌<◌, ◌≤◌, ◌+◌, ◌-◌, ◌/◌, ◌%◌, ℕ, zero, suc, Bool, true, false}
+use Rattle.chess.proofs.Common.{not, ap, refl, sym, subst, ◌∙◌, arith, Option, Some, None, IsTrue}
+use Rattle.chess.proofs.Common.{List, [], ◌∷◌, ◌++◌, length, length-append, replicate, list_all}
+use Rattle.chess.proofs.Common.{append-nil, decimal_digit, Place, Placement, man_at, man_letter}
+use Rattle.chess.proofs.Common.{SpellsRank, SpellRanks, is_shortest, is_step, joined, row, letter}
+use Rattle.chess.proofs.Common.{step, spelled_from, squares_from, rank_texts, each_after, letter_on}
+use Rattle.chess.proofs.Common.{Man, Side, White, Black, Kind, King, and_false}
+use Rattle.chess.specs.Private.FenTextWords.{digit_of, rank_text}
 use Rattle.chess.proofs.MarkFacts.{no_man_there}
-use Rattle.chess.specs.declared.board.man.Man.{Man}
-use Rattle.chess.specs.declared.board.man.Side.{Side}
-use Rattle.chess.specs.declared.board.man.Side.TheVariants.{White, Black}
-use Rattle.chess.specs.declared.board.man.Kind.{Kind}
-use Rattle.chess.specs.declared.board.man.Kind.TheVariants.{King}
-use Rattle.chess.specs.Shared.SetFacts.{and_false}
 
 -- ---- lengths
 
@@ -55,11 +46,9 @@ spells_run (suc n) h x squares rest =
 pub spells : (squares : List (Option Man)) (n : ℕ) → n + length squares ≤ 8
     → SpellsRank (spelled_from n squares) (replicate n None ++ squares)
 spells [] n h =
-    subst (λ x. SpellsRank x (replicate n None ++ [])) (append-nil (digit_of n))
-    (spells_run n (omega arith) [] [] refl)
+    rw (← (append-nil (digit_of n))) (spells_run n (omega arith) [] [] refl)
 spells (None ∷ squares) n h =
-    subst (λ q. SpellsRank (spelled_from (n + 1) squares) q) (run_and_more n squares)
-    (spells squares (n + 1) (omega arith))
+    rw (← (run_and_more n squares)) (spells squares (n + 1) (omega arith))
 spells (Some man ∷ squares) n h =
     spells_run n (omega arith) (man_letter man ∷ spelled_from 0 squares) (Some man ∷ squares)
     (Some man ∷ [], squares, refl, letter man, spells squares 0 (omega arith))

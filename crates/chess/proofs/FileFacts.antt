@@ -1,12 +1,9 @@
 -- Words of all squares, of the squares of a file or a rank, and of those that two sets have.
-use Rattle.std.proofs.Common.{◌≡◌, ◌⊎◌, ◌<◌, ◌≤◌, ◌-◌, ◌*◌, ◌^◌, ◌/◌, ◌%◌, ℕ, true, nat_eq, bit_and}
-use Rattle.std.proofs.Common.{inl, inr, refl, sym, ◌∙◌, arith}
-use Rattle.std.proofs.lemmas.Bool.{agree_below, agree_below_at, and_parts, and_from, eqb-true}
-use Rattle.std.proofs.lemmas.Bool.{eq-eqb}
-use Rattle.chess.specs.Public.Squares.{Place, IsOnBoard, index_of}
-use Rattle.chess.specs.Public.Sets.{Places, is_in, HoldsExactly}
-use Rattle.chess.specs.Shared.SetBitboards.{has_bit}
-use Rattle.chess.specs.Shared.SetFacts.{index_of-below}
+use Rattle.chess.proofs.Common.{◌≡◌, ◌⊎◌, ◌<◌, ◌≤◌, ◌-◌, ◌*◌, ◌^◌, ◌/◌, ◌%◌, ℕ, true, nat_eq}
+use Rattle.chess.proofs.Common.{bit_and, inl, inr, refl, sym, ◌∙◌, arith, agree_below}
+use Rattle.chess.proofs.Common.{agree_below_at, and_parts, and_from, eqb-true, eq-eqb, Place}
+use Rattle.chess.proofs.Common.{IsOnBoard, index_of, Places, is_in, HoldsExactly, has_bit}
+use Rattle.chess.proofs.Common.{index_of-below}
 use Rattle.chess.proofs.PlaceFacts.{true_not_false}
 use Rattle.chess.proofs.FillFacts.{bit_of_both, no_bit}
 use Rattle.chess.proofs.AxisSteps.{IsFileOrRank, file_within, rank_within, file_of, rank_of}

@@ -1,25 +1,17 @@
 -- Rays filled square by square, from one square and along one way.
-use Rattle.std.proofs.Common.{◌≡◌, ◌⊎◌, ◌<◌, ◌≤◌, ◌+◌, ◌*◌, ◌^◌, ◌&&◌, ◌||◌, bit_and, bit_or, ℕ}
-use Rattle.std.proofs.Common.{true, false, nat_eq, inl, inr, ap, sym, subst, ◌∙◌, arith, min, max}
 use Rattle.std.proofs.Common.{pow_pos}
-use Rattle.std.specs.Int.{bit_at}
 use Rattle.std.proofs.lemmas.Nat.{and_mask}
-use Rattle.std.proofs.lemmas.Bool.{cases_eq, cases_lt, eqb-true, eq-eqb, or_cases, or_left}
-use Rattle.std.proofs.lemmas.Bool.{or_right, true_from_ne_false}
-use Rattle.std.proofs.lemmas.Bool.Decides.{nat_tests}
 use Rattle.std.proofs.lemmas.Nat.Bits.{bit_at-zero, bit_at-lt, bit_at_or, bit_at_and}
 use Rattle.std.proofs.lemmas.Nat.Bits.{bit_at-pow_same, bit_at-pow_other, and_pow}
-use Rattle.chess.specs.Public.Squares.{Place, IsOnBoard, IsStraight, IsAhead, index_of, square_at}
-use Rattle.chess.specs.Shared.SetFacts.{square_at-index_of}
-use Rattle.chess.specs.Public.Placements.{Placement, IsEmpty}
-use Rattle.chess.specs.Public.Attacks.{IsOnRay, IsClearFor}
-use Rattle.chess.specs.Shared.SetBitboards.{has_bit}
-use Rattle.chess.specs.Private.Bitboards.{IsBitboardOf, IsNextBitboard, IsStraightRun}
-use Rattle.chess.specs.Private.Bitboards.{IsDiagonalRun, square_bitboard}
-use Rattle.chess.specs.declared.board.direction.Direction.{Direction}
-use Rattle.chess.specs.declared.board.direction.Direction.TheVariants.{North, South, East, West}
-use Rattle.chess.specs.declared.board.direction.Direction.TheVariants.{NorthEast, NorthWest}
-use Rattle.chess.specs.declared.board.direction.Direction.TheVariants.{SouthEast, SouthWest}
+use Rattle.chess.proofs.Common.{◌≡◌, ◌⊎◌, ◌<◌, ◌≤◌, ◌+◌, ◌*◌, ◌^◌, ◌&&◌, ◌||◌, bit_and, bit_or, ℕ}
+use Rattle.chess.proofs.Common.{true, false, nat_eq, inl, inr, ap, sym, subst, ◌∙◌, arith, min, max}
+use Rattle.chess.proofs.Common.{bit_at, cases_eq, cases_lt, eqb-true, eq-eqb, or_cases, or_left}
+use Rattle.chess.proofs.Common.{or_right, true_from_ne_false, nat_tests, Place, IsOnBoard}
+use Rattle.chess.proofs.Common.{IsStraight, IsAhead, index_of, square_at, square_at-index_of}
+use Rattle.chess.proofs.Common.{Placement, IsEmpty, IsOnRay, IsClearFor, has_bit, IsBitboardOf}
+use Rattle.chess.proofs.Common.{IsNextBitboard, square_bitboard, Direction, North, South, East}
+use Rattle.chess.proofs.Common.{West, NorthEast, NorthWest, SouthEast, SouthWest}
+use Rattle.chess.specs.Private.Bitboards.{IsStraightRun, IsDiagonalRun}
 use Rattle.chess.proofs.AxisSteps.{one_ahead, itself, ahead_more, ahead_rest, between_ahead}
 use Rattle.chess.proofs.AxisSteps.{seven_steps, straight_or_not}
 

@@ -1,17 +1,9 @@
 -- What follows from how a man goes.
-use Rattle.std.proofs.Common.{◌≡◌, ◌⊎◌, inl, inr, ap, refl, sym, subst, ◌∙◌, arith, Option, Some}
-use Rattle.std.proofs.Common.{None}
-use Rattle.chess.specs.Public.Placements.{man_at, opposite, IsEmpty}
-use Rattle.chess.specs.Public.Attacks.{Reaches, IsAttacked}
-use Rattle.chess.specs.Public.Positions.{State, king_of, IsSound}
-use Rattle.chess.specs.Public.Moves.{Goes, IsPseudoLegal, IsPromotion, Castles, IsKingMove}
-use Rattle.chess.specs.Public.Moves.{arriving}
-use Rattle.chess.specs.declared.board.man.Man.{Man}
-use Rattle.chess.specs.declared.board.man.Kind.{Kind}
-use Rattle.chess.specs.declared.board.man.Kind.TheVariants.{King, Pawn}
-use Rattle.chess.specs.declared.board.man.Wing.{Wing}
-use Rattle.chess.specs.declared.board.man.Wing.TheVariants.{KingSide, QueenSide}
-use Rattle.chess.specs.declared.moves.Move.{Move}
+use Rattle.chess.proofs.Common.{◌≡◌, ◌⊎◌, inl, inr, ap, refl, sym, subst, ◌∙◌, arith, Option, Some}
+use Rattle.chess.proofs.Common.{None, man_at, opposite, IsEmpty, Reaches, IsAttacked, State}
+use Rattle.chess.proofs.Common.{king_of, IsSound, Goes, IsPseudoLegal, IsPromotion, Castles}
+use Rattle.chess.proofs.Common.{IsKingMove, arriving, Man, Kind, King, Pawn, Wing, KingSide}
+use Rattle.chess.proofs.Common.{QueenSide, Move}
 use Rattle.chess.proofs.PlaceFacts.{opposite-opposite, some_not_none, same_side, same_kind}
 
 -- a pseudo-legal move in a sound position

@@ -1,34 +1,22 @@
 -- Worked rows of how men go, of the first position and of the letters of texts; and what these
 -- definitions refuse.
-use Rattle.std.proofs.Common.{◌≡◌, ◌≤◌, ◌+◌, ◌∙◌, ◌==◌, ◌&&◌, not, ℕ, zero, suc, Bool, true, false}
-use Rattle.std.proofs.Common.{List, [], ◌∷◌, codes, Option, None, Some, inl, inr, ap, refl, sym}
-use Rattle.std.proofs.Common.{arith}
+use Rattle.std.proofs.Common.{◌==◌}
 use Rattle.std.specs.List.{filter}
 use Rattle.std.specs.declared.cmp.Ordering.TheVariants.{Less, Equal, Greater}
-use Rattle.chess.specs.Public.Attacks.{IsForward}
-use Rattle.chess.specs.Public.Fen.{before_first, without_empty, is_right_letter}
-use Rattle.chess.specs.Public.Letters.{file_letter, rank_digit}
+use Rattle.chess.proofs.Common.{◌≡◌, ◌≤◌, ◌+◌, ◌∙◌, ◌&&◌, not, ℕ, zero, suc, Bool, true, false}
+use Rattle.chess.proofs.Common.{List, [], ◌∷◌, codes, Option, None, Some, inl, inr, ap, refl, sym}
+use Rattle.chess.proofs.Common.{arith, IsForward, before_first, without_empty, is_right_letter}
+use Rattle.chess.proofs.Common.{file_letter, rank_digit, Placement, no_men, man_at, men_of, IsEmpty}
+use Rattle.chess.proofs.Common.{State, king_of, pawn_of, rook_of, home_rank, pawn_rank, IsSpokenOf}
+use Rattle.chess.proofs.Common.{HasRival, IsCastlingText, Places, no_places, IsAttacker, Place}
+use Rattle.chess.proofs.Common.{place_cmp, initial_piece, initial_man, IsInitialMen, man_at-same}
+use Rattle.chess.proofs.Common.{is_in-empty, Kind, King, Queen, Rook, Bishop, Knight, Man, Side}
+use Rattle.chess.proofs.Common.{White, Black, Wing, KingSide, QueenSide, Move}
 use Rattle.chess.specs.Public.Moves.{IsSingleStep, IsDoubleStep, IsPawnCapture, IsPawnMove}
 use Rattle.chess.specs.Public.Moves.{IsKingMove, Goes, is_pawn, is_square, is_en_passant, arriving}
 use Rattle.chess.specs.Public.Moves.{with_rook, rights_after, IsUnbarred, IsBarred}
-use Rattle.chess.specs.Public.Placements.{Placement, no_men, man_at, first_men, men_of, IsEmpty}
-use Rattle.chess.specs.Public.Positions.{State, king_of, pawn_of, rook_of, home_rank, pawn_rank}
+use Rattle.chess.specs.Public.Placements.{first_men}
 use Rattle.chess.specs.Public.Positions.{king_to_file, rook_from_file, rook_to_file}
-use Rattle.chess.specs.Public.Refusals.{IsSpokenOf}
-use Rattle.chess.specs.Public.San.{HasRival, IsCastlingText}
-use Rattle.chess.specs.Public.Sets.{Places, no_places, IsAttacker}
-use Rattle.chess.specs.Public.Squares.{Place, place_cmp}
-use Rattle.chess.specs.Public.Start.{initial_piece, initial_man, IsInitialMen}
-use Rattle.chess.specs.Shared.CellFacts.{man_at-same}
-use Rattle.chess.specs.Shared.SetFacts.{is_in-empty}
-use Rattle.chess.specs.declared.board.man.Kind.{Kind}
-use Rattle.chess.specs.declared.board.man.Kind.TheVariants.{King, Queen, Rook, Bishop, Knight}
-use Rattle.chess.specs.declared.board.man.Man.{Man}
-use Rattle.chess.specs.declared.board.man.Side.{Side}
-use Rattle.chess.specs.declared.board.man.Side.TheVariants.{White, Black}
-use Rattle.chess.specs.declared.board.man.Wing.{Wing}
-use Rattle.chess.specs.declared.board.man.Wing.TheVariants.{KingSide, QueenSide}
-use Rattle.chess.specs.declared.moves.Move.{Move}
 use Rattle.chess.proofs.NamedFacts.{not_both}
 
 abbrev at : ℕ → ℕ → Place

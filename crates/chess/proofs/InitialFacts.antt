@@ -1,17 +1,11 @@
 -- The position that is made square by square is the initial one, and there is no other.
-use Rattle.std.proofs.Common.{◌≡◌, ◌≤◌, ℕ, zero, suc, true, inl, inr, ap, refl, sym, subst, ◌∙◌}
-use Rattle.std.proofs.Common.{arith, Option, Some, None}
-use Rattle.chess.specs.Public.Squares.{Place, IsOnBoard}
-use Rattle.chess.specs.Public.Placements.{Placement, man_at, AreOnBoard}
-use Rattle.chess.specs.Shared.CellFacts.{same_men, on_board_or_not}
-use Rattle.chess.specs.Public.Positions.{State, pawn_of, home_rank, pawn_rank, has_right}
-use Rattle.chess.specs.Public.Start.{initial_piece, initial_man, initial_men, IsInitialMen}
-use Rattle.chess.specs.Public.Start.{IsInitial, initial}
-use Rattle.chess.specs.declared.board.man.Man.{Man}
-use Rattle.chess.specs.declared.board.man.Side.{Side}
-use Rattle.chess.specs.declared.board.man.Side.TheVariants.{White, Black}
-use Rattle.chess.specs.declared.board.man.Wing.{Wing}
-use Rattle.chess.specs.declared.board.man.Wing.TheVariants.{KingSide, QueenSide}
+use Rattle.chess.proofs.Common.{◌≡◌, ◌≤◌, ℕ, zero, suc, true, inl, inr, ap, refl, sym, ◌∙◌}
+use Rattle.chess.proofs.Common.{arith, Option, Some, None, Place, IsOnBoard, Placement, man_at}
+use Rattle.chess.proofs.Common.{AreOnBoard, same_men, on_board_or_not, State, pawn_of, home_rank}
+use Rattle.chess.proofs.Common.{pawn_rank, has_right, initial_piece, initial_man, initial_men}
+use Rattle.chess.proofs.Common.{IsInitialMen, initial, Man, Side, White, Black, Wing, KingSide}
+use Rattle.chess.proofs.Common.{QueenSide}
+use Rattle.chess.specs.Public.Start.{IsInitial}
 use Rattle.chess.proofs.StartFacts.{initial_at, initial_on}
 
 -- a square of a file on a rank
@@ -90,13 +84,11 @@ same_on : (p : Placement) → IsInitialMen p → (s : Place) (n : ℕ) → IsOnB
     → man_at p s ≡ man_at initial_men s
 same_on p are s zero on e = let low = on.rank_low in absurd (omega arith)
 same_on p are s (suc zero) on e =
-    subst (λ (t : Place). man_at p t ≡ man_at initial_men t) (sym (on_rank s 1 e))
-    (are.pieces White s.file on.file_low on.file_high
-    ∙ sym (initial_pieces White s.file on.file_low on.file_high))
+    rw (on_rank s 1 e) (are.pieces White s.file on.file_low on.file_high ∙ sym (initial_pieces White
+    s.file on.file_low on.file_high))
 same_on p are s (suc (suc zero)) on e =
-    subst (λ (t : Place). man_at p t ≡ man_at initial_men t) (sym (on_rank s 2 e))
-    (are.pawns White s.file on.file_low on.file_high
-    ∙ sym (initial_pawns White s.file on.file_low on.file_high))
+    rw (on_rank s 2 e) (are.pawns White s.file on.file_low on.file_high ∙ sym (initial_pawns White
+    s.file on.file_low on.file_high))
 same_on p are s (suc (suc (suc zero))) on e =
     are.empty s (omega arith) (omega arith) ∙ sym (initial_empty s (omega arith) (omega arith))
 same_on p are s (suc (suc (suc (suc zero)))) on e =
@@ -106,13 +98,11 @@ same_on p are s (suc (suc (suc (suc (suc zero))))) on e =
 same_on p are s (suc (suc (suc (suc (suc (suc zero)))))) on e =
     are.empty s (omega arith) (omega arith) ∙ sym (initial_empty s (omega arith) (omega arith))
 same_on p are s (suc (suc (suc (suc (suc (suc (suc zero))))))) on e =
-    subst (λ (t : Place). man_at p t ≡ man_at initial_men t) (sym (on_rank s 7 e))
-    (are.pawns Black s.file on.file_low on.file_high
-    ∙ sym (initial_pawns Black s.file on.file_low on.file_high))
+    rw (on_rank s 7 e) (are.pawns Black s.file on.file_low on.file_high ∙ sym (initial_pawns Black
+    s.file on.file_low on.file_high))
 same_on p are s (suc (suc (suc (suc (suc (suc (suc (suc zero)))))))) on e =
-    subst (λ (t : Place). man_at p t ≡ man_at initial_men t) (sym (on_rank s 8 e))
-    (are.pieces Black s.file on.file_low on.file_high
-    ∙ sym (initial_pieces Black s.file on.file_low on.file_high))
+    rw (on_rank s 8 e) (are.pieces Black s.file on.file_low on.file_high ∙ sym (initial_pieces Black
+    s.file on.file_low on.file_high))
 same_on p are s (suc (suc (suc (suc (suc (suc (suc (suc (suc n))))))))) on e = let high =
     on.rank_high in absurd (omega arith)
 

@@ -1,13 +1,10 @@
 -- The words of the board on which the men stand where they stand at first.
-use Rattle.std.proofs.Common.{◌≡◌, ◌<◌, ◌∙◌, ℕ, zero, suc, Bool, true, nat_eq, ap, refl, sym, arith}
-use Rattle.std.proofs.Common.{List, [], ◌∷◌, Option, Some, None}
-use Rattle.std.proofs.lemmas.Bool.{agree_below, agree_below_at, eqb-true, eq-eqb, ne_eqb}
-use Rattle.chess.specs.Public.Squares.{square_at}
-use Rattle.chess.specs.Public.Placements.{with_man, first_men}
-use Rattle.chess.specs.Shared.SetBitboards.{has_bit}
-use Rattle.chess.specs.Private.Bitboards.{AreApart, bitboard_at, row_of, man_in, words_men}
-use Rattle.chess.specs.Public.Start.{initial_man, initial_men}
-use Rattle.chess.specs.declared.board.man.Man.{Man}
+use Rattle.chess.proofs.Common.{◌≡◌, ◌<◌, ◌∙◌, ℕ, zero, suc, Bool, true, nat_eq, ap, refl, sym}
+use Rattle.chess.proofs.Common.{arith, List, [], ◌∷◌, Option, Some, None, agree_below}
+use Rattle.chess.proofs.Common.{agree_below_at, eqb-true, eq-eqb, ne_eqb, square_at, with_man}
+use Rattle.chess.proofs.Common.{has_bit, AreApart, bitboard_at, row_of, man_in, words_men}
+use Rattle.chess.proofs.Common.{initial_man, initial_men, Man}
+use Rattle.chess.specs.Public.Placements.{first_men}
 use Rattle.chess.proofs.BitFacts.{has_man, no_man, row_of-below, man_of_row-row_of}
 
 abbrev first_words : List ℕ

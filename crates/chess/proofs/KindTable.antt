@@ -1,12 +1,8 @@
 -- The table of the kinds by their letters.
-use Rattle.std.proofs.Common.{◌≡◌, ◌<◌, ℕ, true, nat_eq, get_or, ap, refl, sym, ◌∙◌, Option, Some}
-use Rattle.std.proofs.Common.{None, MatchOption, is_some, [], ◌∷◌}
-use Rattle.std.proofs.lemmas.Bool.{agree_below, agree_below_at, eqb-true}
-use Rattle.chess.specs.Public.Letters.{kind_letter}
-use Rattle.chess.specs.Public.San.{letter_text}
-use Rattle.chess.specs.Private.SanWords.{kind_of}
+use Rattle.chess.proofs.Common.{◌≡◌, ◌<◌, ℕ, true, nat_eq, get_or, ap, refl, sym, ◌∙◌, Option, Some}
+use Rattle.chess.proofs.Common.{None, MatchOption, is_some, [], ◌∷◌, agree_below, agree_below_at}
+use Rattle.chess.proofs.Common.{eqb-true, kind_letter, letter_text, kind_of, Kind}
 use Rattle.chess.specs.declared.letters.TheConstants.{KINDS}
-use Rattle.chess.specs.declared.board.man.Kind.{Kind}
 use Rattle.chess.proofs.SpelledParts.{letter_shown, letter_is_kind}
 
 -- a kind or none, as a number

@@ -1,23 +1,13 @@
 -- Where the kings stand after a move.
-use Rattle.std.proofs.Common.{◌≡◌, ◌&&◌, ◌⊎◌, Bool, true, false, not, inl, inr, ap, refl, sym}
-use Rattle.std.proofs.Common.{subst, ◌∙◌, arith, Option, Some, None, IfSome, if◌then◌else◌}
-use Rattle.std.specs.Prelude.{◌==◌}
-use Rattle.std.proofs.lemmas.Bool.Decides.{nat_tests}
-use Rattle.std.proofs.lemmas.Bool.{and_parts}
-use Rattle.chess.specs.Public.Squares.{Place}
-use Rattle.chess.specs.Public.Placements.{Placement, man_at, opposite, IsEmpty}
-use Rattle.chess.specs.Public.Attacks.{IsForward}
-use Rattle.chess.specs.Public.Positions.{State, king_of, rook_of, pawn_of, king_to, rook_from}
-use Rattle.chess.specs.Public.Positions.{rook_to, IsOnlyKing, FitsEnPassant}
+use Rattle.chess.proofs.Common.{◌≡◌, ◌&&◌, ◌⊎◌, Bool, true, false, not, inl, inr, ap, refl, sym}
+use Rattle.chess.proofs.Common.{subst, ◌∙◌, arith, Option, Some, None, IfSome, if◌then◌else◌, ◌==◌}
+use Rattle.chess.proofs.Common.{nat_tests, and_parts, Place, Placement, man_at, opposite, IsEmpty}
+use Rattle.chess.proofs.Common.{IsForward, State, king_of, rook_of, pawn_of, king_to, rook_from}
+use Rattle.chess.proofs.Common.{rook_to, IsOnlyKing, FitsEnPassant, Goes, Castles, arriving}
+use Rattle.chess.proofs.Common.{capture_square, is_pawn, is_square, is_en_passant, men_after}
+use Rattle.chess.proofs.Common.{IsPawnMove, Man, Side, King, Queen, Rook, Bishop, Knight, Pawn}
+use Rattle.chess.proofs.Common.{Wing, KingSide, QueenSide, Move}
 use Rattle.chess.specs.Shared.Codes.{IsFollowed}
-use Rattle.chess.specs.Public.Moves.{Goes, Castles, arriving, capture_square, is_pawn, is_square}
-use Rattle.chess.specs.Public.Moves.{is_en_passant, men_after, IsPawnMove}
-use Rattle.chess.specs.declared.board.man.Man.{Man}
-use Rattle.chess.specs.declared.board.man.Side.{Side}
-use Rattle.chess.specs.declared.board.man.Kind.TheVariants.{King, Queen, Rook, Bishop, Knight, Pawn}
-use Rattle.chess.specs.declared.board.man.Wing.{Wing}
-use Rattle.chess.specs.declared.board.man.Wing.TheVariants.{KingSide, QueenSide}
-use Rattle.chess.specs.declared.moves.Move.{Move}
 use Rattle.chess.proofs.PlaceFacts.{same_square-then, cases_place, cases_side, same_kind}
 use Rattle.chess.proofs.PlaceFacts.{some_not_none}
 use Rattle.chess.proofs.GoesFacts.{IsTried, goes_castle, goes_promote, no_king_taken, has_arrived}

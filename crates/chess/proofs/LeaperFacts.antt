@@ -1,17 +1,10 @@
 -- The squares that kings, knights and pawns attack, as words: computed for each square.
-use Rattle.std.proofs.Common.{◌≡◌, ◌↔◌, ◌⊎◌, ◌≤◌, ◌+◌, ◌^◌, ◌&&◌, ◌||◌, ℕ, Bool, true, ap, refl}
-use Rattle.std.proofs.Common.{sym, ◌∙◌, arith}
-use Rattle.std.specs.Prelude.{ltb, ◌==◌}
-use Rattle.std.proofs.lemmas.Bool.{agree_below, agree_below_at}
-use Rattle.std.proofs.lemmas.Bool.Decides.{nat_tests}
-use Rattle.chess.specs.Public.Squares.{Place, IsOnBoard, square_at, index_of, gap}
-use Rattle.chess.specs.Public.Attacks.{IsNear, IsJump, IsPawnAttack}
-use Rattle.chess.specs.Shared.SetBitboards.{has_bit}
-use Rattle.chess.specs.Shared.SetFacts.{index_of-below, square_at-index_of}
-use Rattle.chess.specs.Private.Bitboards.{IsBitboardOf, square_bitboard, near_bitboard}
-use Rattle.chess.specs.Private.Bitboards.{jumps_bitboard, pawn_bitboard}
-use Rattle.chess.specs.declared.board.man.Side.{Side}
-use Rattle.chess.specs.declared.board.man.Side.TheVariants.{White, Black}
+use Rattle.chess.proofs.Common.{◌≡◌, ◌↔◌, ◌⊎◌, ◌≤◌, ◌+◌, ◌^◌, ◌&&◌, ◌||◌, ℕ, Bool, true, ap, refl}
+use Rattle.chess.proofs.Common.{sym, ◌∙◌, arith, ltb, ◌==◌, agree_below, agree_below_at, nat_tests}
+use Rattle.chess.proofs.Common.{Place, IsOnBoard, square_at, index_of, gap, IsNear, IsJump}
+use Rattle.chess.proofs.Common.{IsPawnAttack, has_bit, index_of-below, square_at-index_of}
+use Rattle.chess.proofs.Common.{IsBitboardOf, square_bitboard, Side, White, Black}
+use Rattle.chess.specs.Private.Bitboards.{near_bitboard, jumps_bitboard, pawn_bitboard}
 
 -- a bitboard of the squares that pass a test, for each square from which men look
 abbrev pub fits_bitboard : ℕ → (Place → Bool) → Bool

@@ -1,23 +1,12 @@
 -- The men that are left where a man is moved from a square to another, by the words of those
 -- squares.
-use Rattle.std.proofs.Common.{◌≡◌, ◌↔◌, ◌⊎◌, ◌∙◌, ◌<◌, ◌^◌, w64, ℕ, Bool, true, inl, inr, ap, sym}
-use Rattle.std.proofs.Common.{subst, bit_and, bit_or, Some, None, IsTrue}
-use Rattle.std.specs.Int.{bit_not}
-use Rattle.std.proofs.lemmas.Bool.{and_parts, and_from}
-use Rattle.chess.specs.Public.Squares.{Place, IsOnBoard, index_of}
-use Rattle.chess.specs.Shared.SetBitboards.{has_bit}
-use Rattle.chess.specs.Shared.SetFacts.{index_of-below}
-use Rattle.chess.specs.Public.Sets.{Places, is_in, HoldsExactly}
-use Rattle.chess.specs.Public.Placements.{Placement, man_at, with_man, opposite, AreOnBoard}
-use Rattle.chess.specs.Public.Placements.{IsEmpty}
-use Rattle.chess.specs.Private.PseudoAttacks.{IsPseudoAttack}
-use Rattle.chess.specs.Shared.CellFacts.{man_at-same, man_at-other}
-use Rattle.chess.specs.Private.Bitboards.{IsBitboardOf, IsMan, IsRunner, AreLeft, IsAttackedBy}
-use Rattle.chess.specs.Private.Bitboards.{square_bitboard}
-use Rattle.chess.specs.declared.board.man.Man.{Man}
-use Rattle.chess.specs.declared.board.man.Side.{Side}
-use Rattle.chess.specs.declared.board.man.Kind.{Kind}
-use Rattle.chess.specs.declared.board.man.Kind.TheVariants.{King, Queen, Knight, Pawn}
+use Rattle.chess.proofs.Common.{◌≡◌, ◌↔◌, ◌⊎◌, ◌∙◌, ◌<◌, ◌^◌, w64, ℕ, Bool, true, inl, inr, ap, sym}
+use Rattle.chess.proofs.Common.{subst, bit_and, bit_or, Some, None, IsTrue, bit_not, and_parts}
+use Rattle.chess.proofs.Common.{and_from, Place, IsOnBoard, index_of, has_bit, index_of-below}
+use Rattle.chess.proofs.Common.{Places, is_in, HoldsExactly, Placement, man_at, with_man, opposite}
+use Rattle.chess.proofs.Common.{AreOnBoard, IsEmpty, IsPseudoAttack, man_at-same, man_at-other}
+use Rattle.chess.proofs.Common.{IsBitboardOf, IsMan, IsRunner, AreLeft, IsAttackedBy}
+use Rattle.chess.proofs.Common.{square_bitboard, Man, Side, Kind, King, Queen, Knight, Pawn}
 use Rattle.chess.proofs.PlaceFacts.{cases_place, same_side, some_not_none, not_true, true_not}
 use Rattle.chess.proofs.PlaceFacts.{not_opposite}
 use Rattle.chess.proofs.FillFacts.{bit_of_square, has_own_bit, bit_of_both, either_bitboard}
@@ -30,8 +19,7 @@ use Rattle.chess.proofs.AttackerFacts.{runners_seen}
 pub own_bitboard : (s : Place) → IsOnBoard s → IsBitboardOf (λ t. t ≡ s) (square_bitboard s)
 own_bitboard s on t there = (
   bit_of_square s t on there,
-  (λ e. subst (λ (u : Place). has_bit (square_bitboard s) (index_of u)
-      ≡ true) (sym e) (has_own_bit s)),
+  (λ e. rw e (has_own_bit s)),
 )
 
 -- the squares that have not the fact

@@ -1,26 +1,14 @@
 -- Whether a move is legal is settled, where men stand on the board alone.
-use Rattle.std.proofs.Common.{◌≡◌, ℕ, suc, ◌+◌, ◌<◌, ◌≤◌, Option, Some, None, refl, sym, subst, inl}
-use Rattle.std.proofs.Common.{inr, arith}
-use Rattle.std.proofs.lemmas.Bool.{cases_eq}
-use Rattle.chess.specs.Public.Squares.{Place, IsStraight, IsAhead}
-use Rattle.chess.specs.Public.Placements.{Placement, man_at, AreOnBoard, opposite, IsOccupiedBy}
-use Rattle.chess.specs.Public.Placements.{IsEmpty}
-use Rattle.chess.specs.Public.Attacks.{IsClearFor, IsOnRay, IsForward, Reaches, IsAttacked}
-use Rattle.chess.specs.Public.Positions.{State, king_of, home_rank, pawn_rank, has_right, king_from}
-use Rattle.chess.specs.Public.Positions.{king_to, rook_to, IsCheck}
-use Rattle.chess.specs.Public.Moves.{IsDoubleStep, IsPawnMove, IsPromotionKind, IsPromotion}
-use Rattle.chess.specs.Public.Moves.{Promotes, IsBetween, Castles, IsKingMove, Goes, IsPseudoLegal}
-use Rattle.chess.specs.Public.Moves.{men_after, IsUnbarred, IsLegal}
-use Rattle.chess.specs.Shared.CellFacts.{on_board_or_not}
-use Rattle.chess.specs.declared.board.direction.Direction.{Direction}
-use Rattle.chess.specs.declared.board.man.Man.{Man}
-use Rattle.chess.specs.declared.board.man.Side.{Side}
-use Rattle.chess.specs.declared.board.man.Side.TheVariants.{White, Black}
-use Rattle.chess.specs.declared.board.man.Kind.{Kind}
-use Rattle.chess.specs.declared.board.man.Kind.TheVariants.{King, Queen, Rook, Bishop, Knight, Pawn}
-use Rattle.chess.specs.declared.board.man.Wing.{Wing}
-use Rattle.chess.specs.declared.board.man.Wing.TheVariants.{KingSide, QueenSide}
-use Rattle.chess.specs.declared.moves.Move.{Move}
+use Rattle.chess.proofs.Common.{◌≡◌, ℕ, suc, ◌+◌, ◌<◌, ◌≤◌, Option, Some, None, refl, sym, subst}
+use Rattle.chess.proofs.Common.{inl, inr, arith, cases_eq, Place, IsStraight, IsAhead, Placement}
+use Rattle.chess.proofs.Common.{man_at, AreOnBoard, opposite, IsOccupiedBy, IsEmpty, IsClearFor}
+use Rattle.chess.proofs.Common.{IsOnRay, IsForward, Reaches, IsAttacked, State, king_of, home_rank}
+use Rattle.chess.proofs.Common.{pawn_rank, has_right, king_from, king_to, rook_to, IsCheck}
+use Rattle.chess.proofs.Common.{IsDoubleStep, IsPawnMove, IsPromotionKind, IsPromotion, Promotes}
+use Rattle.chess.proofs.Common.{IsBetween, Castles, IsKingMove, Goes, IsPseudoLegal, men_after}
+use Rattle.chess.proofs.Common.{IsUnbarred, IsLegal, on_board_or_not, Direction, Man, Side, White}
+use Rattle.chess.proofs.Common.{Black, Kind, King, Queen, Rook, Bishop, Knight, Pawn, Wing}
+use Rattle.chess.proofs.Common.{KingSide, QueenSide, Move}
 use Rattle.chess.proofs.AfterFacts.{after_on_board}
 use Rattle.chess.proofs.AxisSteps.{Axis, Up, Level, Down, file_step, rank_step, IsAxisAhead}
 use Rattle.chess.proofs.AxisSteps.{to_axes, of_axes, steps_gap, straight_or_not}

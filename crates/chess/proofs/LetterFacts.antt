@@ -1,12 +1,8 @@
 -- Each man has its own letter.
-use Rattle.std.proofs.Common.{◌≡◌, ◌≤◌, ◌-◌, ℕ, sym, ap, refl, ◌∙◌, arith, if◌then◌else◌}
-use Rattle.std.specs.Prelude.{◌==◌, nat_le}
-use Rattle.chess.specs.Public.Letters.{kind_letter, man_letter}
-use Rattle.chess.specs.declared.board.man.Man.{Man}
-use Rattle.chess.specs.declared.board.man.Side.{Side}
-use Rattle.chess.specs.declared.board.man.Side.TheVariants.{White, Black}
-use Rattle.chess.specs.declared.board.man.Kind.{Kind}
-use Rattle.chess.specs.declared.board.man.Kind.TheVariants.{King, Queen, Rook, Bishop, Knight, Pawn}
+use Rattle.std.specs.Prelude.{nat_le}
+use Rattle.chess.proofs.Common.{◌≡◌, ◌≤◌, ◌-◌, ℕ, sym, ap, refl, ◌∙◌, arith, if◌then◌else◌, ◌==◌}
+use Rattle.chess.proofs.Common.{kind_letter, man_letter, Man, Side, White, Black, Kind, King, Queen}
+use Rattle.chess.proofs.Common.{Rook, Bishop, Knight, Pawn}
 
 kind_by : ℕ → Kind
 kind_by n =

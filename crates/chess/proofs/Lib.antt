@@ -1,3 +1,4 @@
+pub mod Common
 pub mod PlaceFacts
 pub mod AxisSteps
 pub mod StepFacts

@@ -1,17 +1,15 @@
 -- Loops over the squares of a set, first to last.
-use Rattle.std.proofs.Common.{◌≡◌, ◌↔◌, ◌<◌, ◌-◌, ◌&&◌, ◌||◌, ◌⊎◌, Bool, true, false, not, inl, inr}
-use Rattle.std.proofs.Common.{ap, refl, sym, subst, ◌∙◌, arith, Option, Some, None, IsTrue}
-use Rattle.std.proofs.Common.{if◌then◌else◌}
 use Rattle.std.specs.Ordering.{eq_by_cmp}
 use Rattle.std.specs.FinSet.{remove, same_set, contains-remove, len-remove, empty_of_len}
-use Rattle.std.proofs.lemmas.Bool.{cases_eq, and_parts, and_from, or_left, or_right}
 use Rattle.std.proofs.Math.Bool.{and_comm}
-use Rattle.chess.specs.Public.Squares.{Place, IsOnBoard, place_cmp, same_square}
+use Rattle.chess.proofs.Common.{◌≡◌, ◌↔◌, ◌<◌, ◌-◌, ◌&&◌, ◌||◌, ◌⊎◌, Bool, true, false, not, inl}
+use Rattle.chess.proofs.Common.{inr, ap, refl, sym, subst, ◌∙◌, arith, Option, Some, None, IsTrue}
+use Rattle.chess.proofs.Common.{if◌then◌else◌, cases_eq, and_parts, and_from, or_left, or_right}
+use Rattle.chess.proofs.Common.{Place, IsOnBoard, place_cmp, same_square, is_in-empty, false_of}
+use Rattle.chess.proofs.Common.{Places, is_in, no_places, size_of, HoldsExactly, HasOnly}
+use Rattle.chess.proofs.Common.{IsTakenFirst, HasEach, IsLeft, IsSifted}
 use Rattle.chess.specs.Shared.OrderFacts.{place_total, place_exact}
-use Rattle.chess.specs.Shared.SetFacts.{is_in-empty, tied, ties, false_of}
-use Rattle.chess.specs.Public.Sets.{Places, is_in, no_places, size_of, HoldsExactly}
-use Rattle.chess.specs.Shared.SetBitboards.{HasOnly, IsTakenFirst}
-use Rattle.chess.specs.Private.MoveWords.{HasEach, IsLeft, IsSifted}
+use Rattle.chess.specs.Shared.SetFacts.{tied, ties}
 use Rattle.chess.proofs.PlaceFacts.{cases_place, same_square-same, same_square-then, true_not_false}
 use Rattle.chess.proofs.PlaceFacts.{not_true, true_not}
 

@@ -1,24 +1,14 @@
 -- Facts about the table of letters: how it is filled man by man, and what it says of each square.
 use Rattle.std.proofs.Common.{◌≡◌, ◌<◌, ◌+◌, ℕ, not, inl, inr, ap, refl, sym, ◌∙◌, List, Some, None}
 use Rattle.std.proofs.Common.{◌&&◌, false, subst, arith, if◌then◌else◌, length, slice_set, Option}
-use Rattle.std.specs.Prelude.{replicate, ltb}
-use Rattle.std.proofs.lemmas.Bool.{lt-ltb, ltb-true, cases_Bool}
-use Rattle.std.proofs.lemmas.List.{get_or-set_same, get_or-set_other, get_or-replicate, length-set}
-use Rattle.chess.specs.Public.Squares.{Place, IsOnBoard, index_of, square_at}
-use Rattle.chess.specs.Shared.SetFacts.{index_of-below, square_at-index_of, false_of, and_false}
+use Rattle.chess.proofs.Common.{replicate, ltb, lt-ltb, ltb-true, cases_Bool, get_or-set_same}
+use Rattle.chess.proofs.Common.{get_or-set_other, get_or-replicate, length-set, Place, IsOnBoard}
+use Rattle.chess.proofs.Common.{index_of, square_at, index_of-below, square_at-index_of, false_of}
+use Rattle.chess.proofs.Common.{and_false, Placement, man_at, man_letter, Places, is_in}
+use Rattle.chess.proofs.Common.{IsSquaresOf, IsTakenFirst, row_of, man_of_row, letter_on}
+use Rattle.chess.proofs.Common.{AreLetters, Man, Side, Kind, White, Black, King}
 use Rattle.chess.specs.Shared.SetFacts.{and_true}
-use Rattle.chess.specs.Public.Placements.{Placement, man_at}
-use Rattle.chess.specs.Public.Letters.{man_letter}
-use Rattle.chess.specs.Public.Sets.{Places, is_in, IsSquaresOf}
-use Rattle.chess.specs.Shared.SetBitboards.{IsTakenFirst}
-use Rattle.chess.specs.Private.Bitboards.{row_of, man_of_row}
-use Rattle.chess.specs.Private.FenTextWords.{letter_on, letter_at, letter_below, AreLetters}
-use Rattle.chess.specs.Private.FenTextWords.{AreLettersBelow}
-use Rattle.chess.specs.declared.board.man.Man.{Man}
-use Rattle.chess.specs.declared.board.man.Side.{Side}
-use Rattle.chess.specs.declared.board.man.Kind.{Kind}
-use Rattle.chess.specs.declared.board.man.Side.TheVariants.{White, Black}
-use Rattle.chess.specs.declared.board.man.Kind.TheVariants.{King}
+use Rattle.chess.specs.Private.FenTextWords.{letter_at, letter_below, AreLettersBelow}
 use Rattle.chess.proofs.PlaceFacts.{cases_place, same_square-same, same_square-then, true_not_false}
 use Rattle.chess.proofs.LetterFacts.{letter_high}
 use Rattle.chess.proofs.LoopFacts.{not_in}

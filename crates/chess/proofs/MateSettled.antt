@@ -1,13 +1,7 @@
 -- Whether a side has a move, and whether it is mated or stalemated, is settled where men stand on
 -- the board alone.
-use Rattle.std.proofs.Common.{Option}
-use Rattle.chess.specs.Public.Squares.{Place, IsOnBoard}
-use Rattle.chess.specs.Public.Placements.{AreOnBoard}
-use Rattle.chess.specs.Public.Positions.{State}
+use Rattle.chess.proofs.Common.{Option, Place, IsOnBoard, AreOnBoard, State, Kind, Wing, Move}
 use Rattle.chess.specs.Public.Moves.{IsLegal, CanGo, HasMove, IsMate, IsStalemate}
-use Rattle.chess.specs.declared.board.man.Kind.{Kind}
-use Rattle.chess.specs.declared.board.man.Wing.{Wing}
-use Rattle.chess.specs.declared.moves.Move.{Move}
 use Rattle.chess.proofs.Settled.{Settled, settled_like, settled_not, settled_both, search_option}
 use Rattle.chess.proofs.Searches.{search_square, search_wing, search_any_kind}
 use Rattle.chess.proofs.LegalSettled.{settled_check, settled_legal}

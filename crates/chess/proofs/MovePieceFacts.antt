@@ -2,16 +2,11 @@
 -- and he is set on one of them.
 use Rattle.std.proofs.Common.{◌≡◌, ◌<◌, ◌^◌, bit_or, bit_and, w64, length, map, ◌&&◌, ◌||◌, ℕ, Bool}
 use Rattle.std.proofs.Common.{true, false, not, ap, refl, sym, ◌∙◌, arith, List, Option, None}
-use Rattle.std.specs.Int.{bit_not}
-use Rattle.std.proofs.lemmas.List.{get_or-map, length-map}
+use Rattle.std.proofs.lemmas.List.{get_or-map}
 use Rattle.std.proofs.Math.Pow.{pow-lt}
-use Rattle.chess.specs.Public.Squares.{Place, IsOnBoard, index_of}
-use Rattle.chess.specs.Public.Placements.{with_man}
-use Rattle.chess.specs.Shared.SetBitboards.{has_bit}
-use Rattle.chess.specs.Shared.SetFacts.{index_of-below}
-use Rattle.chess.specs.Private.Bitboards.{AreApart, words_men, bitboard_at, square_bitboard}
-use Rattle.chess.specs.Private.Bitboards.{IsCleared}
-use Rattle.chess.specs.declared.board.man.Man.{Man}
+use Rattle.chess.proofs.Common.{bit_not, length-map, Place, IsOnBoard, index_of, with_man, has_bit}
+use Rattle.chess.proofs.Common.{index_of-below, AreApart, words_men, bitboard_at, square_bitboard}
+use Rattle.chess.proofs.Common.{IsCleared, Man}
 use Rattle.chess.proofs.FillFacts.{bit_of_either}
 use Rattle.chess.proofs.BitFacts.{IsPut, put_none, put_apart, put_men, cleared_bit}
 

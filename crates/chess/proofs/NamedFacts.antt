@@ -1,38 +1,25 @@
 -- The moves that a text names: over the squares of the men that it speaks of.
-use Rattle.std.proofs.Common.{◌≡◌, ◌≢◌, ◌↔◌, ◌&&◌, ◌+◌, ◌⊎◌, ℕ, Bool, true, false, not, inl, inr}
-use Rattle.std.proofs.Common.{ap, refl, sym, subst, ◌∙◌, arith, Option, Some, None, Result, Ok, Err}
-use Rattle.std.proofs.Common.{IsTrue, MatchOption, is_some, IfSome, IfOk, OnErr, IsErrOf, List, []}
-use Rattle.std.proofs.Common.{◌∷◌, ◌++◌, ◌≤◌}
-use Rattle.std.proofs.lemmas.Option.{same_Some}
-use Rattle.chess.specs.Public.Squares.{Place, IsOnBoard}
-use Rattle.chess.specs.Public.Placements.{man_at}
-use Rattle.chess.specs.Public.Positions.{State}
-use Rattle.chess.specs.Public.Moves.{IsPseudoLegal, IsLegal, Goes, Castles, after}
-use Rattle.chess.specs.Public.San.{Said, Spells, IsCastlingText, Agrees, IsNamed, IsOnlyNamed}
-use Rattle.chess.specs.Public.San.{letter_text, file_text, rank_text, IsFileOrRank}
-use Rattle.chess.specs.Public.Letters.{kind_letter, is_sign, square_text}
-use Rattle.chess.specs.Private.SanWords.{said_by, IsReadSaid, IsCandidate, CanGoSaid, IsNext}
-use Rattle.chess.specs.Private.SanWords.{HasNone, IsMoveSaid, IsCastlingOn, move_from, castling_on}
-use Rattle.chess.specs.Private.SanWords.{man_said}
+use Rattle.std.proofs.Common.{Result, IfOk, OnErr, IsErrOf}
+use Rattle.chess.proofs.Common.{◌≡◌, ◌≢◌, ◌↔◌, ◌&&◌, ◌+◌, ◌⊎◌, ℕ, Bool, true, false, not, inl, inr}
+use Rattle.chess.proofs.Common.{ap, refl, sym, subst, ◌∙◌, arith, Option, Some, None, Ok, Err}
+use Rattle.chess.proofs.Common.{IsTrue, MatchOption, is_some, IfSome, List, [], ◌∷◌, ◌++◌, ◌≤◌}
+use Rattle.chess.proofs.Common.{same_Some, Place, IsOnBoard, man_at, State, IsPseudoLegal, IsLegal}
+use Rattle.chess.proofs.Common.{Goes, Castles, after, Said, Spells, IsCastlingText, Agrees, IsNamed}
+use Rattle.chess.proofs.Common.{IsOnlyNamed, letter_text, file_text, rank_text, IsFileOrRank}
+use Rattle.chess.proofs.Common.{kind_letter, is_sign, square_text, said_by, IsReadSaid, IsCandidate}
+use Rattle.chess.proofs.Common.{CanGoSaid, IsMoveSaid, IsCastlingOn, move_from, castling_on}
+use Rattle.chess.proofs.Common.{man_said, IsSpokenOf, Places, is_in, HoldsExactly, IsTakenFirst}
+use Rattle.chess.proofs.Common.{IsLeft, Man, Kind, King, Queen, Rook, Bishop, Knight, Pawn, Wing}
+use Rattle.chess.proofs.Common.{Move, ParsedSan, and_false}
+use Rattle.chess.specs.Private.SanWords.{IsNext, HasNone}
 use Rattle.chess.specs.Private.SanAnswers.{IsAnswer, IsPlayed}
-use Rattle.chess.specs.Public.Refusals.{IsSpokenOf}
-use Rattle.chess.specs.Public.Sets.{Places, is_in, HoldsExactly}
-use Rattle.chess.specs.Shared.SetBitboards.{IsTakenFirst}
-use Rattle.chess.specs.Private.MoveWords.{IsLeft}
-use Rattle.chess.specs.declared.board.man.Man.{Man}
-use Rattle.chess.specs.declared.board.man.Kind.{Kind}
-use Rattle.chess.specs.declared.board.man.Kind.TheVariants.{King, Queen, Rook, Bishop, Knight, Pawn}
-use Rattle.chess.specs.declared.board.man.Wing.{Wing}
-use Rattle.chess.specs.declared.moves.Move.{Move}
 use Rattle.chess.specs.declared.move_text.SanError.{SanError}
-use Rattle.chess.specs.declared.move_text.read.parse.ParsedSan.{ParsedSan}
-use Rattle.chess.specs.declared.move_text.SanError.TheVariants as errors
 use Rattle.chess.proofs.PlaceFacts.{cases_place, same_square-same, true_not_false, same_side}
 use Rattle.chess.proofs.PlaceFacts.{man_of}
 use Rattle.chess.proofs.LoopFacts.{left_more}
 use Rattle.chess.proofs.GoesFacts.{goes_castle}
 use Rattle.chess.proofs.CastlingTextFacts.{BeginsCastling, Begins, castling_begins}
-use Rattle.chess.specs.Shared.SetFacts.{and_false}
+use Rattle.chess.specs.declared.move_text.SanError.TheVariants as errors
 
 -- the square that was taken out is gone
 gone : (old new : Places) (t s : Place) → IsTakenFirst old new (Some t) → is_in new s ≡ true → s ≡ t

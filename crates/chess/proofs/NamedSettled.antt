@@ -1,26 +1,15 @@
 -- In a position whose men stand on the board a text names one legal move alone, or none, or
 -- several.
-use Rattle.std.proofs.Common.{◌≡◌, ◌≢◌, ◌⊎◌, ℕ, ◌<◌, Bool, true, Option, Some, None, IfSome, List}
-use Rattle.std.proofs.Common.{[], ◌∷◌, ◌++◌, IsTrue, sym, ap, ◌∙◌, subst, inl, inr, refl, arith}
 use Rattle.std.proofs.Common.{append_assoc}
-use Rattle.std.specs.List.{list_all}
-use Rattle.std.proofs.lemmas.Bool.{cases_eq}
-use Rattle.std.proofs.lemmas.Bool.Decides.{nat_tests}
-use Rattle.chess.specs.Public.Squares.{Place, IsOnBoard}
-use Rattle.chess.specs.Public.Placements.{man_at, AreOnBoard}
-use Rattle.chess.specs.Public.Positions.{State}
-use Rattle.chess.specs.Public.Letters.{is_check_sign, is_sign, square_text}
-use Rattle.chess.specs.Public.San.{Said, letter_text, file_text, rank_text, promotion_text}
-use Rattle.chess.specs.Public.San.{IsFileOrRank, Spells, castling_text, castling_with_zeros}
-use Rattle.chess.specs.Public.San.{IsCastlingText, kind_said, Agrees, IsNamed}
-use Rattle.chess.specs.Public.Moves.{IsPromotionKind}
+use Rattle.chess.proofs.Common.{◌≡◌, ◌≢◌, ◌⊎◌, ℕ, ◌<◌, Bool, true, Option, Some, None, IfSome, List}
+use Rattle.chess.proofs.Common.{[], ◌∷◌, ◌++◌, IsTrue, sym, ap, ◌∙◌, subst, inl, inr, refl, arith}
+use Rattle.chess.proofs.Common.{list_all, cases_eq, nat_tests, Place, IsOnBoard, man_at, AreOnBoard}
+use Rattle.chess.proofs.Common.{State, is_check_sign, is_sign, square_text, Said, letter_text}
+use Rattle.chess.proofs.Common.{file_text, rank_text, promotion_text, IsFileOrRank, Spells}
+use Rattle.chess.proofs.Common.{castling_text, castling_with_zeros, IsCastlingText, kind_said}
+use Rattle.chess.proofs.Common.{Agrees, IsNamed, IsPromotionKind, on_board_or_not, Man, Kind, Pawn}
+use Rattle.chess.proofs.Common.{Wing, Move}
 use Rattle.chess.specs.Public.Laws.{NamesOneNoneOrSeveral, EachTextNamesOneNoneOrSeveral}
-use Rattle.chess.specs.Shared.CellFacts.{on_board_or_not}
-use Rattle.chess.specs.declared.board.man.Man.{Man}
-use Rattle.chess.specs.declared.board.man.Kind.{Kind}
-use Rattle.chess.specs.declared.board.man.Kind.TheVariants.{Pawn}
-use Rattle.chess.specs.declared.board.man.Wing.{Wing}
-use Rattle.chess.specs.declared.moves.Move.{Move}
 use Rattle.chess.proofs.PlaceFacts.{cases_place}
 use Rattle.chess.proofs.Settled.{Settled, settled_like, settled_below, settled_front, search_option}
 use Rattle.chess.proofs.Settled.{settled_both, settled_le, settled_true, settled_held, cases_option}

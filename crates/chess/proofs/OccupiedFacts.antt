@@ -1,16 +1,10 @@
 -- The squares of a side's men, from the words of its kinds.
-use Rattle.std.proofs.Common.{◌≡◌, ◌≢◌, ◌↔◌, ◌⊎◌, ◌∙◌, bit_or, bit_and, ℕ, inl, inr, ap, refl, Some}
-use Rattle.std.proofs.lemmas.Bool.{cases_Bool}
-use Rattle.chess.specs.Public.Squares.{Place, IsOnBoard, index_of}
-use Rattle.chess.specs.Public.Placements.{Placement, IsEmpty, IsOccupiedBy}
-use Rattle.chess.specs.Shared.SetBitboards.{has_bit}
-use Rattle.chess.specs.Private.Bitboards.{IsBitboardOf, IsMan, square_bitboard}
-use Rattle.chess.specs.declared.board.man.Side.{Side}
-use Rattle.chess.specs.declared.board.man.Kind.{Kind}
-use Rattle.chess.specs.declared.board.man.Kind.TheVariants.{King, Queen, Rook, Bishop, Knight, Pawn}
+use Rattle.chess.proofs.Common.{◌≡◌, ◌≢◌, ◌↔◌, ◌⊎◌, ◌∙◌, bit_or, bit_and, ℕ, inl, inr, ap, refl}
+use Rattle.chess.proofs.Common.{Some, cases_Bool, Place, IsOnBoard, index_of, Placement, IsEmpty}
+use Rattle.chess.proofs.Common.{IsOccupiedBy, has_bit, IsBitboardOf, IsMan, square_bitboard, Side}
+use Rattle.chess.proofs.Common.{Kind, King, Queen, Rook, Bishop, Knight, Pawn}
 use Rattle.chess.proofs.PlaceFacts.{man_of}
 use Rattle.chess.proofs.FillFacts.{either_bitboard, common_none, common_some}
-use Rattle.chess.proofs.BitFacts.{}
 
 -- a man of the side is of one of six kinds
 abbrev pub IsOfSix : Placement → Side → Place → Type 0

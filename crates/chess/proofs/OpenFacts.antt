@@ -1,14 +1,8 @@
 -- A man attacks the squares that it sees on the empty board, if no man stands between.
-use Rattle.std.proofs.Common.{◌≡◌, ◌↔◌, ◌≤◌, ℕ, inl, inr, sym, subst, arith}
-use Rattle.chess.specs.Public.Squares.{Place, IsAhead, gap}
-use Rattle.chess.specs.Public.Attacks.{IsJump, IsForward, IsOnRay, Reaches}
-use Rattle.chess.specs.Public.Placements.{Placement}
-use Rattle.chess.specs.Private.PseudoAttacks.{IsInLine, IsPseudoAttack, IsUnblocked}
-use Rattle.chess.specs.declared.board.direction.Direction.{Direction}
-use Rattle.chess.specs.declared.board.man.Side.{Side}
-use Rattle.chess.specs.declared.board.man.Side.TheVariants.{White, Black}
-use Rattle.chess.specs.declared.board.man.Kind.{Kind}
-use Rattle.chess.specs.declared.board.man.Kind.TheVariants.{King, Queen, Rook, Bishop, Knight, Pawn}
+use Rattle.chess.proofs.Common.{◌≡◌, ◌↔◌, ◌≤◌, ℕ, inl, inr, sym, subst, arith, Place, IsAhead, gap}
+use Rattle.chess.proofs.Common.{IsJump, IsForward, IsOnRay, Reaches, Placement, IsInLine}
+use Rattle.chess.proofs.Common.{IsPseudoAttack, IsUnblocked, Direction, Side, White, Black, Kind}
+use Rattle.chess.proofs.Common.{King, Queen, Rook, Bishop, Knight, Pawn}
 use Rattle.chess.proofs.AxisSteps.{steps_gap, even_gaps, one_count, one_way}
 
 one_not_two : (a b : ℕ) → a ≡ 1 → b ≡ 2 → a ≡ b → ⊥

@@ -1,10 +1,7 @@
 -- What distinguishes a man from its rivals leaves it alone among them.
-use Rattle.std.proofs.Common.{◌≡◌, ℕ, refl, subst, Option, Some, None, IfSome, List, ◌++◌}
-use Rattle.chess.specs.Public.Squares.{Place, IsOnBoard}
-use Rattle.chess.specs.Public.Positions.{State}
-use Rattle.chess.specs.Public.San.{IsRival, IsDisambiguation, IsFileOrRank, file_text, rank_text}
-use Rattle.chess.specs.Public.San.IsDisambiguation.{alone, by_file, by_rank, by_both}
-use Rattle.chess.specs.declared.moves.Move.{Move}
+use Rattle.chess.proofs.Common.{◌≡◌, ℕ, refl, subst, Option, Some, None, IfSome, List, ◌++◌, Place}
+use Rattle.chess.proofs.Common.{IsOnBoard, State, IsRival, IsDisambiguation, IsFileOrRank}
+use Rattle.chess.proofs.Common.{file_text, rank_text, alone, by_file, by_rank, by_both, Move}
 use Rattle.chess.proofs.PlaceFacts.{place_of}
 
 -- the file and the rank that are given are the man's own, and no rival has both

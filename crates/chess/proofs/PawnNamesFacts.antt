@@ -1,20 +1,11 @@
 -- The text of a pawn's move names that move and no other.
-use Rattle.std.proofs.Common.{◌≡◌, ℕ, Bool, true, false, inl, inr, ap, refl, sym, subst, ◌∙◌}
-use Rattle.std.proofs.Common.{Option, Some, None, IfSome, List, [], ◌∷◌, ◌++◌}
 use Rattle.std.specs.Prelude.{if◌then◌else◌}
-use Rattle.std.specs.List.{list_all}
-use Rattle.chess.specs.Public.Squares.{IsOnBoard}
-use Rattle.chess.specs.Public.Placements.{man_at}
-use Rattle.chess.specs.Public.Positions.{State, pawn_of, IsSound}
-use Rattle.chess.specs.Public.Moves.{IsLegal, IsPromotion, IsPromotionKind, IsPawnMove, Goes}
-use Rattle.chess.specs.Public.Letters.{file_letter, square_text, is_check_sign}
-use Rattle.chess.specs.Public.San.{Said, Spells, Agrees, IsOnlyNamed, is_capture, pawn_text}
-use Rattle.chess.specs.Public.San.{promotion_text}
-use Rattle.chess.specs.Private.SanWords.{IsMoveSaid}
-use Rattle.chess.specs.declared.board.man.Man.{Man}
-use Rattle.chess.specs.declared.board.man.Kind.{Kind}
-use Rattle.chess.specs.declared.board.man.Kind.TheVariants.{Pawn}
-use Rattle.chess.specs.declared.moves.Move.{Move}
+use Rattle.chess.proofs.Common.{◌≡◌, ℕ, Bool, true, false, inl, inr, ap, refl, sym, subst, ◌∙◌}
+use Rattle.chess.proofs.Common.{Option, Some, None, IfSome, List, [], ◌∷◌, ◌++◌, list_all}
+use Rattle.chess.proofs.Common.{IsOnBoard, man_at, State, pawn_of, IsSound, IsLegal, IsPromotion}
+use Rattle.chess.proofs.Common.{IsPromotionKind, IsPawnMove, Goes, file_letter, square_text}
+use Rattle.chess.proofs.Common.{is_check_sign, Said, Spells, Agrees, IsOnlyNamed, is_capture}
+use Rattle.chess.proofs.Common.{pawn_text, promotion_text, IsMoveSaid, Man, Kind, Pawn, Move}
 use Rattle.chess.proofs.PlaceFacts.{same_side, same_kind, man_of}
 use Rattle.chess.proofs.GoesFacts.{goes_promote}
 use Rattle.chess.proofs.NamedFacts.{said_man}

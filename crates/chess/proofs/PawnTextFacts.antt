@@ -1,19 +1,11 @@
 -- How a pawn goes, as its text says it: a capture changes the file, and the file, or its absence,
 -- says which pawn.
-use Rattle.std.proofs.Common.{◌≡◌, ◌⊎◌, ℕ, true, false, not, ◌&&◌, inl, inr, ap, refl, sym, subst}
-use Rattle.std.proofs.Common.{◌∙◌, arith, Option, Some, is_some}
-use Rattle.std.specs.Prelude.{◌==◌, if◌then◌else◌}
-use Rattle.std.proofs.lemmas.Bool.{cases_eq}
-use Rattle.std.proofs.lemmas.Bool.Decides.{nat_tests}
-use Rattle.chess.specs.Public.Squares.{Place, gap}
-use Rattle.chess.specs.Public.Placements.{man_at, opposite, IsOccupiedBy, IsEmpty}
-use Rattle.chess.specs.Public.Attacks.{IsForward}
-use Rattle.chess.specs.Public.Positions.{State, pawn_of}
-use Rattle.chess.specs.Public.Moves.{IsPawnMove, IsSingleStep, IsDoubleStep, is_pawn, is_square}
-use Rattle.chess.specs.Public.Moves.{is_en_passant}
-use Rattle.chess.specs.Public.San.{is_capture}
-use Rattle.chess.specs.declared.board.man.Man.{Man}
-use Rattle.chess.specs.declared.moves.Move.{Move}
+use Rattle.std.specs.Prelude.{if◌then◌else◌}
+use Rattle.chess.proofs.Common.{◌≡◌, ◌⊎◌, ℕ, true, false, not, ◌&&◌, inl, inr, ap, refl, sym, subst}
+use Rattle.chess.proofs.Common.{◌∙◌, arith, Option, Some, is_some, ◌==◌, cases_eq, nat_tests, Place}
+use Rattle.chess.proofs.Common.{gap, man_at, opposite, IsOccupiedBy, IsEmpty, IsForward, State}
+use Rattle.chess.proofs.Common.{pawn_of, IsPawnMove, IsSingleStep, IsDoubleStep, is_pawn, is_square}
+use Rattle.chess.proofs.Common.{is_en_passant, is_capture, Man, Move}
 use Rattle.chess.proofs.PlaceFacts.{place_of, same_square-same, some_not_none, true_not_false}
 use Rattle.chess.proofs.GoesFacts.{IsTried}
 use Rattle.chess.proofs.KingFacts.{and_left, and_right, passing_pawn}
@@ -142,5 +134,4 @@ pub same_step : (P : State) (m n : Move) (own : Man) → man_at P.men m.from ≡
     → n.from.file ≡ n.to.file → n.from ≡ m.from
 same_step P m n own here there goes others to same stays =
     same_steps P n.from m.from m.to own there here
-    (subst (λ (t : Place). IsSingleStep P n.from t
-    ⊎ IsDoubleStep P n.from t) to (step_of P n others stays)) (step_of P m goes same)
+    (rw (← to) (step_of P n others stays)) (step_of P m goes same)

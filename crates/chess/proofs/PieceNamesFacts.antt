@@ -1,21 +1,11 @@
 -- The text of a piece's move names that move and no other.
-use Rattle.std.proofs.Common.{◌≡◌, ◌⊎◌, ℕ, Bool, true, false, inl, inr, ap, refl, sym, subst, ◌∙◌}
-use Rattle.std.proofs.Common.{Option, Some, None, IsTrue, List, [], ◌∷◌, ◌++◌}
 use Rattle.std.specs.Prelude.{if◌then◌else◌}
-use Rattle.std.specs.List.{list_all}
-use Rattle.std.proofs.lemmas.List.{append_assoc}
-use Rattle.chess.specs.Public.Squares.{IsOnBoard}
-use Rattle.chess.specs.Public.Placements.{man_at}
-use Rattle.chess.specs.Public.Positions.{State}
-use Rattle.chess.specs.Public.Moves.{IsLegal}
-use Rattle.chess.specs.Public.Letters.{kind_letter, square_text, is_check_sign, is_sign}
-use Rattle.chess.specs.Public.San.{Said, Spells, Agrees, IsOnlyNamed, IsRival, IsPieceText}
-use Rattle.chess.specs.Public.San.{is_capture, capture_text, file_text, rank_text}
-use Rattle.chess.specs.Private.SanWords.{IsMoveSaid}
-use Rattle.chess.specs.declared.board.man.Man.{Man}
-use Rattle.chess.specs.declared.board.man.Kind.{Kind}
-use Rattle.chess.specs.declared.board.man.Kind.TheVariants.{Pawn}
-use Rattle.chess.specs.declared.moves.Move.{Move}
+use Rattle.chess.proofs.Common.{◌≡◌, ◌⊎◌, ℕ, Bool, true, false, inl, inr, ap, refl, sym, subst, ◌∙◌}
+use Rattle.chess.proofs.Common.{Option, Some, None, IsTrue, List, [], ◌∷◌, ◌++◌, list_all}
+use Rattle.chess.proofs.Common.{append_assoc, IsOnBoard, man_at, State, IsLegal, kind_letter}
+use Rattle.chess.proofs.Common.{square_text, is_check_sign, is_sign, Said, Spells, Agrees}
+use Rattle.chess.proofs.Common.{IsOnlyNamed, IsRival, IsPieceText, is_capture, capture_text}
+use Rattle.chess.proofs.Common.{file_text, rank_text, IsMoveSaid, Man, Kind, Pawn, Move}
 use Rattle.chess.proofs.PlaceFacts.{cases_place, same_kind}
 use Rattle.chess.proofs.GoesFacts.{goes_promote}
 use Rattle.chess.proofs.NamedFacts.{said_man}
@@ -71,9 +61,7 @@ piece_only P m n piece file rank own says others = elim (cases_place n.from m.fr
         goes = (
           n.promote,
           n.castle,
-          subst (λ t.
-              IsLegal P (record { from = n.from; to = t; promote = n.promote; castle = n.castle }))
-              others.1.target others.0,
+          rw (← others.1.target) others.0,
         );
       } in absurd (own.apart n.from rival others.1.file others.1.rank)
 ]

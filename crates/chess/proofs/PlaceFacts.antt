@@ -1,14 +1,8 @@
 -- Facts about squares, sides and men, by cases.
-use Rattle.std.proofs.Common.{◌≡◌, ◌&&◌, ◌⊎◌, ℕ, Bool, true, false, not, inl, inr, ap, refl, sym}
-use Rattle.std.proofs.Common.{◌∙◌, arith, Option, Some, None}
-use Rattle.std.specs.Prelude.{◌==◌}
-use Rattle.std.proofs.lemmas.Bool.{cases_eq, not-true, not_from_false, false_from_ne_true}
-use Rattle.std.proofs.lemmas.Bool.Decides.{nat_tests}
-use Rattle.chess.specs.Public.Squares.{Place, same_square}
-use Rattle.chess.specs.Public.Placements.{opposite}
-use Rattle.chess.specs.declared.board.man.Man.{Man}
-use Rattle.chess.specs.declared.board.man.Side.{Side}
-use Rattle.chess.specs.declared.board.man.Side.TheVariants.{White, Black}
+use Rattle.std.proofs.lemmas.Bool.{not_from_false, false_from_ne_true}
+use Rattle.chess.proofs.Common.{◌≡◌, ◌&&◌, ◌⊎◌, ℕ, Bool, true, false, not, inl, inr, ap, refl, sym}
+use Rattle.chess.proofs.Common.{◌∙◌, arith, Option, Some, None, ◌==◌, cases_eq, not-true, nat_tests}
+use Rattle.chess.proofs.Common.{Place, same_square, opposite, Man, Side, White, Black}
 
 pub place_of : (s t : Place) → s.file ≡ t.file → s.rank ≡ t.rank → s ≡ t
 place_of s t e f = λ i. record { file = e i; rank = f i }

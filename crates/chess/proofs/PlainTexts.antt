@@ -1,13 +1,9 @@
 -- Move texts that are a target alone, or a letter and a target.
-use Rattle.std.proofs.Common.{◌≡◌, ◌∙◌, ◌<◌, ◌≤◌, ℕ, true, ap, refl, sym, subst, arith, Option}
-use Rattle.std.proofs.Common.{Some, None, IfSome, MatchOption, List, [], ◌∷◌, ◌++◌, length, get_or}
-use Rattle.std.proofs.lemmas.Option.{same_Some}
-use Rattle.chess.specs.Public.San.{Said, Spells}
-use Rattle.chess.specs.Private.SanWords.{is_of, said_by, IsReadSaid, SaysPlainly, SaysPawnTakes}
-use Rattle.chess.specs.Private.SanWords.{IsBeforeCheckSigns}
-use Rattle.chess.specs.declared.move_text.read.parse.ByteClass.TheVariants.{Digit, FileLetter}
-use Rattle.chess.specs.declared.move_text.read.parse.ByteClass.TheVariants.{KindLetter, Sign}
-use Rattle.chess.specs.declared.move_text.read.parse.ParsedSan.{ParsedSan}
+use Rattle.chess.proofs.Common.{◌≡◌, ◌∙◌, ◌<◌, ◌≤◌, ℕ, true, ap, refl, sym, subst, arith, Option}
+use Rattle.chess.proofs.Common.{Some, None, IfSome, MatchOption, List, [], ◌∷◌, ◌++◌, length}
+use Rattle.chess.proofs.Common.{get_or, same_Some, Said, Spells, is_of, said_by, IsReadSaid, Digit}
+use Rattle.chess.proofs.Common.{FileLetter, KindLetter, Sign, ParsedSan}
+use Rattle.chess.specs.Private.SanWords.{SaysPlainly, SaysPawnTakes, IsBeforeCheckSigns}
 use Rattle.chess.proofs.ReadingFacts.{given}
 use Rattle.chess.proofs.SaidOnceFacts.{one_said}
 use Rattle.chess.proofs.SpelledParts.{spelled_parts, said_of}

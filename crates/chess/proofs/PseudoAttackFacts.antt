@@ -1,19 +1,13 @@
 -- What men see on the empty board: tests and the Laws' words.
-use Rattle.std.proofs.Common.{◌≡◌, ◌⊎◌, ◌↔◌, ◌+◌, ◌-◌, ◌<◌, ◌≤◌, ◌==◌, ◌&&◌, ◌||◌, not, ℕ, Bool}
-use Rattle.std.proofs.Common.{true, inl, inr, arith}
-use Rattle.std.proofs.lemmas.Bool.{cases_order, or_cases, or_left, or_right}
-use Rattle.std.proofs.lemmas.Bool.Decides.{nat_tests}
-use Rattle.chess.specs.Public.Squares.{Place, IsStraight, IsAhead}
-use Rattle.chess.specs.Private.PseudoAttacks.{IsInLine, IsPseudoAttack}
-use Rattle.chess.specs.declared.board.direction.Direction.{Direction}
-use Rattle.chess.specs.declared.board.direction.Direction.TheVariants.{North, South, East, West}
-use Rattle.chess.specs.declared.board.direction.Direction.TheVariants.{NorthEast, NorthWest}
-use Rattle.chess.specs.declared.board.direction.Direction.TheVariants.{SouthEast, SouthWest}
+use Rattle.std.proofs.Common.{◌==◌}
+use Rattle.std.proofs.lemmas.Bool.{cases_order}
+use Rattle.chess.proofs.Common.{◌≡◌, ◌⊎◌, ◌↔◌, ◌+◌, ◌-◌, ◌<◌, ◌≤◌, ◌&&◌, ◌||◌, not, ℕ, Bool, true}
+use Rattle.chess.proofs.Common.{inl, inr, arith, or_cases, or_left, or_right, nat_tests, Place}
+use Rattle.chess.proofs.Common.{IsStraight, IsAhead, IsInLine, IsPseudoAttack, Direction, North}
+use Rattle.chess.proofs.Common.{South, East, West, NorthEast, NorthWest, SouthEast, SouthWest, Side}
+use Rattle.chess.proofs.Common.{Kind, King, Queen, Rook, Bishop, Knight, Pawn}
 use Rattle.chess.proofs.AxisSteps.{Axis, Up, Level, Down, file_step, rank_step, IsAheadBy, to_axes}
 use Rattle.chess.proofs.AxisSteps.{IsMoving, steps_of, straight_or_not, axis_level, axis_apart}
-use Rattle.chess.specs.declared.board.man.Side.{Side}
-use Rattle.chess.specs.declared.board.man.Kind.{Kind}
-use Rattle.chess.specs.declared.board.man.Kind.TheVariants.{King, Queen, Rook, Bishop, Knight, Pawn}
 use Rattle.chess.proofs.LeaperFacts.{is_near, is_jump, is_pawn_attack, near_is, jump_is, pawn_is}
 
 -- ---- tests of two squares

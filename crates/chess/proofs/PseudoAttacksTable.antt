@@ -1,11 +1,6 @@
 -- The tables of the squares from which men see a square.
-use Rattle.std.proofs.Common.{◌≡◌, true, refl, get_or, []}
-use Rattle.chess.specs.Private.Bitboards.{pseudo_attacks_row_of}
-use Rattle.chess.specs.declared.board.attack_tables.pseudo_attacks_table.TheConstants.{PSEUDO_ATTACKS}
-use Rattle.chess.specs.declared.board.man.Side.{Side}
-use Rattle.chess.specs.declared.board.man.Side.TheVariants.{White, Black}
-use Rattle.chess.specs.declared.board.man.Kind.{Kind}
-use Rattle.chess.specs.declared.board.man.Kind.TheVariants.{King, Queen, Rook, Bishop, Knight, Pawn}
+use Rattle.chess.proofs.Common.{◌≡◌, true, refl, get_or, [], pseudo_attacks_row_of, PSEUDO_ATTACKS}
+use Rattle.chess.proofs.Common.{Side, White, Black, Kind, King, Queen, Rook, Bishop, Knight, Pawn}
 use Rattle.chess.proofs.LeaperFacts.{is_near, is_jump, is_pawn_attack}
 use Rattle.chess.proofs.PseudoAttackFacts.{sees}
 use Rattle.chess.proofs.TableFacts.{fits_table}

@@ -1,20 +1,15 @@
 -- How a rank is read byte by byte, and put on the board square by square.
-use Rattle.std.proofs.Common.{◌≡◌, ◌⊎◌, ◌≤◌, ◌<◌, ◌+◌, ◌-◌, ℕ, zero, suc, List, [], ◌∷◌, ◌++◌}
-use Rattle.std.proofs.Common.{length, get_or, Option, Some, None, inl, inr, sym, ap, refl, subst}
-use Rattle.std.proofs.Common.{◌∙◌, arith, length-append}
-use Rattle.std.specs.Prelude.{replicate, slice_set}
-use Rattle.std.proofs.lemmas.Bool.{cases_eq, cases_lt}
-use Rattle.std.proofs.lemmas.List.{get_or-set_same, get_or-set_other, same_lists, append-nil}
-use Rattle.std.proofs.lemmas.List.{append_assoc, length-replicate, get_or-replicate, get_or_past}
-use Rattle.std.proofs.lemmas.List.{get_or_append_left, get_or-append_right}
-use Rattle.chess.specs.Public.Squares.{Place}
-use Rattle.chess.specs.Public.Placements.{Placement, man_at, with_man}
-use Rattle.chess.specs.Shared.CellFacts.{man_at-same, man_at-other, no_cell}
-use Rattle.chess.specs.Public.Letters.{man_letter}
-use Rattle.chess.specs.Public.Fen.{IsSquares, SpellsRank, row}
-use Rattle.chess.specs.Public.Fen.IsSquares.{letter, step}
-use Rattle.chess.specs.Private.FenWords.{IsByteOf, IsRow, IsPutUpTo}
-use Rattle.chess.specs.declared.board.man.Man.{Man}
+use Rattle.std.specs.Prelude.{slice_set}
+use Rattle.std.proofs.lemmas.List.{same_lists, length-replicate, get_or_past, get_or_append_left}
+use Rattle.std.proofs.lemmas.List.{get_or-append_right}
+use Rattle.chess.proofs.Common.{◌≡◌, ◌⊎◌, ◌≤◌, ◌<◌, ◌+◌, ◌-◌, ℕ, zero, suc, List, [], ◌∷◌, ◌++◌}
+use Rattle.chess.proofs.Common.{length, get_or, Option, Some, None, inl, inr, sym, ap, refl, subst}
+use Rattle.chess.proofs.Common.{◌∙◌, arith, length-append, replicate, cases_eq, cases_lt}
+use Rattle.chess.proofs.Common.{get_or-set_same, get_or-set_other, append-nil, append_assoc}
+use Rattle.chess.proofs.Common.{get_or-replicate, Place, Placement, man_at, with_man, man_at-same}
+use Rattle.chess.proofs.Common.{man_at-other, no_cell, man_letter, IsSquares, SpellsRank, row}
+use Rattle.chess.proofs.Common.{letter, step, IsRow, IsPutUpTo, Man}
+use Rattle.chess.specs.Private.FenWords.{IsByteOf}
 use Rattle.chess.proofs.LetterFacts.{one_man, letter_high}
 
 -- ---- what a byte spells
@@ -30,8 +25,7 @@ step_byte b low high =
     let back : 48 + (b - 48) ≡ b = omega arith in
     record {
       spelled =
-          subst (λ n. IsSquares n (replicate (b - 48) None)) back
-          (step (b - 48) (omega arith) (omega arith));
+          rw back at (step (b - 48) (omega arith) (omega arith));
       only = λ own s. step_only b own s high;
       some = omega arith;
       few = omega arith;
@@ -153,8 +147,7 @@ row_more squares file rest text man count b after r e byte small full = record {
       ++ more) (spelled_more rest text b after (replicate count man) more e byte.spelled
       spelled));
   back = back_more text b after r.done man count
-      (subst (λ x. (all : List (Option Man)) → SpellsRank text all
-      → (more : List (Option Man)) × SpellsRank x more × (all ≡ r.done ++ more)) e r.back) byte;
+      (rw e at r.back) byte;
 }
 
 any_default : (xs : List (Option Man)) (k : ℕ) (d : Option Man) → k < length xs

@@ -2,16 +2,10 @@
 use Rattle.std.proofs.Common.{◌≡◌, ◌⊎◌, ℕ, zero, suc, ◌+◌, ◌-◌, ◌<◌, ◌≤◌, ◌==◌, true, false, Option}
 use Rattle.std.proofs.Common.{Some, None, List, [], ◌∷◌, ◌++◌, if◌then◌else◌, length, replicate}
 use Rattle.std.proofs.Common.{get_or, refl, sym, ap, ◌∙◌, subst, inl, inr, arith, length-append}
-use Rattle.std.proofs.lemmas.Bool.{cases_eq}
-use Rattle.std.proofs.lemmas.Bool.Decides.{nat_tests}
-use Rattle.chess.specs.Public.Squares.{Place, IsOnBoard, square_at}
-use Rattle.chess.specs.Public.Placements.{Placement, man_at, men_of}
-use Rattle.chess.specs.Shared.CellFacts.{man_at-men_of, on_board-men_of}
-use Rattle.chess.specs.Shared.SetFacts.{square_at-index_of}
-use Rattle.chess.specs.Public.Letters.{man_letter}
-use Rattle.chess.specs.Public.Fen.{IsSquares, SpellsRank, row, SpellRanks, SpellsMen, parted_at}
-use Rattle.chess.specs.Public.Fen.IsSquares.{letter, step}
-use Rattle.chess.specs.declared.board.man.Man.{Man}
+use Rattle.chess.proofs.Common.{cases_eq, nat_tests, Place, IsOnBoard, square_at, Placement, man_at}
+use Rattle.chess.proofs.Common.{men_of, man_at-men_of, on_board-men_of, square_at-index_of}
+use Rattle.chess.proofs.Common.{man_letter, IsSquares, SpellsRank, row, SpellRanks, SpellsMen}
+use Rattle.chess.proofs.Common.{parted_at, letter, step, Man}
 use Rattle.chess.proofs.Settled.{Settled, settled_like, settled_both, settled_three, settled_either}
 use Rattle.chess.proofs.Settled.{settled_le, settled_below}
 use Rattle.chess.proofs.Searches.{search_man}

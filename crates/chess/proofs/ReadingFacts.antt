@@ -1,9 +1,7 @@
 -- The bytes of a move text, from its end, where it is known what the text says.
-use Rattle.std.proofs.Common.{◌≡◌, ℕ, true, false, ap, refl, Option, Some, None, IfSome, List, []}
-use Rattle.std.proofs.Common.{◌∷◌, ◌++◌}
 use Rattle.std.specs.Prelude.{if◌then◌else◌}
-use Rattle.chess.specs.Private.SanWords.{is_of, last_of, before_last}
-use Rattle.chess.specs.declared.move_text.read.parse.ByteClass.{ByteClass}
+use Rattle.chess.proofs.Common.{◌≡◌, ℕ, true, false, ap, refl, Option, Some, None, IfSome, List, []}
+use Rattle.chess.proofs.Common.{◌∷◌, ◌++◌, is_of, last_of, before_last, ByteClass}
 
 -- the text from its end does not begin with a byte of the class
 abbrev pub BeginsOtherwise : ByteClass → List ℕ → Type 0

@@ -1,17 +1,11 @@
 -- What the definitions refuse: a reason that is not why a text names no legal move. Each clause of
 -- each reason is needed here. So a text is refused for one reason.
-use Rattle.std.proofs.Common.{◌≡◌, ◌≢◌, ℕ, List, Option, None, Some, inl, inr, refl, subst}
-use Rattle.chess.specs.Public.Positions.{State}
-use Rattle.chess.specs.Public.Refusals.{IsFrom, IsMeant, IsSomeCastlingText, becoming, CanGoAs}
-use Rattle.chess.specs.Public.Refusals.{IsRefusal}
-use Rattle.chess.specs.Public.Squares.{Place}
+use Rattle.chess.proofs.Common.{◌≡◌, ◌≢◌, ℕ, List, Option, None, Some, inl, inr, refl, subst, State}
+use Rattle.chess.proofs.Common.{IsFrom, becoming, CanGoAs, IsRefusal, Place, Agrees, Said, Spells}
+use Rattle.chess.proofs.Common.{IsNamed, Kind, NoMoveText, CastlingAttacked, NoCastling}
+use Rattle.chess.proofs.Common.{WrongPromotion, NoneCan, LeavesKingAttacked, Move}
+use Rattle.chess.specs.Public.Refusals.{IsMeant, IsSomeCastlingText}
 use Rattle.chess.specs.Public.Laws.{TextHasOneRefusal}
-use Rattle.chess.specs.Public.San.{Agrees, Said, Spells, IsNamed}
-use Rattle.chess.specs.declared.board.man.Kind.{Kind}
-use Rattle.chess.specs.declared.move_text.refusal.Refusal.TheVariants.{NoMoveText, CastlingAttacked}
-use Rattle.chess.specs.declared.move_text.refusal.Refusal.TheVariants.{NoCastling, WrongPromotion}
-use Rattle.chess.specs.declared.move_text.refusal.Refusal.TheVariants.{NoneCan, LeavesKingAttacked}
-use Rattle.chess.specs.declared.moves.Move.{Move}
 use Rattle.chess.proofs.NamedFacts.{not_both}
 use Rattle.chess.proofs.SaidOnceFacts.{one_said}
 

@@ -1,25 +1,15 @@
 -- Why a text names no legal move; and the move from a square that it names.
-use Rattle.std.proofs.Common.{◌≡◌, ◌≢◌, ℕ, inl, inr, refl, ap, sym, subst, ◌∙◌, Option, Some, None}
-use Rattle.std.proofs.Common.{List}
-use Rattle.chess.specs.Public.Squares.{Place, IsOnBoard}
-use Rattle.chess.specs.Public.Placements.{AreOnBoard}
-use Rattle.chess.specs.Public.Positions.{State, IsCheck}
-use Rattle.chess.specs.Public.Moves.{Goes, IsPseudoLegal, IsLegal, IsUnbarred, Promotes, men_after}
-use Rattle.chess.specs.Public.San.{Said, IsNamed, kind_said}
-use Rattle.chess.specs.Public.Refusals.{IsRefusal, IsFrom, CanGoAs, becoming}
+use Rattle.chess.proofs.Common.{◌≡◌, ◌≢◌, ℕ, inl, inr, refl, ap, sym, subst, ◌∙◌, Option, Some}
+use Rattle.chess.proofs.Common.{None, List, Place, IsOnBoard, AreOnBoard, State, IsCheck, Goes}
+use Rattle.chess.proofs.Common.{IsPseudoLegal, IsLegal, IsUnbarred, Promotes, men_after, Said}
+use Rattle.chess.proofs.Common.{IsNamed, kind_said, IsRefusal, IsFrom, CanGoAs, becoming}
+use Rattle.chess.proofs.Common.{IsCandidate, CanGoSaid, IsMoveSaid, IsCastlingOn, man_said}
+use Rattle.chess.proofs.Common.{move_from, castling_on, Places, is_in, no_places, HoldsExactly}
+use Rattle.chess.proofs.Common.{Kind, King, Pawn, Wing, Move, NoMoveText, CastlingAttacked}
+use Rattle.chess.proofs.Common.{NoCastling, WrongPromotion, NoneCan, LeavesKingAttacked}
 use Rattle.chess.specs.Private.RefusalWords.{IsCastlingRefusal, IsSaidRefusal, IsFitting}
 use Rattle.chess.specs.Private.RefusalWords.{NoCandidates}
-use Rattle.chess.specs.Private.SanWords.{IsCandidate, CanGoSaid, IsMoveSaid, IsCastlingOn, man_said}
-use Rattle.chess.specs.Private.SanWords.{move_from, castling_on}
-use Rattle.chess.specs.Public.Sets.{Places, is_in, no_places, HoldsExactly}
-use Rattle.chess.specs.declared.board.man.Kind.{Kind}
-use Rattle.chess.specs.declared.board.man.Kind.TheVariants.{King, Pawn}
-use Rattle.chess.specs.declared.board.man.Wing.{Wing}
-use Rattle.chess.specs.declared.moves.Move.{Move}
 use Rattle.chess.specs.declared.move_text.refusal.Refusal.{Refusal}
-use Rattle.chess.specs.declared.move_text.refusal.Refusal.TheVariants.{NoMoveText, CastlingAttacked}
-use Rattle.chess.specs.declared.move_text.refusal.Refusal.TheVariants.{NoCastling, WrongPromotion}
-use Rattle.chess.specs.declared.move_text.refusal.Refusal.TheVariants.{NoneCan, LeavesKingAttacked}
 use Rattle.chess.proofs.AfterFacts.{after_on_board}
 use Rattle.chess.proofs.LegalSettled.{settled_check}
 use Rattle.chess.proofs.LoopFacts.{not_in}

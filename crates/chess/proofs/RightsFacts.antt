@@ -1,15 +1,8 @@
 -- Castling rights that a move leaves alone.
-use Rattle.std.proofs.Common.{◌≡◌, ◌⊎◌, ◌&&◌, Bool, true, false, not, inl, inr, refl, sym, ◌∙◌}
-use Rattle.chess.specs.Public.Squares.{Place, same_square}
-use Rattle.chess.specs.Shared.SetFacts.{false_of}
-use Rattle.chess.specs.Public.Positions.{has_right, king_from, rook_from}
-use Rattle.chess.specs.Public.Moves.{keeps_right, rights_after}
-use Rattle.chess.specs.declared.board.man.CastlingRights.{CastlingRights}
-use Rattle.chess.specs.declared.board.man.Side.{Side}
-use Rattle.chess.specs.declared.board.man.Side.TheVariants.{White, Black}
-use Rattle.chess.specs.declared.board.man.Wing.{Wing}
-use Rattle.chess.specs.declared.board.man.Wing.TheVariants.{KingSide, QueenSide}
-use Rattle.chess.specs.declared.moves.Move.{Move}
+use Rattle.chess.proofs.Common.{◌≡◌, ◌⊎◌, ◌&&◌, Bool, true, false, not, inl, inr, refl, sym, ◌∙◌}
+use Rattle.chess.proofs.Common.{Place, same_square, false_of, has_right, king_from, rook_from}
+use Rattle.chess.proofs.Common.{keeps_right, rights_after, CastlingRights, Side, White, Black, Wing}
+use Rattle.chess.proofs.Common.{KingSide, QueenSide, Move}
 use Rattle.chess.proofs.PlaceFacts.{same_square-then}
 
 -- no king and no rook castles from the square

@@ -1,12 +1,8 @@
 -- A text names a move alone: castling does, and what is said does where each move that agrees
 -- leaves one square.
-use Rattle.std.proofs.Common.{◌≡◌, ℕ, inl, inr, ap, sym, subst, ◌∙◌, Some, List}
-use Rattle.chess.specs.Public.Positions.{State}
-use Rattle.chess.specs.Public.Moves.{IsLegal}
-use Rattle.chess.specs.Public.San.{Said, Spells, IsCastlingText, Agrees, IsOnlyNamed}
-use Rattle.chess.specs.Private.SanWords.{IsMoveSaid}
-use Rattle.chess.specs.declared.board.man.Wing.{Wing}
-use Rattle.chess.specs.declared.moves.Move.{Move}
+use Rattle.chess.proofs.Common.{◌≡◌, ℕ, inl, inr, ap, sym, subst, ◌∙◌, Some, List, State, IsLegal}
+use Rattle.chess.proofs.Common.{Said, Spells, IsCastlingText, Agrees, IsOnlyNamed, IsMoveSaid, Wing}
+use Rattle.chess.proofs.Common.{Move}
 use Rattle.chess.proofs.NamedFacts.{castling_only, not_both}
 use Rattle.chess.proofs.SaidOnceFacts.{one_wing, one_said}
 

@@ -1,10 +1,6 @@
 -- A move text says one thing: one castling, or one move of a man.
-use Rattle.std.proofs.Common.{◌≡◌, ℕ, sym, ◌∙◌, List, reverse}
-use Rattle.std.proofs.lemmas.List.{reverse-reverse}
-use Rattle.std.proofs.lemmas.Option.{same_Some}
-use Rattle.chess.specs.Public.San.{Said, Spells, IsCastlingText}
-use Rattle.chess.specs.Private.SanWords.{unmarked}
-use Rattle.chess.specs.declared.board.man.Wing.{Wing}
+use Rattle.chess.proofs.Common.{◌≡◌, ℕ, sym, ◌∙◌, List, reverse, reverse-reverse, same_Some, Said}
+use Rattle.chess.proofs.Common.{Spells, IsCastlingText, unmarked, Wing}
 use Rattle.chess.proofs.CastlingTextFacts.{stem_castles, castling_found}
 use Rattle.chess.proofs.SpelledParts.{said_of, said_bytes}
 use Rattle.chess.proofs.TextParts.{Bytes, ReadAs, read_text}

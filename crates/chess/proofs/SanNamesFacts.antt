@@ -1,15 +1,8 @@
 -- The standard text of a legal move names that move and no other.
-use Rattle.std.proofs.Common.{◌≡◌, ◌⊎◌, ℕ, true, inl, inr, ap, refl, sym, subst, ◌∙◌, Some, None}
-use Rattle.std.proofs.Common.{List, ◌++◌}
-use Rattle.std.specs.List.{list_all}
-use Rattle.chess.specs.Public.Positions.{State, IsSound}
-use Rattle.chess.specs.Public.Moves.{after, IsLegal}
-use Rattle.chess.specs.Public.Letters.{is_check_sign}
-use Rattle.chess.specs.Public.San.{IsOnlyNamed, IsPieceText, IsBody, IsCheckSign, IsSan, pawn_text}
-use Rattle.chess.specs.Public.San.IsCheckSign.{mate}
-use Rattle.chess.specs.declared.board.man.Kind.{Kind}
-use Rattle.chess.specs.declared.board.man.Kind.TheVariants.{Pawn}
-use Rattle.chess.specs.declared.moves.Move.{Move}
+use Rattle.chess.proofs.Common.{◌≡◌, ◌⊎◌, ℕ, true, inl, inr, ap, refl, sym, subst, ◌∙◌, Some, None}
+use Rattle.chess.proofs.Common.{List, ◌++◌, list_all, State, IsSound, after, IsLegal, is_check_sign}
+use Rattle.chess.proofs.Common.{IsOnlyNamed, IsPieceText, IsBody, IsCheckSign, IsSan, pawn_text}
+use Rattle.chess.proofs.Common.{mate, Kind, Pawn, Move}
 use Rattle.chess.proofs.SaidNamesFacts.{castling_named}
 use Rattle.chess.proofs.PieceNamesFacts.{piece_named}
 use Rattle.chess.proofs.PawnNamesFacts.{pawn_named}
@@ -42,8 +35,7 @@ san_names P m x sound legal san =
             | inl pawn ↦
                 let text : san.body ≡ pawn_text P m =
                 subst (λ kind. IsBody P m None kind san.body) pawn is in
-                subst (λ z. IsOnlyNamed P (z ++ san.mark) m) (sym text)
-                (pawn_named P m san.man san.mark sound legal castle san.here pawn marks)
+                rw text (pawn_named P m san.man san.mark sound legal castle san.here pawn marks)
             | inr piece ↦ piece_named P m san.man san.body san.mark legal castle san.here piece
                 (piece_text P m san.man.kind san.body piece is) marks
           ])

@@ -1,18 +1,9 @@
 -- A move has one text in standard algebraic notation.
-use Rattle.std.proofs.Common.{◌≡◌, ℕ, refl, sym, ap, subst, ◌∙◌, Option, Some, None, List, ◌∷◌}
-use Rattle.std.proofs.Common.{◌++◌}
-use Rattle.std.proofs.lemmas.Option.{same_Some}
-use Rattle.chess.specs.Public.Positions.{State}
-use Rattle.chess.specs.Public.Moves.{after}
-use Rattle.chess.specs.Public.Letters.{kind_letter, square_text}
-use Rattle.chess.specs.Public.San.{IsDisambiguation, IsBody, IsCheckSign, IsSan, capture_text}
-use Rattle.chess.specs.Public.San.IsDisambiguation.{alone, by_file, by_rank, by_both}
-use Rattle.chess.specs.Public.San.IsCheckSign.{mate, check, quiet}
-use Rattle.chess.specs.declared.board.man.Man.{Man}
-use Rattle.chess.specs.declared.board.man.Kind.{Kind}
-use Rattle.chess.specs.declared.board.man.Kind.TheVariants.{King, Queen, Rook, Bishop, Knight, Pawn}
-use Rattle.chess.specs.declared.board.man.Wing.{Wing}
-use Rattle.chess.specs.declared.moves.Move.{Move}
+use Rattle.chess.proofs.Common.{◌≡◌, ℕ, refl, sym, ap, subst, ◌∙◌, Option, Some, None, List, ◌∷◌}
+use Rattle.chess.proofs.Common.{◌++◌, same_Some, State, after, kind_letter, square_text}
+use Rattle.chess.proofs.Common.{IsDisambiguation, IsBody, IsCheckSign, IsSan, capture_text, alone}
+use Rattle.chess.proofs.Common.{by_file, by_rank, by_both, mate, check, quiet, Man, Kind, King}
+use Rattle.chess.proofs.Common.{Queen, Rook, Bishop, Knight, Pawn, Wing, Move}
 
 one_origin : (P : State) (m : Move) (x y : List ℕ) → IsDisambiguation P m x → IsDisambiguation P m y
     → x ≡ y

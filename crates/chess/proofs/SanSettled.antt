@@ -1,22 +1,14 @@
 -- A legal move has a text in standard algebraic notation, where men stand on the board alone: which
 -- rivals a man has is settled, and so
 -- are check and mate after the move.
-use Rattle.std.proofs.Common.{◌≡◌, ℕ, Option, Some, None, List, [], ◌∷◌, ◌++◌, inl, inr, refl}
-use Rattle.std.proofs.lemmas.Bool.{cases_eq}
-use Rattle.chess.specs.Public.Squares.{Place}
-use Rattle.chess.specs.Public.Placements.{man_at, AreOnBoard}
-use Rattle.chess.specs.Public.Positions.{State}
-use Rattle.chess.specs.Public.Moves.{after}
-use Rattle.chess.specs.Public.Letters.{kind_letter, file_letter, rank_digit, square_text}
-use Rattle.chess.specs.Public.San.{IsRival, HasRival, IsDisambiguation, IsPieceText, IsBody}
-use Rattle.chess.specs.Public.San.{IsCheckSign, castling_text, capture_text, pawn_text}
-use Rattle.chess.specs.Public.San.IsDisambiguation.{alone, by_file, by_rank, by_both}
-use Rattle.chess.specs.Public.San.IsCheckSign.{mate, check, quiet}
+use Rattle.chess.proofs.Common.{◌≡◌, ℕ, Option, Some, None, List, [], ◌∷◌, ◌++◌, inl, inr, refl}
+use Rattle.chess.proofs.Common.{cases_eq, Place, man_at, AreOnBoard, State, after, kind_letter}
+use Rattle.chess.proofs.Common.{file_letter, rank_digit, square_text, IsRival, HasRival}
+use Rattle.chess.proofs.Common.{IsDisambiguation, IsPieceText, IsBody, IsCheckSign, castling_text}
+use Rattle.chess.proofs.Common.{capture_text, pawn_text, alone, by_file, by_rank, by_both, mate}
+use Rattle.chess.proofs.Common.{check, quiet, Kind, King, Queen, Rook, Bishop, Knight, Pawn, Wing}
+use Rattle.chess.proofs.Common.{Move}
 use Rattle.chess.specs.Public.Laws.{EachMoveHasAText}
-use Rattle.chess.specs.declared.board.man.Kind.{Kind}
-use Rattle.chess.specs.declared.board.man.Kind.TheVariants.{King, Queen, Rook, Bishop, Knight, Pawn}
-use Rattle.chess.specs.declared.board.man.Wing.{Wing}
-use Rattle.chess.specs.declared.moves.Move.{Move}
 use Rattle.chess.proofs.OnBoard.{men_stay_on_board}
 use Rattle.chess.proofs.PlaceFacts.{cases_place}
 use Rattle.chess.proofs.Settled.{Settled, settled_like, settled_not, settled_both, settled_three}

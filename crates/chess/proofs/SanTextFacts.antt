@@ -1,26 +1,15 @@
 -- Facts about the text that is written for a move.
-use Rattle.std.proofs.Common.{◌≡◌, ◌≢◌, ◌↔◌, ◌++◌, ◌∷◌, [], ℕ, List, true, Bool, not, None, Some}
-use Rattle.std.proofs.Common.{ap, refl, sym, subst, ◌∙◌, IsTrue, ◌&&◌, ◌||◌, append_assoc}
-use Rattle.std.proofs.lemmas.List.{append-nil}
-use Rattle.chess.specs.Public.Squares.{Place, IsOnBoard, same_square}
-use Rattle.chess.specs.Public.Placements.{man_at}
-use Rattle.chess.specs.Public.Attacks.{Reaches}
-use Rattle.chess.specs.Public.Positions.{State, IsSound, king_of}
-use Rattle.chess.specs.Public.Moves.{Goes, IsPseudoLegal, after}
-use Rattle.chess.specs.Public.Letters.{file_letter, kind_letter, rank_digit, square_text}
-use Rattle.chess.specs.Public.San.{IsRival, HasRival, IsDisambiguation, IsPieceText, IsBody}
-use Rattle.chess.specs.Public.San.{IsCheckSign, IsSan, capture_text}
-use Rattle.chess.specs.Public.San.IsDisambiguation.{alone, by_file, by_rank, by_both}
-use Rattle.chess.specs.Public.Sets.{Places, is_in, no_places, HoldsExactly, IsAttacker}
-use Rattle.chess.specs.Shared.SetBitboards.{IsTakenFirst}
-use Rattle.chess.specs.Private.MoveWords.{HasEach}
-use Rattle.chess.specs.Private.SanTextWords.{Appends, AreOf, HasSquare, AreRivalsSifted}
-use Rattle.chess.specs.declared.board.man.Man.{Man}
-use Rattle.chess.specs.declared.board.man.Side.{Side}
-use Rattle.chess.specs.declared.board.man.Kind.{Kind}
-use Rattle.chess.specs.declared.board.man.Kind.TheVariants.{King, Queen, Rook, Bishop, Knight, Pawn}
-use Rattle.chess.specs.declared.moves.Move.{Move}
-use Rattle.chess.specs.Shared.SetFacts.{false_of}
+use Rattle.std.proofs.Common.{append_assoc}
+use Rattle.chess.proofs.Common.{◌≡◌, ◌≢◌, ◌↔◌, ◌++◌, ◌∷◌, [], ℕ, List, true, Bool, not, None, Some}
+use Rattle.chess.proofs.Common.{ap, refl, sym, subst, ◌∙◌, IsTrue, ◌&&◌, ◌||◌, append-nil, Place}
+use Rattle.chess.proofs.Common.{IsOnBoard, same_square, man_at, Reaches, State, IsSound, king_of}
+use Rattle.chess.proofs.Common.{Goes, IsPseudoLegal, after, file_letter, kind_letter, rank_digit}
+use Rattle.chess.proofs.Common.{square_text, IsRival, HasRival, IsDisambiguation, IsPieceText}
+use Rattle.chess.proofs.Common.{IsBody, IsCheckSign, IsSan, capture_text, alone, by_file, by_rank}
+use Rattle.chess.proofs.Common.{by_both, Places, is_in, no_places, HoldsExactly, IsAttacker}
+use Rattle.chess.proofs.Common.{IsTakenFirst, HasEach, AreRivalsSifted, Man, Side, Kind, King}
+use Rattle.chess.proofs.Common.{Queen, Rook, Bishop, Knight, Pawn, Move, false_of}
+use Rattle.chess.specs.Private.SanTextWords.{Appends, AreOf, HasSquare}
 use Rattle.chess.proofs.PlaceFacts.{man_of, same_square-then}
 use Rattle.chess.proofs.LoopFacts.{sifted_start, sifted_more, left_start, left_more}
 

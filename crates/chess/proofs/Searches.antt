@@ -1,18 +1,11 @@
 -- Searches over the squares, ways, kinds, wings, sides and men of chess, and the equality of its
 -- values.
-use Rattle.std.proofs.Common.{◌≡◌, ◌⊎◌, Bool, true, false, Option, Some, None, inl, inr, refl}
-use Rattle.std.proofs.Common.{subst, sym}
-use Rattle.chess.specs.Public.Squares.{Place, IsOnBoard, square_at, index_of}
-use Rattle.chess.specs.Shared.SetFacts.{square_at-index_of, index_of-below, on_board-square_at}
+use Rattle.chess.proofs.Common.{◌≡◌, ◌⊎◌, Bool, true, false, Option, Some, None, inl, inr, refl}
+use Rattle.chess.proofs.Common.{subst, sym, Place, IsOnBoard, square_at, index_of}
+use Rattle.chess.proofs.Common.{square_at-index_of, index_of-below, on_board-square_at, Direction}
+use Rattle.chess.proofs.Common.{Man, Side, Kind, Wing, KingSide, QueenSide, Move}
 use Rattle.chess.specs.Shared.Codes.{is_black_side, side_of, side_back, kind_bits, kind_by}
 use Rattle.chess.specs.Shared.Codes.{kind_back}
-use Rattle.chess.specs.declared.board.direction.Direction.{Direction}
-use Rattle.chess.specs.declared.board.man.Man.{Man}
-use Rattle.chess.specs.declared.board.man.Side.{Side}
-use Rattle.chess.specs.declared.board.man.Kind.{Kind}
-use Rattle.chess.specs.declared.board.man.Wing.{Wing}
-use Rattle.chess.specs.declared.board.man.Wing.TheVariants.{KingSide, QueenSide}
-use Rattle.chess.specs.declared.moves.Move.{Move}
 use Rattle.chess.proofs.AxisSteps.{Axis, Up, Level, Down, file_step, rank_step, way_of, way_back}
 use Rattle.chess.proofs.PlaceFacts.{cases_place}
 use Rattle.chess.proofs.Settled.{settled_like, settled_either, settled_below, Search, SearchIn}

@@ -1,17 +1,12 @@
 -- One bit more or less in a bitboard, as one square more or less in its set.
-use Rattle.std.proofs.Common.{◌≡◌, ◌<◌, ◌-◌, ◌*◌, ◌/◌, ◌^◌, ◌%◌, ◌||◌, ◌&&◌, bit_and, bit_or, w64}
-use Rattle.std.proofs.Common.{ℕ, zero, suc, Bool, false, not, inl, inr, ap, sym, subst, ◌∙◌, arith}
-use Rattle.std.specs.Int.{bit_at, bit_not}
-use Rattle.std.proofs.lemmas.Bool.{cases_eq, cases_lt}
-use Rattle.std.proofs.lemmas.Nat.{and_le_l}
 use Rattle.std.proofs.lemmas.Nat.Bits.{bit_at_lowest, bit_at-suc, bit_at_and, bit_at_clear_same}
 use Rattle.std.proofs.lemmas.Nat.Bits.{bit_at_clear_other, same_from_bits_below}
-use Rattle.chess.specs.Public.Squares.{Place, IsOnBoard, square_at, index_of, same_square}
-use Rattle.chess.specs.Public.Sets.{is_in}
-use Rattle.chess.specs.Shared.SetBitboards.{places_of, has_bit}
-use Rattle.chess.specs.Shared.SetFacts.{false_of, is_in-set_bit, is_in-clear_bit}
-use Rattle.chess.specs.Shared.SetFacts.{on_board-places_of}
-use Rattle.chess.specs.Shared.CellFacts.{on_board_or_not}
+use Rattle.chess.proofs.Common.{◌≡◌, ◌<◌, ◌-◌, ◌*◌, ◌/◌, ◌^◌, ◌%◌, ◌||◌, ◌&&◌, bit_and, bit_or, w64}
+use Rattle.chess.proofs.Common.{ℕ, zero, suc, Bool, false, not, inl, inr, ap, sym, subst, ◌∙◌}
+use Rattle.chess.proofs.Common.{arith, bit_at, bit_not, cases_eq, cases_lt, and_le_l, Place}
+use Rattle.chess.proofs.Common.{IsOnBoard, square_at, index_of, same_square, is_in, places_of}
+use Rattle.chess.proofs.Common.{has_bit, false_of, on_board-places_of, on_board_or_not}
+use Rattle.chess.specs.Shared.SetFacts.{is_in-set_bit, is_in-clear_bit}
 use Rattle.chess.proofs.PlaceFacts.{same_square-then}
 
 -- no square off the board is in the set of a bitboard

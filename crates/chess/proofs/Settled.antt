@@ -1,10 +1,8 @@
 -- What is settled: it holds, or it is refuted. So is what is made of settled parts, and whether a
 -- search over finitely many finds one.
-use Rattle.std.proofs.Common.{◌≡◌, ◌⊎◌, ℕ, zero, suc, ◌<◌, ◌≤◌, Bool, true, false, Option, Some}
-use Rattle.std.proofs.Common.{None, IfSome, refl, sym, ap, ap₂, ◌∙◌, subst, inl, inr, arith, List}
-use Rattle.std.proofs.Common.{[], ◌∷◌, ◌++◌, IsTrue}
-use Rattle.std.specs.List.{list_all}
-use Rattle.std.proofs.lemmas.Bool.{cases_eq, cases_lt}
+use Rattle.chess.proofs.Common.{◌≡◌, ◌⊎◌, ℕ, zero, suc, ◌<◌, ◌≤◌, Bool, true, false, Option, Some}
+use Rattle.chess.proofs.Common.{None, IfSome, refl, sym, ap, ap₂, ◌∙◌, subst, inl, inr, arith, List}
+use Rattle.chess.proofs.Common.{[], ◌∷◌, ◌++◌, IsTrue, list_all, cases_eq, cases_lt}
 
 abbrev pub Settled : Type 0 → Type 0
 Settled A = A ⊎ (A → ⊥)

@@ -1,11 +1,9 @@
 -- How many squares a bitboard shows.
 use Rattle.std.proofs.Common.{◌≡◌, ◌<◌, ◌≤◌, ◌+◌, ◌*◌, ◌/◌, ◌%◌, ◌^◌, ℕ, zero, suc, inl, inr, ap}
 use Rattle.std.proofs.Common.{◌∙◌, arith, bit_and, count_ones}
-use Rattle.std.proofs.lemmas.Bool.{cases_eq}
 use Rattle.std.proofs.lemmas.Nat.{ones_cat, ones_le_self, zero_from_ones, shr-shr}
-use Rattle.std.proofs.lemmas.Nat.Bits.{shr_and_one}
-use Rattle.chess.specs.Public.Sets.{size_of}
-use Rattle.chess.specs.Shared.SetBitboards.{first_places, places_of, has_bit}
+use Rattle.chess.proofs.Common.{cases_eq, shr_and_one, size_of, places_of, has_bit}
+use Rattle.chess.specs.Shared.SetBitboards.{first_places}
 use Rattle.chess.specs.Shared.SetFacts.{size-no_places, size-next_bit}
 
 ones_low : (b : ℕ) → b < 2 → count_ones b ≡ b

@@ -1,20 +1,14 @@
 -- A man that goes to an empty square by his own bitboard alone: he is then carried as if the
 -- squares were cleared and he set on one of them.
-use Rattle.std.proofs.Common.{◌≡◌, ◌<◌, ◌+◌, ◌%◌, ◌^◌, ◌&&◌, ◌||◌, bit_or, bit_and, bit_xor, length}
-use Rattle.std.proofs.Common.{slice_set, nat_eq, ℕ, Bool, true, false, not, if◌then◌else◌, inl, inr}
-use Rattle.std.proofs.Common.{ap, refl, sym, ◌∙◌, arith, List, Some}
-use Rattle.std.specs.Int.{bit_at}
-use Rattle.std.proofs.lemmas.Bool.{cases_eq, eqb-true, eq-eqb, ne_eqb, true≢false, or_left}
-use Rattle.std.proofs.lemmas.Bool.{or_right}
-use Rattle.std.proofs.lemmas.Nat.Bits.{bit_at-lt, bit_at_xor}
-use Rattle.std.proofs.lemmas.List.{get_or-set_same, get_or-set_other, length-map}
-use Rattle.chess.specs.Public.Squares.{Place, IsOnBoard, index_of}
-use Rattle.chess.specs.Public.Placements.{Placement, man_at, IsEmpty}
-use Rattle.chess.specs.Shared.SetBitboards.{has_bit}
-use Rattle.chess.specs.Shared.SetFacts.{index_of-below, false_of}
-use Rattle.chess.specs.Private.Bitboards.{IsBitboardOf, AreApart, IsSlid, words_men, bitboard_at}
-use Rattle.chess.specs.Private.Bitboards.{row_of, square_bitboard}
-use Rattle.chess.specs.declared.board.man.Man.{Man}
+use Rattle.std.proofs.lemmas.Nat.Bits.{bit_at_xor}
+use Rattle.chess.proofs.Common.{◌≡◌, ◌<◌, ◌+◌, ◌%◌, ◌^◌, ◌&&◌, ◌||◌, bit_or, bit_and, bit_xor}
+use Rattle.chess.proofs.Common.{length, slice_set, nat_eq, ℕ, Bool, true, false, not, if◌then◌else◌}
+use Rattle.chess.proofs.Common.{inl, inr, ap, refl, sym, ◌∙◌, arith, List, Some, bit_at, cases_eq}
+use Rattle.chess.proofs.Common.{eqb-true, eq-eqb, ne_eqb, true≢false, or_left, or_right, bit_at-lt}
+use Rattle.chess.proofs.Common.{get_or-set_same, get_or-set_other, length-map, Place, IsOnBoard}
+use Rattle.chess.proofs.Common.{index_of, Placement, man_at, IsEmpty, has_bit, index_of-below}
+use Rattle.chess.proofs.Common.{false_of, IsBitboardOf, AreApart, IsSlid, words_men, bitboard_at}
+use Rattle.chess.proofs.Common.{row_of, square_bitboard, Man}
 use Rattle.chess.proofs.PlaceFacts.{some_not_none}
 use Rattle.chess.proofs.FillFacts.{bit_of_either, has_own_bit}
 use Rattle.chess.proofs.AttackFacts.{no_common_square}

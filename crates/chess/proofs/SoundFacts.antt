@@ -1,27 +1,14 @@
 -- A move keeps a position sound.
-use Rattle.std.proofs.Common.{◌≡◌, ◌≢◌, ◌≤◌, ◌+◌, ◌/◌, ◌&&◌, ◌⊎◌, ℕ, true, false, not, inl, inr, ap}
-use Rattle.std.proofs.Common.{refl, sym, subst, ◌∙◌, arith, Option, Some, None, IfSome}
-use Rattle.std.proofs.Common.{if◌then◌else◌}
-use Rattle.std.specs.Prelude.{◌==◌}
-use Rattle.std.proofs.lemmas.Bool.{eqb-true}
-use Rattle.chess.specs.Public.Squares.{Place, same_square, gap}
-use Rattle.chess.specs.Public.Placements.{man_at, opposite, IsEmpty}
-use Rattle.chess.specs.Public.Attacks.{IsForward}
-use Rattle.chess.specs.Public.Positions.{State, king_of, rook_of, pawn_of, home_rank, pawn_rank}
-use Rattle.chess.specs.Public.Positions.{passed_rank, has_right, king_from, rook_from, IsCheck}
-use Rattle.chess.specs.Public.Positions.{IsOnlyKing, IsSound, FitsEnPassant}
-use Rattle.chess.specs.Public.Moves.{Goes, IsPromotion, Promotes, IsPawnMove, IsDoubleStep}
-use Rattle.chess.specs.Public.Moves.{arriving, is_pawn, men_after, keeps_right, rights_after}
-use Rattle.chess.specs.Public.Moves.{en_passant_after, after}
-use Rattle.chess.specs.declared.board.man.Man.{Man}
-use Rattle.chess.specs.declared.board.man.Side.{Side}
-use Rattle.chess.specs.declared.board.man.Side.TheVariants.{White, Black}
-use Rattle.chess.specs.declared.board.man.Kind.{Kind}
-use Rattle.chess.specs.declared.board.man.Kind.TheVariants.{Rook, Pawn}
-use Rattle.chess.specs.declared.board.man.Wing.{Wing}
-use Rattle.chess.specs.declared.board.man.Wing.TheVariants.{KingSide}
-use Rattle.chess.specs.declared.board.man.CastlingRights.{CastlingRights}
-use Rattle.chess.specs.declared.moves.Move.{Move}
+use Rattle.chess.proofs.Common.{◌≡◌, ◌≢◌, ◌≤◌, ◌+◌, ◌/◌, ◌&&◌, ◌⊎◌, ℕ, true, false, not, inl, inr}
+use Rattle.chess.proofs.Common.{ap, refl, sym, subst, ◌∙◌, arith, Option, Some, None, IfSome}
+use Rattle.chess.proofs.Common.{if◌then◌else◌, ◌==◌, eqb-true, Place, same_square, gap, man_at}
+use Rattle.chess.proofs.Common.{opposite, IsEmpty, IsForward, State, king_of, rook_of, pawn_of}
+use Rattle.chess.proofs.Common.{home_rank, pawn_rank, passed_rank, has_right, king_from, rook_from}
+use Rattle.chess.proofs.Common.{IsCheck, IsOnlyKing, IsSound, FitsEnPassant, Goes, IsPromotion}
+use Rattle.chess.proofs.Common.{Promotes, IsPawnMove, IsDoubleStep, arriving, is_pawn, men_after}
+use Rattle.chess.proofs.Common.{keeps_right, rights_after, after, Man, Side, White, Black, Kind}
+use Rattle.chess.proofs.Common.{Rook, Pawn, Wing, KingSide, CastlingRights, Move}
+use Rattle.chess.specs.Public.Moves.{en_passant_after}
 use Rattle.chess.proofs.PlaceFacts.{place_of, cases_place, same_square-same, cases_side}
 use Rattle.chess.proofs.PlaceFacts.{opposite-opposite, same_kind, some_not_none, man_of, true_not}
 use Rattle.chess.proofs.GoesFacts.{IsTried, goes_castle, has_arrived}

@@ -1,18 +1,10 @@
 -- A text is read as a sound position exactly where it spells one.
-use Rattle.std.proofs.Common.{◌≡◌, ◌≢◌, ◌<◌, ◌⊎◌, ◌↔◌, ℕ, zero, suc, inl, inr, ap, refl, sym, subst}
-use Rattle.std.proofs.Common.{◌∙◌, arith, Option, Some, None, List}
-use Rattle.std.proofs.lemmas.Bool.{cases_eq}
-use Rattle.chess.specs.Public.Squares.{Place, square_at, index_of}
-use Rattle.chess.specs.Shared.SquareFacts.{index_of-square_at}
-use Rattle.chess.specs.Shared.SetFacts.{square_at-index_of, index_of-below}
-use Rattle.chess.specs.Public.Placements.{Placement, man_at, AreOnBoard}
-use Rattle.chess.specs.Public.Positions.{State, king_of, IsOnlyKing, IsSound}
-use Rattle.chess.specs.Public.Fen.{SpellsPosition, ReadsFen, HasWrongKings}
-use Rattle.chess.specs.declared.board.man.Man.{Man}
-use Rattle.chess.specs.declared.board.man.Side.{Side}
-use Rattle.chess.specs.declared.board.man.Side.TheVariants.{White, Black}
-use Rattle.chess.specs.declared.board.man.Kind.{Kind}
-use Rattle.chess.specs.declared.board.man.Kind.TheVariants.{King}
+use Rattle.chess.proofs.Common.{◌≡◌, ◌≢◌, ◌<◌, ◌⊎◌, ◌↔◌, ℕ, zero, suc, inl, inr, ap, refl, sym}
+use Rattle.chess.proofs.Common.{subst, ◌∙◌, arith, Option, Some, None, List, cases_eq, Place}
+use Rattle.chess.proofs.Common.{square_at, index_of, index_of-square_at, square_at-index_of}
+use Rattle.chess.proofs.Common.{index_of-below, Placement, man_at, AreOnBoard, State, king_of}
+use Rattle.chess.proofs.Common.{IsOnlyKing, IsSound, SpellsPosition, ReadsFen, HasWrongKings, Man}
+use Rattle.chess.proofs.Common.{Side, White, Black, Kind, King}
 use Rattle.chess.proofs.PlaceFacts.{same_side, same_kind, man_of}
 use Rattle.chess.proofs.FenFacts.{spelled_kept, HasKings}
 

@@ -1,24 +1,16 @@
 -- What a move text says and its bytes by their places are the same.
-use Rattle.std.proofs.Common.{◌≡◌, ◌+◌, ◌-◌, ◌≤◌, ◌⊎◌, ℕ, Bool, true, false, inl, inr, ap, refl}
-use Rattle.std.proofs.Common.{sym, subst, ◌∙◌, arith, Option, Some, None, IfSome, IsTrue, List, []}
-use Rattle.std.proofs.Common.{◌∷◌, ◌++◌, reverse, option_map, is_some}
 use Rattle.std.specs.Prelude.{if◌then◌else◌}
-use Rattle.std.specs.List.{list_all}
-use Rattle.std.proofs.lemmas.List.{append_assoc, append-nil, reverse-reverse}
-use Rattle.std.proofs.lemmas.Bool.Decides.{nat_tests}
-use Rattle.chess.specs.Public.Letters.{is_check_sign, is_sign, kind_letter, file_letter, rank_digit}
-use Rattle.chess.specs.Public.San.{Said, Spells, letter_text, file_text, rank_text, promotion_text}
-use Rattle.chess.specs.Public.San.{IsFileOrRank}
-use Rattle.chess.specs.Public.Moves.{IsPromotionKind}
+use Rattle.chess.proofs.Common.{◌≡◌, ◌+◌, ◌-◌, ◌≤◌, ◌⊎◌, ℕ, Bool, true, false, inl, inr, ap, refl}
+use Rattle.chess.proofs.Common.{sym, subst, ◌∙◌, arith, Option, Some, None, IfSome, IsTrue, List}
+use Rattle.chess.proofs.Common.{[], ◌∷◌, ◌++◌, reverse, option_map, is_some, list_all, append_assoc}
+use Rattle.chess.proofs.Common.{append-nil, reverse-reverse, nat_tests, is_check_sign, is_sign}
+use Rattle.chess.proofs.Common.{kind_letter, file_letter, rank_digit, Said, Spells, letter_text}
+use Rattle.chess.proofs.Common.{file_text, rank_text, promotion_text, IsFileOrRank, IsPromotionKind}
+use Rattle.chess.proofs.Common.{Kind, King, Queen, Rook, Bishop, Knight, ByteClass, Sign, Digit}
+use Rattle.chess.proofs.Common.{FileLetter, KindLetter, Equals, PromotionLetter}
 use Rattle.chess.specs.Private.SanWords.{is_of, before_last, after_target, after_sign, after_letter}
 use Rattle.chess.specs.Private.SanWords.{kind_of, last_of, unmarked, stem, after_rank, after_file}
 use Rattle.chess.specs.Private.SanWords.{kind_given, number_given, before_equals, after_target_rank}
-use Rattle.chess.specs.declared.board.man.Kind.{Kind}
-use Rattle.chess.specs.declared.board.man.Kind.TheVariants.{King, Queen, Rook, Bishop, Knight}
-use Rattle.chess.specs.declared.move_text.read.parse.ByteClass.{ByteClass}
-use Rattle.chess.specs.declared.move_text.read.parse.ByteClass.TheVariants.{Sign, Digit, FileLetter}
-use Rattle.chess.specs.declared.move_text.read.parse.ByteClass.TheVariants.{KindLetter, Equals}
-use Rattle.chess.specs.declared.move_text.read.parse.ByteClass.TheVariants.{PromotionLetter}
 use Rattle.chess.proofs.ReadingFacts.{given, taken_whole}
 use Rattle.chess.proofs.CastlingTextFacts.{marks_of}
 use Rattle.chess.proofs.TextParts.{Bytes, AreBytes, IsGivenOf, stem_text, turned_text, turned}

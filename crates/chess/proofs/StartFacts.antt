@@ -1,28 +1,15 @@
 -- The initial position is sound.
-use Rattle.std.proofs.Common.{◌≡◌, ◌≢◌, ◌≤◌, ◌+◌, ◌-◌, ◌/◌, ◌&&◌, ◌||◌, ℕ, suc, Bool, true, false}
-use Rattle.std.proofs.Common.{not, inl, inr, ap, refl, sym, subst, ◌∙◌, arith, Option, Some, None}
-use Rattle.std.proofs.Common.{if◌then◌else◌}
-use Rattle.std.specs.Prelude.{◌==◌}
-use Rattle.std.proofs.lemmas.Bool.{agree_below, agree_below_at, eqb-true}
-use Rattle.std.proofs.lemmas.Bool.Decides.{nat_tests}
-use Rattle.chess.specs.Public.Squares.{Place, IsOnBoard, square_at, index_of, IsAhead}
-use Rattle.chess.specs.Shared.SetFacts.{square_at-index_of, index_of-below}
+use Rattle.chess.proofs.Common.{◌≡◌, ◌≢◌, ◌≤◌, ◌+◌, ◌-◌, ◌/◌, ◌&&◌, ◌||◌, ℕ, suc, Bool, true, false}
+use Rattle.chess.proofs.Common.{not, inl, inr, ap, refl, sym, subst, ◌∙◌, arith, Option, Some, None}
+use Rattle.chess.proofs.Common.{if◌then◌else◌, ◌==◌, agree_below, agree_below_at, eqb-true}
+use Rattle.chess.proofs.Common.{nat_tests, Place, IsOnBoard, square_at, index_of, IsAhead}
+use Rattle.chess.proofs.Common.{square_at-index_of, index_of-below, Reaches, IsOnRay, IsAttacked}
+use Rattle.chess.proofs.Common.{man_at-men_of, on_board-men_of, king_of, rook_of, pawn_of}
+use Rattle.chess.proofs.Common.{king_from, rook_from, IsOnlyKing, IsCheck, IsKept, initial_piece}
+use Rattle.chess.proofs.Common.{initial_man, initial_men, initial, Direction, North, NorthEast}
+use Rattle.chess.proofs.Common.{NorthWest, Man, Side, White, Black, Kind, King, Queen, Rook, Bishop}
+use Rattle.chess.proofs.Common.{Knight, Pawn, Wing, KingSide, QueenSide}
 use Rattle.chess.specs.Public.Placements.{first_men, no_men, with_man, man_at, IsEmpty}
-use Rattle.chess.specs.Public.Attacks.{Reaches, IsOnRay, IsAttacked}
-use Rattle.chess.specs.Shared.CellFacts.{man_at-men_of, on_board-men_of}
-use Rattle.chess.specs.Public.Positions.{king_of, rook_of, pawn_of, king_from, rook_from}
-use Rattle.chess.specs.Public.Positions.{IsOnlyKing, IsCheck}
-use Rattle.chess.specs.Shared.Codes.{IsKept}
-use Rattle.chess.specs.Public.Start.{initial_piece, initial_man, initial_men, initial}
-use Rattle.chess.specs.declared.board.direction.Direction.{Direction}
-use Rattle.chess.specs.declared.board.direction.Direction.TheVariants.{North, NorthEast, NorthWest}
-use Rattle.chess.specs.declared.board.man.Man.{Man}
-use Rattle.chess.specs.declared.board.man.Side.{Side}
-use Rattle.chess.specs.declared.board.man.Side.TheVariants.{White, Black}
-use Rattle.chess.specs.declared.board.man.Kind.{Kind}
-use Rattle.chess.specs.declared.board.man.Kind.TheVariants.{King, Queen, Rook, Bishop, Knight, Pawn}
-use Rattle.chess.specs.declared.board.man.Wing.{Wing}
-use Rattle.chess.specs.declared.board.man.Wing.TheVariants.{KingSide, QueenSide}
 use Rattle.chess.proofs.PlaceFacts.{some_not_none, same_kind}
 
 -- who stands on a square of the board

@@ -1,13 +1,9 @@
 -- The text of the initial position in FEN.
-use Rattle.std.proofs.Common.{◌≡◌, ℕ, ◌≤◌, List, [], ◌∷◌, sym, ap, ◌∙◌, arith}
-use Rattle.std.proofs.lemmas.Fmt.{decimal_digit}
-use Rattle.std.specs.Prelude.{codes, decimal, Option}
-use Rattle.chess.specs.Public.Placements.{man_at}
-use Rattle.chess.specs.Public.Start.{initial, initial_man, initial_men}
-use Rattle.chess.specs.Public.Fen.{row, side_text, joined, or_dash, rights_letters, en_passant_text}
-use Rattle.chess.specs.Public.Fen.{IsFen}
-use Rattle.chess.specs.Private.FenTextWords.{spelled_from, rank_texts}
-use Rattle.chess.specs.declared.board.man.Man.{Man}
+use Rattle.std.specs.Prelude.{codes, Option}
+use Rattle.chess.proofs.Common.{◌≡◌, ℕ, ◌≤◌, List, [], ◌∷◌, sym, ap, ◌∙◌, arith, decimal_digit}
+use Rattle.chess.proofs.Common.{decimal, man_at, initial, initial_man, initial_men, row, side_text}
+use Rattle.chess.proofs.Common.{joined, or_dash, rights_letters, en_passant_text, IsFen}
+use Rattle.chess.proofs.Common.{spelled_from, rank_texts, Man}
 use Rattle.chess.proofs.FenTextFacts.{spell_ranks, shortest_ranks}
 use Rattle.chess.proofs.StartFacts.{initial_at}
 

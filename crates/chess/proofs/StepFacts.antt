@@ -1,12 +1,9 @@
 -- One step of a bitboard is the next square on its way, or none: computed for each square and way.
-use Rattle.std.proofs.Common.{◌≡◌, ◌<◌, ◌-◌, ◌^◌, ◌%◌, ◌/◌, ℕ, Bool, true, false, nat_eq, inl, inr}
-use Rattle.std.proofs.Common.{ap, refl, sym, subst, ◌∙◌, arith, if◌then◌else◌}
-use Rattle.std.proofs.lemmas.Bool.{agree_below, agree_below_at, eqb-true, false≢true}
-use Rattle.chess.specs.Public.Squares.{Place, IsOnBoard, index_of}
-use Rattle.chess.specs.Shared.SetFacts.{index_of-below}
-use Rattle.chess.specs.Private.Bitboards.{square_bitboard, step_bitboard, IsNextBitboard}
-use Rattle.chess.specs.declared.board.direction.Direction.{Direction}
-use Rattle.chess.specs.declared.board.direction.Direction.TheVariants.{North}
+use Rattle.chess.proofs.Common.{◌≡◌, ◌<◌, ◌-◌, ◌^◌, ◌%◌, ◌/◌, ℕ, Bool, true, false, nat_eq, inl}
+use Rattle.chess.proofs.Common.{inr, ap, refl, sym, ◌∙◌, arith, if◌then◌else◌, agree_below}
+use Rattle.chess.proofs.Common.{agree_below_at, eqb-true, false≢true, Place, IsOnBoard, index_of}
+use Rattle.chess.proofs.Common.{index_of-below, square_bitboard, step_bitboard, IsNextBitboard}
+use Rattle.chess.proofs.Common.{Direction, North}
 use Rattle.chess.proofs.AxisSteps.{has_room, place_to, ahead_at, room_from, room_to, room_at}
 use Rattle.chess.proofs.AxisSteps.{ahead_index}
 
@@ -61,5 +58,4 @@ step_next way bitboard s h e =
 pub step_by : (way other : Direction) (bitboard : ℕ) (s : Place) → way ≡ other → IsOnBoard s
     → bitboard ≡ square_bitboard s → IsNextBitboard way s (step_bitboard other bitboard)
 step_by way other bitboard s e h at =
-    subst (λ (d : Direction). IsNextBitboard way s (step_bitboard d bitboard)) e
-    (step_next way bitboard s h at)
+    rw (← e) (step_next way bitboard s h at)

@@ -1,17 +1,11 @@
 -- The pawn that steps to a square: it comes from the next square back, or over that one from the
 -- square before it.
-use Rattle.std.proofs.Common.{◌≡◌, ◌⊎◌, ◌≤◌, ◌||◌, ℕ, inl, inr, ap, sym, subst, ◌∙◌, arith, None}
-use Rattle.std.proofs.lemmas.Bool.{or_cases}
-use Rattle.chess.specs.Public.Squares.{Place, IsOnBoard, same_square, gap}
-use Rattle.chess.specs.Public.Placements.{man_at, opposite, IsEmpty}
-use Rattle.chess.specs.Public.Attacks.{IsForward}
-use Rattle.chess.specs.Public.Positions.{State}
-use Rattle.chess.specs.Public.Moves.{IsSingleStep, IsDoubleStep, IsPawnCapture, IsPawnMove}
-use Rattle.chess.specs.Private.MoveWords.{IsMover, IsStepper, CanStepOver, IsSquareAhead}
-use Rattle.chess.specs.declared.board.man.Side.{Side}
-use Rattle.chess.specs.declared.board.man.Side.TheVariants.{White, Black}
-use Rattle.chess.specs.declared.board.man.Kind.TheVariants.{Pawn}
-use Rattle.chess.specs.Public.Sets.{Places, is_in, no_places, HoldsExactly}
+use Rattle.chess.proofs.Common.{◌≡◌, ◌⊎◌, ◌≤◌, ◌||◌, ℕ, inl, inr, ap, sym, subst, ◌∙◌, arith, None}
+use Rattle.chess.proofs.Common.{or_cases, Place, IsOnBoard, same_square, gap, man_at, opposite}
+use Rattle.chess.proofs.Common.{IsEmpty, IsForward, State, IsSingleStep, IsDoubleStep}
+use Rattle.chess.proofs.Common.{IsPawnCapture, IsPawnMove, IsMover, IsStepper, CanStepOver}
+use Rattle.chess.proofs.Common.{IsSquareAhead, Side, White, Black, Pawn, Places, is_in, no_places}
+use Rattle.chess.proofs.Common.{HoldsExactly}
 use Rattle.chess.proofs.PlaceFacts.{place_of, some_not_none, same_square-same, same_square-then}
 use Rattle.chess.proofs.PlaceFacts.{true_not_false}
 use Rattle.chess.proofs.LoopFacts.{not_in}
@@ -75,8 +69,7 @@ no_step_edge P side t e there none s on (pawn, inl single) =
 no_step_edge P side t e there none s on (pawn, inr double) =
     let rear = first_at_rear P s t double in
     none double.passed (passed_on P s t on there double) rear.0
-    (subst (λ a. IsForward a t.rank double.passed.rank) (sym e)
-    (back P.turn double.passed.rank t.rank rear.1))
+    (rw e (back P.turn double.passed.rank t.rank rear.1))
 
 -- the pawn on the square back
 pub steps_once : (P : State) (t one : Place) → IsEmpty P.men t → IsAtRear P.turn t one

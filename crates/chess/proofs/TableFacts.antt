@@ -1,9 +1,7 @@
 -- Tables of words are held against tests of squares by computing.
-use Rattle.std.proofs.Common.{◌≡◌, ℕ, Bool, true, get_or, List, ◌∙◌}
-use Rattle.std.proofs.lemmas.Bool.{agree_below, agree_below_at}
-use Rattle.chess.specs.Public.Squares.{Place, IsOnBoard, square_at, index_of}
-use Rattle.chess.specs.Shared.SetBitboards.{has_bit}
-use Rattle.chess.specs.Shared.SetFacts.{square_at-index_of, index_of-below}
+use Rattle.chess.proofs.Common.{◌≡◌, ℕ, Bool, true, get_or, List, ◌∙◌, agree_below, agree_below_at}
+use Rattle.chess.proofs.Common.{Place, IsOnBoard, square_at, index_of, has_bit, square_at-index_of}
+use Rattle.chess.proofs.Common.{index_of-below}
 use Rattle.chess.proofs.LeaperFacts.{fits_bitboard}
 
 -- each of 64 words of a table has the squares that pass the test with its own square

@@ -1,22 +1,14 @@
 -- Worked rows of letters, move texts and FEN: what the PGN standard says of single texts.
-use Rattle.std.proofs.Common.{◌≡◌, ◌≤◌, ◌+◌, ℕ, true, false, inl, inr, ap, refl, arith, Some, None}
-use Rattle.std.proofs.Common.{List, [], ◌∷◌, length, codes}
-use Rattle.chess.specs.Public.Squares.{Place}
-use Rattle.chess.specs.Public.Letters.{kind_letter, man_letter, square_text, is_sign, is_check_sign}
-use Rattle.chess.specs.Public.San.{Spells, promotion_text, IsFileOrRank, castling_text}
-use Rattle.chess.specs.Public.San.{castling_with_zeros, IsCastlingText, kind_said}
-use Rattle.chess.specs.Public.Fen.{fields_of, parted_at, is_step, SpellsRank, side_text}
-use Rattle.chess.specs.Public.Fen.{right_letter, has_byte, is_distinct, GivesRights, GivesEnPassant}
-use Rattle.chess.specs.Public.Fen.{is_digit, IsCount, GiveCounts, joined, rights_letters, or_dash}
-use Rattle.chess.specs.Public.Fen.{en_passant_text}
-use Rattle.chess.specs.Public.Fen.IsSquares.{letter, step}
-use Rattle.chess.specs.declared.board.man.Side.{Side}
-use Rattle.chess.specs.declared.board.man.Side.TheVariants.{White, Black}
-use Rattle.chess.specs.declared.board.man.Kind.TheVariants.{King, Queen, Rook, Bishop, Knight, Pawn}
-use Rattle.chess.specs.Public.Positions.{has_right}
-use Rattle.chess.specs.declared.board.man.Wing.{Wing}
-use Rattle.chess.specs.declared.board.man.Wing.TheVariants.{KingSide, QueenSide}
-use Rattle.chess.specs.declared.board.man.CastlingRights.{CastlingRights}
+use Rattle.chess.proofs.Common.{◌≡◌, ◌≤◌, ◌+◌, ℕ, true, false, inl, inr, ap, refl, arith, Some}
+use Rattle.chess.proofs.Common.{None, List, [], ◌∷◌, length, codes, Place, kind_letter, man_letter}
+use Rattle.chess.proofs.Common.{square_text, is_sign, is_check_sign, Spells, promotion_text}
+use Rattle.chess.proofs.Common.{IsFileOrRank, castling_text, castling_with_zeros, IsCastlingText}
+use Rattle.chess.proofs.Common.{kind_said, fields_of, parted_at, is_step, SpellsRank, side_text}
+use Rattle.chess.proofs.Common.{right_letter, has_byte, is_distinct, GivesRights, GivesEnPassant}
+use Rattle.chess.proofs.Common.{is_digit, IsCount, GiveCounts, joined, rights_letters, or_dash}
+use Rattle.chess.proofs.Common.{en_passant_text, letter, step, Side, White, Black, King, Queen}
+use Rattle.chess.proofs.Common.{Rook, Bishop, Knight, Pawn, has_right, Wing, KingSide, QueenSide}
+use Rattle.chess.proofs.Common.{CastlingRights}
 
 abbrev at : ℕ → ℕ → Place
 at file rank = record { file = file; rank = rank }

@@ -1,19 +1,13 @@
 -- A move text is its bytes by their places, and marks; read from its end, each byte is found at its
 -- place.
-use Rattle.std.proofs.Common.{◌≡◌, ℕ, true, false, ap, refl, ◌∙◌, arith, Option, Some, None, IfSome}
-use Rattle.std.proofs.Common.{IsTrue, List, [], ◌∷◌, ◌++◌, reverse}
 use Rattle.std.specs.Prelude.{if◌then◌else◌}
-use Rattle.std.specs.List.{list_all}
-use Rattle.std.proofs.lemmas.List.{append_assoc, reverse-append}
-use Rattle.std.proofs.lemmas.Bool.Decides.{nat_tests}
-use Rattle.chess.specs.Public.Letters.{is_check_sign}
-use Rattle.chess.specs.Private.SanWords.{is_of, last_of, before_last, unmarked, before_equals, stem}
-use Rattle.chess.specs.Private.SanWords.{after_target_rank, after_sign, after_rank, after_file}
-use Rattle.chess.specs.Private.SanWords.{after_letter}
-use Rattle.chess.specs.declared.move_text.read.parse.ByteClass.{ByteClass}
-use Rattle.chess.specs.declared.move_text.read.parse.ByteClass.TheVariants.{Sign, Digit, FileLetter}
-use Rattle.chess.specs.declared.move_text.read.parse.ByteClass.TheVariants.{KindLetter, Equals}
-use Rattle.chess.specs.declared.move_text.read.parse.ByteClass.TheVariants.{PromotionLetter}
+use Rattle.chess.proofs.Common.{◌≡◌, ℕ, true, false, ap, refl, ◌∙◌, arith, Option, Some, None}
+use Rattle.chess.proofs.Common.{IfSome, IsTrue, List, [], ◌∷◌, ◌++◌, reverse, list_all}
+use Rattle.chess.proofs.Common.{append_assoc, reverse-append, nat_tests, is_check_sign, is_of}
+use Rattle.chess.proofs.Common.{last_of, before_last, unmarked, before_equals, stem}
+use Rattle.chess.proofs.Common.{after_target_rank, after_sign, after_rank, after_file, after_letter}
+use Rattle.chess.proofs.Common.{ByteClass, Sign, Digit, FileLetter, KindLetter, Equals}
+use Rattle.chess.proofs.Common.{PromotionLetter}
 use Rattle.chess.proofs.ReadingFacts.{BeginsOtherwise, given, taken_given, begins_given}
 use Rattle.chess.proofs.CastlingTextFacts.{marks_off}
 

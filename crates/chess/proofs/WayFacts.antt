@@ -1,14 +1,8 @@
 -- Where legal moves begin, and where pawns go.
-use Rattle.std.proofs.Common.{◌≡◌, ◌≤◌, ℕ, inl, inr, ap, refl, subst, ◌∙◌, arith, Some, None}
-use Rattle.chess.specs.Public.Squares.{Place, IsOnBoard}
-use Rattle.chess.specs.Public.Attacks.{IsForward}
-use Rattle.chess.specs.Public.Positions.{State}
-use Rattle.chess.specs.Public.Moves.{CanGo, HasMove, IsLegal}
+use Rattle.chess.proofs.Common.{◌≡◌, ◌≤◌, ℕ, inl, inr, ap, refl, subst, ◌∙◌, arith, Some, None}
+use Rattle.chess.proofs.Common.{Place, IsOnBoard, IsForward, State, CanGo, HasMove, IsLegal, Side}
+use Rattle.chess.proofs.Common.{White, Black, Kind, King, Queen, Rook, Bishop, Knight, Pawn}
 use Rattle.chess.specs.Private.MoveWords.{IsMover, CanMove, IsPawnGoal, IsSquareAhead, CanPromote}
-use Rattle.chess.specs.declared.board.man.Side.{Side}
-use Rattle.chess.specs.declared.board.man.Side.TheVariants.{White, Black}
-use Rattle.chess.specs.declared.board.man.Kind.{Kind}
-use Rattle.chess.specs.declared.board.man.Kind.TheVariants.{King, Queen, Rook, Bishop, Knight, Pawn}
 use Rattle.chess.proofs.PlaceFacts.{man_of}
 
 -- a man of the side to move stands where a legal move begins

@@ -1,6 +1,4 @@
-use Rattle.std.proofs.Common.{subst, Option, MatchOption}
-use Rattle.chess.specs.Public.Squares.{Place}
-use Rattle.chess.specs.Shared.SetBitboards.{HasOnly, IsTakenFirst}
+use Rattle.chess.proofs.Common.{Option, MatchOption, Place, HasOnly, IsTakenFirst}
 use Rattle.chess.proofs.LoopFacts.{fewer}
 use Rattle.chess.proofs.PlaceFacts.{true_not_false}
 use Rattle.chess.proofs.AttackerFacts.{searched_start, searched_more, searched_none, attackers_are}
@@ -10,9 +8,7 @@ use Rattle.chess.proofs.board.attack_tables.attackers_of.Goals as goal
 pub returns-then-is_unblocked : goal.returns-then-is_unblocked
 returns-then-is_unblocked c p men =
     let only =
-    subst (λ (o : Option Place).
-    MatchOption o ((s : Place) → HasOnly c.of_bitboard-left.result s
-    → ⊥) (HasOnly c.of_bitboard-left.result)) c.in-Some.is c.only.ensures in
+    rw c.in-Some.is at c.only.ensures in
     attackers_are p c.args.man c.args.target c.args.own c.pseudo_attacks_on.result c.args.occupied
     c.of_bitboard-left.result c.pseudo_attacks_on.ensures
     (one_open c.args.target _ c.args.occupied c.of_bitboard-left.result c.in-Some.square
@@ -21,9 +17,7 @@ returns-then-is_unblocked c p men =
 pub returns-in-Some : goal.returns-in-Some
 returns-in-Some c p men =
     let only =
-    subst (λ (o : Option Place).
-    MatchOption o ((s : Place) → HasOnly c.of_bitboard-left.result s
-    → ⊥) (HasOnly c.of_bitboard-left.result)) c.in-Some.is c.only.ensures in
+    rw c.in-Some.is at c.only.ensures in
     attackers_are p c.args.man c.args.target c.args.own c.pseudo_attacks_on.result c.args.occupied
     c.new.result c.pseudo_attacks_on.ensures
     (one_blocked c.args.target _ c.args.occupied c.of_bitboard-left.result c.new.result
@@ -42,9 +36,7 @@ loop-square-preserved c =
     searched_more c.args.target _ c.args.occupied c.loop-square.left c.take_first.new.self
     c.loop-square.set c.insert_if.new.self
     c.in-Some-take_first.square c.is_unblocked-in-Some-take_first.result c.loop-square.invariant
-    (subst (λ (o : Option Place).
-    IsTakenFirst c.loop-square.left c.take_first.new.self o) c.in-Some-take_first.is
-    c.take_first.ensures)
+    (rw c.in-Some-take_first.is at c.take_first.ensures)
     c.is_unblocked-in-Some-take_first.ensures c.insert_if.ensures
 
 pub returns : goal.returns
@@ -53,13 +45,9 @@ returns c p men =
     c.loop-square.set c.pseudo_attacks_on.ensures
     (searched_none c.args.target _ c.args.occupied c.loop-square.left c.take_first.new.self
     c.loop-square.set c.loop-square.invariant
-    (subst (λ (o : Option Place).
-    IsTakenFirst c.loop-square.left c.take_first.new.self o) c.in_default-take_first.is
-    c.take_first.ensures)) men
+    (rw c.in_default-take_first.is at c.take_first.ensures)) men
 
 pub loop-square-smaller : goal.loop-square-smaller
 loop-square-smaller c =
     fewer c.loop-square.left c.take_first.new.self c.in-Some-take_first.square
-    (subst (λ (o : Option Place).
-    IsTakenFirst c.loop-square.left c.take_first.new.self o) c.in-Some-take_first.is
-    c.take_first.ensures)
+    (rw c.in-Some-take_first.is at c.take_first.ensures)

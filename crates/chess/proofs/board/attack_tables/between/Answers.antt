@@ -1,6 +1,4 @@
-use Rattle.std.proofs.Common.{sym, subst}
-use Rattle.chess.specs.Private.Bitboards.{IsBitboardOf}
-use Rattle.chess.specs.Private.PseudoAttacks.{StandsBetween}
+use Rattle.chess.proofs.Common.{sym, subst, IsBitboardOf, StandsBetween}
 use Rattle.chess.proofs.BetweenTable.{between_bitboard, between_is}
 use Rattle.chess.proofs.board.attack_tables.between.Goals as goal
 

@@ -1,6 +1,4 @@
-use Rattle.std.proofs.Common.{◌≡◌, subst, true, false, Option, refl}
-use Rattle.chess.specs.Public.Squares.{Place}
-use Rattle.chess.specs.Shared.SetBitboards.{IsTakenFirst}
+use Rattle.chess.proofs.Common.{◌≡◌, true, false, Option, refl, Place, IsTakenFirst}
 use Rattle.chess.proofs.PlaceFacts.{true_not_false}
 use Rattle.chess.proofs.LoopFacts.{fewer, left_more, left_none}
 use Rattle.chess.proofs.AttackerFacts.{IsOpenFrom, seek_start, found_open}
@@ -16,8 +14,7 @@ loop-square-preserved c =
     left_more _ (IsOpenFrom c.args.target c.args.squares c.args.occupied) c.loop-square.left
     c.take_first.new.self c.in-Some.square
     c.loop-square.invariant
-    (subst (λ (o : Option Place).
-    IsTakenFirst c.loop-square.left c.take_first.new.self o) c.in-Some.is c.take_first.ensures)
+    (rw c.in-Some.is at c.take_first.ensures)
     (λ free.
     true_not_false c.is_unblocked.result (c.is_unblocked.ensures.1 free.1)
     c.if-is_unblocked.false)
@@ -25,8 +22,7 @@ loop-square-preserved c =
 pub returns-then-is_unblocked : goal.returns-then-is_unblocked
 returns-then-is_unblocked c p men =
     let capture_square =
-    subst (λ (o : Option Place). IsTakenFirst c.loop-square.left c.take_first.new.self o)
-    c.in-Some.is c.take_first.ensures in
+    rw c.in-Some.is at c.take_first.ensures in
     let free = (found_open p c.args.target c.args.squares c.args.occupied c.in-Some.square men).0 (
       c.loop-square.invariant.within c.in-Some.square capture_square.0 capture_square.1,
       c.is_unblocked.ensures.0 c.if-is_unblocked.true,
@@ -40,14 +36,11 @@ returns c p men = (
       (left_none _ (IsOpenFrom c.args.target c.args.squares c.args.occupied) c.loop-square.left
       c.take_first.new.self
       c.loop-square.invariant
-      (subst (λ (o : Option Place).
-      IsTakenFirst c.loop-square.left c.take_first.new.self o) c.in_default.is
-      c.take_first.ensures)
+      (rw c.in_default.is at c.take_first.ensures)
       h.0 h.1 ((found_open p c.args.target c.args.squares c.args.occupied h.0 men).1 (h.2, h.3)))),
 )
 
 pub loop-square-smaller : goal.loop-square-smaller
 loop-square-smaller c =
     fewer c.loop-square.left c.take_first.new.self c.in-Some.square
-    (subst (λ (o : Option Place).
-    IsTakenFirst c.loop-square.left c.take_first.new.self o) c.in-Some.is c.take_first.ensures)
+    (rw c.in-Some.is at c.take_first.ensures)

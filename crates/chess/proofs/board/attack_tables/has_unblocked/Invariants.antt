@@ -1,8 +1,4 @@
-use Rattle.std.proofs.Common.{◌≡◌, true}
-use Rattle.chess.specs.Public.Squares.{index_of}
-use Rattle.chess.specs.Public.Sets.{size_of}
-use Rattle.chess.specs.Shared.SetBitboards.{has_bit}
-use Rattle.chess.specs.Private.MoveWords.{IsLeft}
+use Rattle.chess.proofs.Common.{◌≡◌, true, index_of, size_of, has_bit, IsLeft}
 use Rattle.chess.proofs.AttackerFacts.{IsOpenFrom}
 use Rattle.chess.proofs.board.attack_tables.has_unblocked.Given as goal
 

@@ -1,5 +1,4 @@
-use Rattle.std.proofs.Common.{◌<◌, ◌^◌, arith, rules}
-use Rattle.std.proofs.lemmas.Bool.Decides.{nat_tests}
+use Rattle.chess.proofs.Common.{◌<◌, ◌^◌, arith, rules, nat_tests}
 use Rattle.chess.proofs.AttackerFacts.{none_between, no_bits_between}
 use Rattle.chess.proofs.board.attack_tables.is_unblocked.Goals as goal
 

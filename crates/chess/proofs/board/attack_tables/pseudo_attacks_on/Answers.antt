@@ -1,8 +1,5 @@
-use Rattle.std.proofs.Common.{◌≡◌, ◌∙◌, ap, sym, get_or, []}
-use Rattle.chess.specs.Public.Squares.{index_of}
-use Rattle.chess.specs.Shared.SetBitboards.{has_bit}
-use Rattle.chess.specs.Private.Bitboards.{pseudo_attacks_row_of}
-use Rattle.chess.specs.declared.board.attack_tables.pseudo_attacks_table.TheConstants.{PSEUDO_ATTACKS}
+use Rattle.chess.proofs.Common.{◌≡◌, ◌∙◌, ap, sym, get_or, [], index_of, has_bit}
+use Rattle.chess.proofs.Common.{pseudo_attacks_row_of, PSEUDO_ATTACKS}
 use Rattle.chess.proofs.TableFacts.{table_bit}
 use Rattle.chess.proofs.PseudoAttacksTable.{attacks_fit}
 use Rattle.chess.proofs.PseudoAttackFacts.{sees, sees_is}

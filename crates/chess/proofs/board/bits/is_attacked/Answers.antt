@@ -1,5 +1,4 @@
-use Rattle.std.proofs.Common.{inl, inr, refl}
-use Rattle.chess.specs.declared.board.man.Kind.TheVariants.{King, Knight, Pawn}
+use Rattle.chess.proofs.Common.{inl, inr, refl, King, Knight, Pawn}
 use Rattle.chess.proofs.PlaceFacts.{true_not_false}
 use Rattle.chess.proofs.AttackFacts.{attacked_of, attacked_straight, attacked_diagonal}
 use Rattle.chess.proofs.AttackFacts.{attack_at_all}

@@ -1,5 +1,4 @@
-use Rattle.std.proofs.Common.{false}
-use Rattle.chess.specs.declared.board.man.Kind.TheVariants.{Rook, Bishop}
+use Rattle.chess.proofs.Common.{false, Rook, Bishop}
 use Rattle.chess.proofs.FillFacts.{either_bitboard}
 use Rattle.chess.proofs.AttackerFacts.{IsSeeingRunner, attack_along_line, none_seen}
 use Rattle.chess.proofs.board.bits.is_attacked_along_line.Goals as goal

@@ -1,5 +1,4 @@
-use Rattle.std.proofs.Common.{bit_or}
-use Rattle.chess.specs.declared.board.man.Kind.TheVariants.{King, Knight, Pawn}
+use Rattle.chess.proofs.Common.{bit_or, King, Knight, Pawn}
 use Rattle.chess.proofs.FillFacts.{either_bitboard}
 use Rattle.chess.proofs.LeftFacts.{IsSeer, attack_nearby}
 use Rattle.chess.proofs.board.bits.is_attacked_nearby.Goals as goal

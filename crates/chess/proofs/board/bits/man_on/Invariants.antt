@@ -1,5 +1,4 @@
-use Rattle.std.proofs.Common.{◌≡◌, ◌<◌, ℕ, bit_and}
-use Rattle.chess.specs.Private.Bitboards.{bitboard_at}
+use Rattle.chess.proofs.Common.{◌≡◌, ◌<◌, ℕ, bit_and, bitboard_at}
 use Rattle.chess.proofs.board.bits.man_on.Given as goal
 
 abbrev pub invariant-loop-row : goal.invariant-loop-row

@@ -1,6 +1,4 @@
-use Rattle.std.proofs.Common.{◌∙◌, ap, sym, Some, None}
-use Rattle.chess.specs.Public.Placements.{with_man}
-use Rattle.chess.specs.Private.Bitboards.{words_men, IsMan}
+use Rattle.chess.proofs.Common.{◌∙◌, ap, sym, Some, None, with_man, words_men, IsMan}
 use Rattle.chess.proofs.OccupiedFacts.{has_square}
 use Rattle.chess.proofs.MovePieceFacts.{moved_apart, moved_men}
 use Rattle.chess.proofs.SlideFacts.{slid_put, first_empty, second_empty}

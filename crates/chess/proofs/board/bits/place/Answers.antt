@@ -1,26 +1,20 @@
 use Rattle.chess.proofs.board.bits.place.Goals as goal
-use Rattle.std.proofs.Common.{◌∙◌, ap, sym, subst, ℕ, Some, None}
-use Rattle.chess.specs.Public.Squares.{index_of}
-use Rattle.chess.specs.Public.Placements.{with_man}
-use Rattle.chess.specs.Private.Bitboards.{words_men, IsCleared}
+use Rattle.chess.proofs.Common.{◌∙◌, ap, sym, ℕ, Some, None, index_of, with_man, words_men}
+use Rattle.chess.proofs.Common.{IsCleared}
 use Rattle.chess.proofs.BitFacts.{put_none, put_some, put_apart, put_men}
 
 pub returns-in_default-clause-apart : goal.returns-in_default-clause-apart
 returns-in_default-clause-apart c =
     put_apart c.args.words.now c.clear.new.words (index_of c.args.square) None c.requires
     (put_none c.args.words.now c.clear.new.words (index_of c.args.square)
-    (subst (λ (w : ℕ). IsCleared c.args.words.now c.clear.new.words w)
-    c.bitboard_of.ensures.bitboard
-    c.clear.ensures))
+    (rw (← c.bitboard_of.ensures.bitboard) c.clear.ensures))
 
 pub returns-in_default-clause-men : goal.returns-in_default-clause-men
 returns-in_default-clause-men c =
     put_men c.args.words.now c.clear.new.words c.args.square None c.bitboard_of.ensures.on_board
     c.requires
     (put_none c.args.words.now c.clear.new.words (index_of c.args.square)
-    (subst (λ (w : ℕ). IsCleared c.args.words.now c.clear.new.words w)
-    c.bitboard_of.ensures.bitboard
-    c.clear.ensures))
+    (rw (← c.bitboard_of.ensures.bitboard) c.clear.ensures))
     ∙ ap (with_man (words_men c.args.words.now) c.args.square) (sym c.in_default.is)
 
 pub returns-clause-apart : goal.returns-clause-apart
@@ -29,9 +23,7 @@ returns-clause-apart c =
     c.requires
     (put_some c.args.words.now c.clear.new.words c.set.new.words (index_of c.args.square)
     c.in-Some.man
-    (subst (λ (w : ℕ). IsCleared c.args.words.now c.clear.new.words w)
-    c.bitboard_of.ensures.bitboard
-    c.clear.ensures) c.set.ensures)
+    (rw (← c.bitboard_of.ensures.bitboard) c.clear.ensures) c.set.ensures)
 
 pub returns-clause-men : goal.returns-clause-men
 returns-clause-men c =
@@ -39,7 +31,5 @@ returns-clause-men c =
     c.bitboard_of.ensures.on_board c.requires
     (put_some c.args.words.now c.clear.new.words c.set.new.words (index_of c.args.square)
     c.in-Some.man
-    (subst (λ (w : ℕ). IsCleared c.args.words.now c.clear.new.words w)
-    c.bitboard_of.ensures.bitboard
-    c.clear.ensures) c.set.ensures)
+    (rw (← c.bitboard_of.ensures.bitboard) c.clear.ensures) c.set.ensures)
     ∙ ap (with_man (words_men c.args.words.now) c.args.square) (sym c.in-Some.is)

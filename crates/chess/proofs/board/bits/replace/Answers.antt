@@ -1,7 +1,5 @@
-use Rattle.std.proofs.Common.{◌∙◌, ap, sym, subst, bit_or, Some, None}
-use Rattle.chess.specs.Public.Squares.{index_of}
-use Rattle.chess.specs.Public.Placements.{with_man}
-use Rattle.chess.specs.Private.Bitboards.{words_men, IsCleared}
+use Rattle.chess.proofs.Common.{◌∙◌, ap, sym, subst, bit_or, Some, None, index_of, with_man}
+use Rattle.chess.proofs.Common.{words_men, IsCleared}
 use Rattle.chess.proofs.BitFacts.{put_none, put_some}
 use Rattle.chess.proofs.MovePieceFacts.{without, cleared_last, moved_apart, moved_men}
 use Rattle.chess.proofs.board.bits.replace.Goals as goal

@@ -1,6 +1,4 @@
-use Rattle.std.proofs.Common.{bit_and}
-use Rattle.chess.specs.Private.Bitboards.{IsMan, words_men}
-use Rattle.chess.specs.Private.PseudoAttacks.{IsPseudoAttack}
+use Rattle.chess.proofs.Common.{bit_and, IsMan, words_men, IsPseudoAttack}
 use Rattle.chess.proofs.AttackerFacts.{runners_seen}
 use Rattle.chess.proofs.LeftFacts.{men_left}
 use Rattle.chess.proofs.board.bits.seers.Goals as goal

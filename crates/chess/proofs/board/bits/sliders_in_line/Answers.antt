@@ -1,6 +1,4 @@
-use Rattle.std.proofs.Common.{bit_and}
-use Rattle.chess.specs.Private.Bitboards.{IsRunner, words_men}
-use Rattle.chess.specs.Private.PseudoAttacks.{IsPseudoAttack}
+use Rattle.chess.proofs.Common.{bit_and, IsRunner, words_men, IsPseudoAttack}
 use Rattle.chess.proofs.AttackerFacts.{runners_seen}
 use Rattle.chess.proofs.LeftFacts.{runners_left}
 use Rattle.chess.proofs.board.bits.sliders_in_line.Goals as goal

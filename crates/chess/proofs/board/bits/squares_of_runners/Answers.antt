@@ -1,5 +1,4 @@
-use Rattle.chess.specs.Private.Bitboards.{IsMan, words_men}
-use Rattle.chess.specs.declared.board.man.Kind.TheVariants.{Queen}
+use Rattle.chess.proofs.Common.{IsMan, words_men, Queen}
 use Rattle.chess.proofs.FillFacts.{either_bitboard}
 use Rattle.chess.proofs.board.bits.squares_of_runners.Goals as goal
 

@@ -1,5 +1,4 @@
-use Rattle.std.proofs.Common.{◌<◌, ◌^◌, rules}
-use Rattle.chess.specs.Private.Bitboards.{words_men}
+use Rattle.chess.proofs.Common.{◌<◌, ◌^◌, rules, words_men}
 use Rattle.chess.proofs.BitFacts.{bitboard_of_empty}
 use Rattle.chess.proofs.board.bits.unoccupied.Goals as goal
 

@@ -1,5 +1,4 @@
-use Rattle.chess.specs.Public.Placements.{Placement, IsEmpty}
-use Rattle.chess.specs.Private.Bitboards.{IsBitboardOf}
+use Rattle.chess.proofs.Common.{Placement, IsEmpty, IsBitboardOf}
 use Rattle.chess.proofs.FillFacts.{IsFilled}
 use Rattle.chess.proofs.board.step_attacks.fill.Given as goal
 

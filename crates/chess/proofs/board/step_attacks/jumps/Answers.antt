@@ -1,6 +1,5 @@
-use Rattle.std.proofs.Common.{◌≡◌, ◌∙◌, bit_or}
+use Rattle.chess.proofs.Common.{◌≡◌, ◌∙◌, bit_or, North, South, East, West}
 use Rattle.chess.specs.Private.Bitboards.{two_steps_bitboard, beside_bitboard, upright_bitboard}
-use Rattle.chess.specs.declared.board.direction.Direction.TheVariants.{North, South, East, West}
 use Rattle.chess.proofs.LeaperFacts.{jumps_of}
 use Rattle.chess.proofs.board.step_attacks.jumps.Goals as goal
 

@@ -1,5 +1,4 @@
-use Rattle.std.proofs.Common.{ap, ◌∙◌, bit_or, bit_xor}
-use Rattle.chess.specs.Private.Bitboards.{upright_bitboard}
+use Rattle.chess.proofs.Common.{ap, ◌∙◌, bit_or, bit_xor, upright_bitboard}
 use Rattle.chess.proofs.LeaperFacts.{near_of}
 use Rattle.chess.proofs.board.step_attacks.near.Goals as goal
 

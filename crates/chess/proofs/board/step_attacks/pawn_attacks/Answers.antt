@@ -1,5 +1,4 @@
-use Rattle.std.proofs.Common.{ap, ◌∙◌}
-use Rattle.chess.specs.Private.Bitboards.{step_bitboard, beside_bitboard}
+use Rattle.chess.proofs.Common.{ap, ◌∙◌, step_bitboard, beside_bitboard}
 use Rattle.chess.proofs.LeaperFacts.{pawn_attacks_of}
 use Rattle.chess.proofs.board.step_attacks.pawn_attacks.Goals as goal
 

@@ -1,5 +1,4 @@
-use Rattle.std.proofs.Common.{◌≡◌, ◌∷◌, List, ℕ, subst, sym, ◌∙◌}
-use Rattle.chess.specs.Public.Fen.{GivesRights}
+use Rattle.chess.proofs.Common.{◌≡◌, ◌∷◌, List, ℕ, subst, sym, ◌∙◌, GivesRights}
 use Rattle.chess.proofs.fen.read.read_spelled.Goals as goal
 
 third : (a b d e x y z w : List ℕ) (more rest : List (List ℕ))

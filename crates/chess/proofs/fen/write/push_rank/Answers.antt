@@ -1,7 +1,6 @@
-use Rattle.std.proofs.Common.{◌≡◌, ◌+◌, ◌≤◌, ◌<◌, ◌++◌, get_or, length, refl, sym, ap, subst, ◌∙◌}
-use Rattle.std.proofs.Common.{arith}
-use Rattle.chess.specs.Public.Placements.{Placement, man_at}
-use Rattle.chess.specs.Private.FenTextWords.{rank_text, AreLetters}
+use Rattle.chess.proofs.Common.{◌≡◌, ◌+◌, ◌≤◌, ◌<◌, ◌++◌, get_or, length, refl, sym, ap, subst, ◌∙◌}
+use Rattle.chess.proofs.Common.{arith, Placement, man_at, AreLetters}
+use Rattle.chess.specs.Private.FenTextWords.{rank_text}
 use Rattle.chess.proofs.FenTextFacts.{begun_length, whole_length, square_is_written, rank_is_whole}
 use Rattle.chess.proofs.FenTextFacts.{length-rank_text}
 use Rattle.chess.proofs.MarkFacts.{letter_ascii}

@@ -1,5 +1,4 @@
-use Rattle.std.proofs.Common.{◌≡◌, ◌+◌, ◌-◌, ◌≤◌, ◌++◌}
-use Rattle.chess.specs.Public.Placements.{Placement}
+use Rattle.chess.proofs.Common.{◌≡◌, ◌+◌, ◌-◌, ◌≤◌, ◌++◌, Placement}
 use Rattle.chess.specs.Private.FenTextWords.{spelled_from, squares_from, rank_text, AreLetters}
 use Rattle.chess.proofs.fen.write.push_rank.Given as goal
 

@@ -1,7 +1,5 @@
-use Rattle.std.proofs.Common.{◌≡◌, ◌+◌, ◌-◌, ◌*◌, ◌≤◌, ◌++◌, length}
-use Rattle.chess.specs.Public.Placements.{Placement}
-use Rattle.chess.specs.Public.Fen.{joined}
-use Rattle.chess.specs.Private.FenTextWords.{rank_texts, each_after, AreLetters}
+use Rattle.chess.proofs.Common.{◌≡◌, ◌+◌, ◌-◌, ◌*◌, ◌≤◌, ◌++◌, length, Placement, joined}
+use Rattle.chess.proofs.Common.{rank_texts, each_after, AreLetters}
 use Rattle.chess.proofs.fen.write.push_ranks.Given as goal
 
 abbrev pub invariant-loop-step : goal.invariant-loop-step

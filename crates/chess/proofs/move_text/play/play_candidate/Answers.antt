@@ -1,11 +1,6 @@
-use Rattle.std.proofs.Common.{◌≡◌, ap, sym, subst, refl, Option, None, Some, Ok, Err}
-use Rattle.chess.specs.Public.Squares.{Place}
-use Rattle.chess.specs.Public.Moves.{IsPseudoLegal, IsLegal}
-use Rattle.chess.specs.Shared.SetBitboards.{IsTakenFirst}
-use Rattle.chess.specs.Public.San.{HasRival, kind_said}
-use Rattle.chess.specs.Private.SanWords.{said_by, move_from, IsMoveSaid}
-use Rattle.chess.specs.declared.board.man.Kind.TheVariants.{Pawn}
-use Rattle.chess.specs.declared.moves.Move.{Move}
+use Rattle.chess.proofs.Common.{◌≡◌, ap, sym, subst, refl, Option, None, Some, Ok, Err, Place}
+use Rattle.chess.proofs.Common.{IsPseudoLegal, IsLegal, IsTakenFirst, HasRival, kind_said, said_by}
+use Rattle.chess.proofs.Common.{move_from, IsMoveSaid, Pawn, Move}
 use Rattle.chess.specs.declared.move_text.SanError.TheVariants.{None as NoMove}
 use Rattle.chess.proofs.PlaceFacts.{true_not_false}
 use Rattle.chess.proofs.LoopFacts.{taken_none}
@@ -26,16 +21,14 @@ returns-in_default-clause-answer g c =
 pub try_move-requires-clause-pseudo_legal : goal.try_move-requires-clause-pseudo_legal
 try_move-requires-clause-pseudo_legal g c =
     let capture_square =
-    subst (λ (o : Option Place). IsTakenFirst c.args.candidates c.take_first.new.self o)
-    c.in-Some.is c.take_first.ensures in
+    rw c.in-Some.is at c.take_first.ensures in
     subst (IsPseudoLegal c.args.position.now) (sym c.from-m.ensures)
     ((c.requires.candidates c.in-Some.from).0 capture_square.1).1.rules
 
 pub try_move-requires-clause-man : goal.try_move-requires-clause-man
 try_move-requires-clause-man g c =
     let capture_square =
-    subst (λ (o : Option Place). IsTakenFirst c.args.candidates c.take_first.new.self o)
-    c.in-Some.is c.take_first.ensures in
+    rw c.in-Some.is at c.take_first.ensures in
     rw (
       c.from-m.ensures,
       c.side.ensures,
@@ -49,8 +42,7 @@ returns-then-not-try_move-clause-answer g c =
     named_said P c.args.text.now None (Some said) said (Err NoMove)
     (read_no_castling c.args.text.now c.args.said.now c.requires.read) refl c.requires.read refl
     (not_said P said c.args.candidates c.take_first.new.self c.in-Some.from c.requires.candidates
-    (subst (λ (o : Option Place).
-    IsTakenFirst c.args.candidates c.take_first.new.self o) c.in-Some.is c.take_first.ensures)
+    (rw c.in-Some.is at c.take_first.ensures)
     (λ some. true_not_false c.has_some.result (c.has_some.ensures.1 some) c.if-has_some.false)
     (λ legal.
     true_not_false c.try_move.result
@@ -63,21 +55,17 @@ returns-clause-answer g c =
     let said = said_by c.args.said.now in
     named_said P c.args.text.now None (Some said) said (Ok c.from-m.result)
     (read_no_castling c.args.text.now c.args.said.now c.requires.read) refl c.requires.read refl
-    (subst (λ (m : Move). IsMoveSaid P said m
-    × ((n : Move) → IsMoveSaid P said n → n ≡ m)) (sym c.from-m.ensures)
-    (the_said P said c.args.candidates c.take_first.new.self c.in-Some.from c.requires.candidates
-    (subst (λ (o : Option Place).
-    IsTakenFirst c.args.candidates c.take_first.new.self o) c.in-Some.is c.take_first.ensures)
-    (λ some. true_not_false c.has_some.result (c.has_some.ensures.1 some) c.if-has_some.false)
-    (subst (IsLegal P) c.from-m.ensures (c.try_move.ensures.legal.0 c.if-not-try_move.false))))
+    (rw (← c.from-m.ensures) at (the_said P said c.args.candidates c.take_first.new.self
+    c.in-Some.from c.requires.candidates (rw c.in-Some.is at c.take_first.ensures) (λ some.
+    true_not_false c.has_some.result (c.has_some.ensures.1 some) c.if-has_some.false) (subst
+    (IsLegal P) c.from-m.ensures (c.try_move.ensures.legal.0 c.if-not-try_move.false))))
 
 pub returns-clause-written : goal.returns-clause-written
 returns-clause-written g c =
     let P = c.args.position.now in
     let said = said_by c.args.said.now in
     let capture_square =
-    subst (λ (o : Option Place). IsTakenFirst c.args.candidates c.take_first.new.self o)
-    c.in-Some.is c.take_first.ensures in
+    rw c.in-Some.is at c.take_first.ensures in
     let candidate = ((c.requires.candidates c.in-Some.from).0 capture_square.1).1 in
     let lone : (kind_said said.letter ≡ Pawn → ⊥)
     → ¬ HasRival P (move_from said c.in-Some.from) (λ s. Unit {0}) = λ piece.

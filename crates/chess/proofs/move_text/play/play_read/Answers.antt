@@ -1,6 +1,5 @@
-use Rattle.std.proofs.Common.{ap, refl, subst, option_map, Option, None}
-use Rattle.chess.specs.Private.SanWords.{said_by, IsReadSaid}
-use Rattle.chess.specs.declared.move_text.read.parse.ParsedSan.{ParsedSan}
+use Rattle.chess.proofs.Common.{ap, refl, option_map, Option, None, said_by, IsReadSaid}
+use Rattle.chess.proofs.Common.{ParsedSan}
 use Rattle.chess.proofs.CastlingTextFacts.{no_castling}
 use Rattle.chess.proofs.NamedFacts.{named_none, said_answer}
 use Rattle.chess.proofs.move_text.play.play_read.Goals as goal
@@ -15,11 +14,9 @@ returns-in_default-clause-answer g c =
 pub returns-in-Ok-clause-answer : goal.returns-in-Ok-clause-answer
 returns-in-Ok-clause-answer g c =
     said_answer c.args.position.now c.args.text.now c.in-Some.said c.moved-found.result
-    (subst (λ (o : Option ParsedSan).
-    IsReadSaid c.args.text.now o) c.in-Some.is c.parse_san.ensures) c.moved-found.ensures
+    (rw c.in-Some.is at c.parse_san.ensures) c.moved-found.ensures
 
 pub returns-in_default-found-clause-answer : goal.returns-in_default-found-clause-answer
 returns-in_default-found-clause-answer g c =
     said_answer c.args.position.now c.args.text.now c.in-Some.said c.moved-found.result
-    (subst (λ (o : Option ParsedSan).
-    IsReadSaid c.args.text.now o) c.in-Some.is c.parse_san.ensures) c.moved-found.ensures
+    (rw c.in-Some.is at c.parse_san.ensures) c.moved-found.ensures

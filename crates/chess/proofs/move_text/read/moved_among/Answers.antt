@@ -1,6 +1,4 @@
-use Rattle.std.proofs.Common.{◌≡◌, sym, subst}
-use Rattle.chess.specs.Private.SanWords.{said_by, IsMoveSaid}
-use Rattle.chess.specs.declared.moves.Move.{Move}
+use Rattle.chess.proofs.Common.{◌≡◌, said_by, IsMoveSaid, Move}
 use Rattle.chess.proofs.NamedFacts.{said_only, said_none, said_several, none_given, some_given}
 use Rattle.chess.proofs.move_text.read.moved_among.Goals as goal
 
@@ -24,6 +22,4 @@ returns g c =
     let none =
     none_given _ _ c.next_origin-2.result c.is_some.result c.next_origin-2.ensures
     c.is_some.ensures c.if-is_some.false in
-    subst (λ (m : Move). IsMoveSaid P said m
-    × ((n : Move) → IsMoveSaid P said n → n ≡ m)) (sym c.from.ensures)
-    (said_only P said _ _ _ c.candidate_origins.ensures c.in-Some.ensures none)
+    rw c.from.ensures (said_only P said _ _ _ c.candidate_origins.ensures c.in-Some.ensures none)

@@ -1,9 +1,5 @@
-use Rattle.std.proofs.Common.{◌≡◌, sym, subst, Option}
-use Rattle.chess.specs.Public.Squares.{Place}
-use Rattle.chess.specs.Public.Moves.{IsPseudoLegal, IsLegal}
-use Rattle.chess.specs.Shared.SetBitboards.{IsTakenFirst}
-use Rattle.chess.specs.Private.SanWords.{said_by, IsMoveSaid}
-use Rattle.chess.specs.declared.moves.Move.{Move}
+use Rattle.chess.proofs.Common.{◌≡◌, sym, subst, Option, Place, IsPseudoLegal, IsLegal}
+use Rattle.chess.proofs.Common.{IsTakenFirst, said_by, IsMoveSaid, Move}
 use Rattle.chess.proofs.PlaceFacts.{true_not_false}
 use Rattle.chess.proofs.LoopFacts.{taken_none}
 use Rattle.chess.proofs.CandidateFacts.{none_said, not_said, the_said}
@@ -18,16 +14,14 @@ returns-in_default g c =
 pub exposes_king-requires-clause-pseudo_legal : goal.exposes_king-requires-clause-pseudo_legal
 exposes_king-requires-clause-pseudo_legal g c =
     let capture_square =
-    subst (λ (o : Option Place). IsTakenFirst c.args.candidates c.take_first.new.self o)
-    c.in-Some.is c.take_first.ensures in
+    rw c.in-Some.is at c.take_first.ensures in
     subst (IsPseudoLegal c.args.position.now) (sym c.from-m.ensures)
     ((c.requires c.in-Some.from).0 capture_square.1).1.rules
 
 pub exposes_king-requires-clause-man : goal.exposes_king-requires-clause-man
 exposes_king-requires-clause-man g c =
     let capture_square =
-    subst (λ (o : Option Place). IsTakenFirst c.args.candidates c.take_first.new.self o)
-    c.in-Some.is c.take_first.ensures in
+    rw c.in-Some.is at c.take_first.ensures in
     rw (
       c.from-m.ensures,
       c.side.ensures,
@@ -39,8 +33,7 @@ returns-then-exposes_king g c =
     let P = c.args.position.now in
     not_said P (said_by c.args.said.now) c.args.candidates c.take_first.new.self c.in-Some.from
     c.requires
-    (subst (λ (o : Option Place).
-    IsTakenFirst c.args.candidates c.take_first.new.self o) c.in-Some.is c.take_first.ensures)
+    (rw c.in-Some.is at c.take_first.ensures)
     (λ some. true_not_false c.has_some.result (c.has_some.ensures.1 some) c.if-has_some.false)
     (λ legal.
     (subst (IsLegal P) (sym c.from-m.ensures) legal).safe
@@ -51,8 +44,7 @@ returns g c =
     let P = c.args.position.now in
     let said = said_by c.args.said.now in
     let capture_square =
-    subst (λ (o : Option Place). IsTakenFirst c.args.candidates c.take_first.new.self o)
-    c.in-Some.is c.take_first.ensures in
+    rw c.in-Some.is at c.take_first.ensures in
     let legal : IsLegal P c.from-m.result = record {
       pseudo_legal =
           subst (IsPseudoLegal P) (sym c.from-m.ensures)
@@ -61,9 +53,6 @@ returns g c =
           c.if-exposes_king.false;
       unbarred = rw (c.from-m.ensures) tt;
     } in
-    subst (λ (m : Move). IsMoveSaid P said m
-    × ((n : Move) → IsMoveSaid P said n → n ≡ m)) (sym c.from-m.ensures)
-    (the_said P said c.args.candidates c.take_first.new.self c.in-Some.from c.requires
-    capture_square
-    (λ some. true_not_false c.has_some.result (c.has_some.ensures.1 some) c.if-has_some.false)
-    (subst (IsLegal P) c.from-m.ensures legal))
+    rw c.from-m.ensures (the_said P said c.args.candidates c.take_first.new.self c.in-Some.from
+    c.requires capture_square (λ some. true_not_false c.has_some.result (c.has_some.ensures.1 some)
+    c.if-has_some.false) (subst (IsLegal P) c.from-m.ensures legal))

@@ -1,5 +1,4 @@
-use Rattle.std.proofs.Common.{ap, option_map}
-use Rattle.chess.specs.Private.SanWords.{said_by}
+use Rattle.chess.proofs.Common.{ap, option_map, said_by}
 use Rattle.chess.proofs.NamedFacts.{named_castling, named_none, named_said}
 use Rattle.chess.proofs.move_text.read.named_read.Goals as goal
 

@@ -1,9 +1,5 @@
-use Rattle.std.proofs.Common.{◌≡◌, sym, subst, true, Option}
-use Rattle.chess.specs.Public.Squares.{Place}
-use Rattle.chess.specs.Public.Moves.{IsLegal}
-use Rattle.chess.specs.Public.Sets.{is_in}
-use Rattle.chess.specs.Shared.SetBitboards.{IsTakenFirst}
-use Rattle.chess.specs.Private.SanWords.{CanGoSaid, said_by}
+use Rattle.chess.proofs.Common.{◌≡◌, sym, subst, true, Option, Place, IsLegal, is_in, IsTakenFirst}
+use Rattle.chess.proofs.Common.{CanGoSaid, said_by}
 use Rattle.chess.proofs.PlaceFacts.{true_not_false}
 use Rattle.chess.proofs.LoopFacts.{fewer, left_start, left_more, left_none}
 use Rattle.chess.proofs.NamedFacts.{next_found}
@@ -20,8 +16,7 @@ loop-from-preserved g c =
     left_more (λ s. is_in c.args.squares s ≡ true) (λ s. (is_in c.args.squares s ≡ true)
     × CanGoSaid c.args.position.now (said_by c.args.said.now) s)
     c.loop-from.left c.take_first.new.self c.in-Some.from c.loop-from.invariant
-    (subst (λ (o : Option Place).
-    IsTakenFirst c.loop-from.left c.take_first.new.self o) c.in-Some.is c.take_first.ensures)
+    (rw c.in-Some.is at c.take_first.ensures)
     (λ holds.
     true_not_false c.is_legal.result
     (c.is_legal.ensures.1 (subst (IsLegal c.args.position.now) (sym c.from.ensures) holds.1))
@@ -32,8 +27,7 @@ returns g c s on here fits =
     left_none (λ s. is_in c.args.squares s ≡ true) (λ s. (is_in c.args.squares s ≡ true)
     × CanGoSaid c.args.position.now (said_by c.args.said.now) s)
     c.loop-from.left c.take_first.new.self c.loop-from.invariant
-    (subst (λ (o : Option Place).
-    IsTakenFirst c.loop-from.left c.take_first.new.self o) c.in_default.is c.take_first.ensures)
+    (rw c.in_default.is at c.take_first.ensures)
     s on (here, fits)
 
 pub returns-then-is_legal : goal.returns-then-is_legal
@@ -41,12 +35,10 @@ returns-then-is_legal g c =
     next_found (CanGoSaid c.args.position.now (said_by c.args.said.now)) c.args.squares
     c.loop-from.left c.take_first.new.self c.in-Some.from
     c.loop-from.invariant
-    (subst (λ (o : Option Place).
-    IsTakenFirst c.loop-from.left c.take_first.new.self o) c.in-Some.is c.take_first.ensures)
+    (rw c.in-Some.is at c.take_first.ensures)
     (subst (IsLegal c.args.position.now) c.from.ensures (c.is_legal.ensures.0 c.if-is_legal.true))
 
 pub loop-from-smaller : goal.loop-from-smaller
 loop-from-smaller g c =
     fewer c.loop-from.left c.take_first.new.self c.in-Some.from
-    (subst (λ (o : Option Place).
-    IsTakenFirst c.loop-from.left c.take_first.new.self o) c.in-Some.is c.take_first.ensures)
+    (rw c.in-Some.is at c.take_first.ensures)

@@ -1,7 +1,4 @@
-use Rattle.std.proofs.Common.{◌≡◌, true}
-use Rattle.chess.specs.Public.Sets.{is_in, size_of}
-use Rattle.chess.specs.Private.SanWords.{CanGoSaid, said_by}
-use Rattle.chess.specs.Private.MoveWords.{IsLeft}
+use Rattle.chess.proofs.Common.{◌≡◌, true, is_in, size_of, CanGoSaid, said_by, IsLeft}
 use Rattle.chess.proofs.move_text.read.next_origin.Given as goal
 
 abbrev pub invariant-loop-from : goal.invariant-loop-from

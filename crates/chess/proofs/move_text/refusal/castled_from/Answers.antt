@@ -1,10 +1,6 @@
-use Rattle.std.proofs.Common.{ap, sym, subst, ◌∙◌}
 use Rattle.std.specs.Prelude.{Some}
-use Rattle.chess.specs.Public.Positions.{king_from}
-use Rattle.chess.specs.Public.Moves.{IsLegal}
-use Rattle.chess.specs.Private.SanWords.{castling_on, IsCastlingOn}
-use Rattle.chess.specs.Public.Refusals.{IsFrom}
-use Rattle.chess.specs.declared.moves.Move.{Move}
+use Rattle.chess.proofs.Common.{ap, sym, subst, ◌∙◌, king_from, IsLegal, castling_on, IsCastlingOn}
+use Rattle.chess.proofs.Common.{IsFrom, Move}
 use Rattle.chess.proofs.NamedFacts.{castling_only}
 use Rattle.chess.proofs.PlaceFacts.{true_not_false}
 use Rattle.chess.proofs.RefusalFacts.{castled_here}
@@ -32,6 +28,5 @@ returns g c =
     let own = c.castling_move-2.ensures ∙ ap (λ s. castling_on s c.args.wing) c.side-side.ensures in
     let here = ap king_from (sym c.side-side.ensures) ∙ sym c.king_leaves.ensures.square
     ∙ c.is.ensures.0 c.if-not-is.false in
-    subst (λ (m : Move). IsFrom (IsCastlingOn P c.args.wing) c.args.from (Some m)) (sym own)
-    (castled_here P c.args.wing c.args.from here
-    (subst (IsLegal P) tried (c.is_legal.ensures.0 c.if-not-is_legal.false)))
+    rw own (castled_here P c.args.wing c.args.from here (subst (IsLegal P) tried
+    (c.is_legal.ensures.0 c.if-not-is_legal.false)))

@@ -1,10 +1,6 @@
-use Rattle.std.proofs.Common.{◌≡◌, true, ◌∙◌, sym, subst}
 use Rattle.std.specs.Prelude.{Some}
-use Rattle.chess.specs.Public.Moves.{IsLegal}
-use Rattle.chess.specs.Private.SanWords.{said_by, CanGoSaid, IsMoveSaid}
-use Rattle.chess.specs.Public.Sets.{is_in}
-use Rattle.chess.specs.Public.Refusals.{IsFrom}
-use Rattle.chess.specs.declared.moves.Move.{Move}
+use Rattle.chess.proofs.Common.{◌≡◌, true, ◌∙◌, sym, subst, IsLegal, said_by, CanGoSaid, IsMoveSaid}
+use Rattle.chess.proofs.Common.{is_in, IsFrom, Move}
 use Rattle.chess.proofs.NamedFacts.{said_candidate, said_legal, said_on}
 use Rattle.chess.proofs.PlaceFacts.{true_not_false}
 use Rattle.chess.proofs.RefusalFacts.{said_here}
@@ -39,6 +35,5 @@ returns g c =
     let candidates =
     ((c.candidate_origins-candidates.ensures c.args.from).0 (sym c.has.ensures
     ∙ c.if-not-has.false)).1 in
-    subst (λ (m : Move). IsFrom (IsMoveSaid P said) c.args.from (Some m)) (sym c.from-2.ensures)
-    (said_here P said c.args.from candidates
-    (subst (IsLegal P) c.from.ensures (c.is_legal.ensures.0 c.if-not-is_legal.false)))
+    rw c.from-2.ensures (said_here P said c.args.from candidates (subst (IsLegal P) c.from.ensures
+    (c.is_legal.ensures.0 c.if-not-is_legal.false)))

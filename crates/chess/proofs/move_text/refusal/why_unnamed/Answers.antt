@@ -1,5 +1,4 @@
-use Rattle.std.proofs.Common.{ap, option_map}
-use Rattle.chess.specs.Private.SanWords.{said_by}
+use Rattle.chess.proofs.Common.{ap, option_map, said_by}
 use Rattle.chess.proofs.RefusalFacts.{castling_refused, nothing_said, said_refused}
 use Rattle.chess.proofs.move_text.refusal.why_unnamed.Goals as goal
 

@@ -1,5 +1,4 @@
-use Rattle.std.proofs.Common.{◌≡◌, ◌≤◌, ◌<◌, false, ℕ}
-use Rattle.chess.specs.Public.Sets.{is_in}
+use Rattle.chess.proofs.Common.{◌≡◌, ◌≤◌, ◌<◌, false, ℕ, is_in}
 use Rattle.chess.proofs.move_text.write.has_on_file.Given as goal
 
 abbrev pub invariant-loop-rank : goal.invariant-loop-rank

@@ -1,6 +1,4 @@
-use Rattle.std.proofs.Common.{sym, [], ◌∷◌}
-use Rattle.std.proofs.lemmas.List.{append-nil}
-use Rattle.chess.specs.Public.San.IsCheckSign.{mate, check, quiet}
+use Rattle.chess.proofs.Common.{sym, [], ◌∷◌, append-nil, mate, check, quiet}
 use Rattle.chess.proofs.PlaceFacts.{true_not_false}
 use Rattle.chess.proofs.move_text.write.push_check_sign.Goals as goal
 

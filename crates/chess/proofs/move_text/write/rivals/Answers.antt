@@ -1,7 +1,4 @@
-use Rattle.std.proofs.Common.{subst, Option}
-use Rattle.chess.specs.Public.Squares.{Place}
-use Rattle.chess.specs.Shared.SetBitboards.{IsTakenFirst}
-use Rattle.chess.specs.Public.San.{IsRival}
+use Rattle.chess.proofs.Common.{Option, Place, IsTakenFirst, IsRival}
 use Rattle.chess.proofs.LoopFacts.{fewer, sifted_none}
 use Rattle.chess.proofs.SanTextFacts.{rivals_start, rivals_more}
 use Rattle.chess.proofs.move_text.write.rivals.Goals as goal
@@ -17,8 +14,7 @@ loop-from-preserved g c =
     rivals_more c.args.position.now c.args.m.now c.args.man c.loop-from.left c.take_first.new.self
     c.loop-from.found
     c.insert_if.new.self c.in-Some.from c.is_rival.result c.loop-from.invariant
-    (subst (λ (o : Option Place).
-    IsTakenFirst c.loop-from.left c.take_first.new.self o) c.in-Some.is c.take_first.ensures)
+    (rw c.in-Some.is at c.take_first.ensures)
     c.is_rival.ensures c.insert_if.ensures
 
 pub returns : goal.returns
@@ -26,11 +22,9 @@ returns g c =
     sifted_none (IsRival c.args.position.now c.args.m.now) c.loop-from.left c.take_first.new.self
     c.loop-from.found
     c.loop-from.invariant.sifted
-    (subst (λ (o : Option Place).
-    IsTakenFirst c.loop-from.left c.take_first.new.self o) c.in_default.is c.take_first.ensures)
+    (rw c.in_default.is at c.take_first.ensures)
 
 pub loop-from-smaller : goal.loop-from-smaller
 loop-from-smaller g c =
     fewer c.loop-from.left c.take_first.new.self c.in-Some.from
-    (subst (λ (o : Option Place).
-    IsTakenFirst c.loop-from.left c.take_first.new.self o) c.in-Some.is c.take_first.ensures)
+    (rw c.in-Some.is at c.take_first.ensures)

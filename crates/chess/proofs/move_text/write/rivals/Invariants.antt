@@ -1,5 +1,4 @@
-use Rattle.chess.specs.Public.Sets.{size_of}
-use Rattle.chess.specs.Private.SanTextWords.{AreRivalsSifted}
+use Rattle.chess.proofs.Common.{size_of, AreRivalsSifted}
 use Rattle.chess.proofs.move_text.write.rivals.Given as goal
 
 abbrev pub invariant-loop-from : goal.invariant-loop-from

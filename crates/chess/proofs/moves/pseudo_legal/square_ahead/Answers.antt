@@ -1,8 +1,5 @@
-use Rattle.std.proofs.Common.{◌≡◌, ◌+◌, arith, sym, subst, Option, Some, None, MatchOption}
-use Rattle.chess.specs.Public.Squares.{Place, IsOnBoard, IsAhead}
-use Rattle.chess.specs.Private.MoveWords.{IsSquareAhead}
-use Rattle.chess.specs.declared.board.direction.Direction.TheVariants.{North, South}
-use Rattle.chess.specs.declared.board.man.Side.TheVariants.{White, Black}
+use Rattle.chess.proofs.Common.{◌≡◌, ◌+◌, arith, Option, Some, None, MatchOption, Place}
+use Rattle.chess.proofs.Common.{IsOnBoard, IsAhead, IsSquareAhead, North, South, White, Black}
 use Rattle.chess.proofs.moves.pseudo_legal.square_ahead.Goals as goal
 
 up : (s : Place) (next : Option Place)
@@ -23,10 +20,8 @@ down s (Some t) some = let back = some.1.1 in (some.0, some.1.0, omega arith)
 
 pub returns-in-White : goal.returns-in-White
 returns-in-White c =
-    subst (λ side. IsSquareAhead side c.args.from c.ahead.result) (sym c.in-White.is)
-    (up c.args.from _ c.ahead.ensures)
+    rw c.in-White.is (up c.args.from _ c.ahead.ensures)
 
 pub returns-in-Black : goal.returns-in-Black
 returns-in-Black c =
-    subst (λ side. IsSquareAhead side c.args.from c.ahead-in-Black.result) (sym c.in-Black.is)
-    (down c.args.from _ c.ahead-in-Black.ensures)
+    rw c.in-Black.is (down c.args.from _ c.ahead-in-Black.ensures)

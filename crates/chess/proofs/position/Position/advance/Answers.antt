@@ -1,9 +1,5 @@
-use Rattle.std.proofs.Common.{◌≡◌, ◌∙◌, ap, sym, subst}
-use Rattle.chess.specs.Public.Positions.{State}
-use Rattle.chess.specs.Shared.Codes.{IsKept}
-use Rattle.chess.specs.Public.Moves.{after, men_after, rights_after}
-use Rattle.chess.specs.declared.board.man.CastlingRights.{CastlingRights}
-use Rattle.chess.specs.declared.board.man.Side.TheVariants.{White, Black}
+use Rattle.chess.proofs.Common.{◌≡◌, ◌∙◌, ap, sym, subst, State, IsKept, after, men_after}
+use Rattle.chess.proofs.Common.{rights_after, CastlingRights, White, Black}
 use Rattle.chess.proofs.KingFacts.{king_follows}
 use Rattle.chess.proofs.GoesFacts.{IsTried}
 use Rattle.chess.proofs.CheckFacts.{men_plainly}
@@ -26,8 +22,7 @@ invariant_of-self g c =
     ∙ ap (λ (r : CastlingRights).
     rights_after r m) (ap (λ (Q : State). Q.rights) c.self.view_is) in
     let kept =
-    subst (λ (Q : State). IsKept Q c.self.inside.white_king c.self.inside.black_king)
-    c.self.view_is c.self.invariant in
+    rw c.self.view_is at c.self.invariant in
     let tried : IsTried P m =
     record { sound = c.invariant.ensures; rules = c.requires.legal.pseudo_legal } in
     let shown : record {

@@ -1,7 +1,4 @@
-use Rattle.std.proofs.Common.{◌≡◌, subst, true, false, Option}
-use Rattle.chess.specs.Public.Squares.{Place}
-use Rattle.chess.specs.Shared.SetBitboards.{IsTakenFirst}
-use Rattle.chess.specs.Public.Moves.{CanGo}
+use Rattle.chess.proofs.Common.{◌≡◌, true, false, Option, Place, IsTakenFirst, CanGo}
 use Rattle.chess.proofs.PlaceFacts.{true_not_false}
 use Rattle.chess.proofs.LoopFacts.{fewer, left_more, left_none}
 use Rattle.chess.proofs.position.Position.can_leave.Goals as goal
@@ -11,8 +8,7 @@ loop-to-preserved g c =
     left_more (λ t. Unit {0}) (λ t.
     CanGo c.args.self.now c.args.from t) c.loop-to.left c.take_first.new.self c.in-Some.to
     c.loop-to.invariant
-    (subst (λ (o : Option Place).
-    IsTakenFirst c.loop-to.left c.take_first.new.self o) c.in-Some.is c.take_first.ensures)
+    (rw c.in-Some.is at c.take_first.ensures)
     (λ goes. true_not_false c.can_go.result (c.can_go.ensures.1 goes) c.if-can_go.false)
 
 pub returns : goal.returns
@@ -20,13 +16,11 @@ returns g c = (
   (λ e. let f : false ≡ true = e in absurd (cc)),
   (λ h. absurd (left_none (λ t. Unit {0}) (λ t.
       CanGo c.args.self.now c.args.from t) c.loop-to.left c.take_first.new.self
-      c.loop-to.invariant (subst (λ (o : Option Place).
-      IsTakenFirst c.loop-to.left c.take_first.new.self o) c.in_default.is c.take_first.ensures)
+      c.loop-to.invariant (rw c.in_default.is at c.take_first.ensures)
       h.0 h.1 h.2)),
 )
 
 pub loop-to-smaller : goal.loop-to-smaller
 loop-to-smaller g c =
     fewer c.loop-to.left c.take_first.new.self c.in-Some.to
-    (subst (λ (o : Option Place).
-    IsTakenFirst c.loop-to.left c.take_first.new.self o) c.in-Some.is c.take_first.ensures)
+    (rw c.in-Some.is at c.take_first.ensures)

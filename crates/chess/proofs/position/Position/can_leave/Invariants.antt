@@ -1,6 +1,4 @@
-use Rattle.chess.specs.Public.Sets.{size_of}
-use Rattle.chess.specs.Public.Moves.{CanGo}
-use Rattle.chess.specs.Private.MoveWords.{IsLeft}
+use Rattle.chess.proofs.Common.{size_of, CanGo, IsLeft}
 use Rattle.chess.proofs.position.Position.can_leave.Given as goal
 
 abbrev pub invariant-loop-to : goal.invariant-loop-to

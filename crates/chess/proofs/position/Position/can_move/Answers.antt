@@ -1,7 +1,5 @@
-use Rattle.std.proofs.Common.{◌≡◌, subst, true, false, Option, Some, refl}
-use Rattle.chess.specs.Public.Squares.{Place}
-use Rattle.chess.specs.Shared.SetBitboards.{IsTakenFirst}
-use Rattle.chess.specs.Private.MoveWords.{IsMover, CanLeave}
+use Rattle.chess.proofs.Common.{◌≡◌, subst, true, false, Option, Some, refl, Place, IsTakenFirst}
+use Rattle.chess.proofs.Common.{IsMover, CanLeave}
 use Rattle.chess.proofs.PlaceFacts.{true_not_false}
 use Rattle.chess.proofs.LoopFacts.{fewer, left_more, left_none}
 use Rattle.chess.proofs.position.Position.can_move.Goals as goal
@@ -12,8 +10,7 @@ loop-from-preserved g c =
     IsMover c.args.self.now c.args.kind s × CanLeave c.args.self.now s)
     c.loop-from.left c.take_first.new.self c.in-Some.from
     c.loop-from.invariant
-    (subst (λ (o : Option Place).
-    IsTakenFirst c.loop-from.left c.take_first.new.self o) c.in-Some.is c.take_first.ensures)
+    (rw c.in-Some.is at c.take_first.ensures)
     (λ moves.
     true_not_false c.can_leave.result (c.can_leave.ensures.1 moves.1) c.if-can_leave.false)
 
@@ -37,13 +34,10 @@ returns g c = (
   (λ h. absurd (left_none (λ s. IsMover c.args.self.now c.args.kind s) (λ s.
       IsMover c.args.self.now c.args.kind s × CanLeave c.args.self.now s)
       c.loop-from.left c.take_first.new.self c.loop-from.invariant
-      (subst (λ (o : Option Place).
-      IsTakenFirst c.loop-from.left c.take_first.new.self o) c.in_default.is
-      c.take_first.ensures) h.0 h.1 (h.2, h.3))),
+      (rw c.in_default.is at c.take_first.ensures) h.0 h.1 (h.2, h.3))),
 )
 
 pub loop-from-smaller : goal.loop-from-smaller
 loop-from-smaller g c =
     fewer c.loop-from.left c.take_first.new.self c.in-Some.from
-    (subst (λ (o : Option Place).
-    IsTakenFirst c.loop-from.left c.take_first.new.self o) c.in-Some.is c.take_first.ensures)
+    (rw c.in-Some.is at c.take_first.ensures)

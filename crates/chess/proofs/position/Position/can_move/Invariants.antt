@@ -1,5 +1,4 @@
-use Rattle.chess.specs.Public.Sets.{size_of}
-use Rattle.chess.specs.Private.MoveWords.{IsLeft, IsMover, CanLeave}
+use Rattle.chess.proofs.Common.{size_of, IsLeft, IsMover, CanLeave}
 use Rattle.chess.proofs.position.Position.can_move.Given as goal
 
 abbrev pub invariant-loop-from : goal.invariant-loop-from

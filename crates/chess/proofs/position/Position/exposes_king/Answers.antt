@@ -1,6 +1,4 @@
-use Rattle.std.proofs.Common.{◌≡◌, ap, subst}
-use Rattle.chess.specs.Public.Positions.{State, IsOnlyKing}
-use Rattle.chess.specs.Public.Moves.{men_after}
+use Rattle.chess.proofs.Common.{◌≡◌, ap, State, IsOnlyKing, men_after}
 use Rattle.chess.proofs.CheckFacts.{check_after}
 use Rattle.chess.proofs.position.Position.exposes_king.Goals as goal
 
@@ -14,5 +12,4 @@ returns g c =
     c.becoming-arriving.result c.capture_square_of-capture_square.result
     c.king_after-king.result (g.B.Board.men c.self.inside.board) c.attacked_after.result
     c.requires.plain old c.becoming-arriving.ensures c.capture_square_of-capture_square.ensures
-    (subst (λ side. IsOnlyKing (men_after P m) side c.king_after-king.result) c.side.ensures
-    c.king_after-king.ensures) c.attacked_after.ensures
+    (rw c.side.ensures at c.king_after-king.ensures) c.attacked_after.ensures

@@ -1,7 +1,6 @@
 use Rattle.std.proofs.Common.{decimal}
-use Rattle.chess.specs.Public.Fen.{joined, side_text, rights_letters, or_dash, en_passant_text}
-use Rattle.chess.specs.Private.FenTextWords.{rank_texts}
-use Rattle.chess.specs.declared.board.man.CastlingRights.{CastlingRights}
+use Rattle.chess.proofs.Common.{joined, side_text, rights_letters, or_dash, en_passant_text}
+use Rattle.chess.proofs.Common.{rank_texts, CastlingRights}
 use Rattle.chess.proofs.FenTextFacts.{spell_ranks, shortest_ranks, six_fields, written_of}
 use Rattle.chess.proofs.position.Position.fen.Goals as goal
 

@@ -1,10 +1,8 @@
-use Rattle.chess.specs.Public.Placements.{opposite}
-use Rattle.chess.specs.Public.Positions.{State, IsOnlyKing}
-use Rattle.chess.specs.declared.board.man.Side.TheVariants.{White, Black}
+use Rattle.chess.proofs.Common.{opposite, State, IsOnlyKing, White, Black}
 use Rattle.chess.proofs.FenFacts.{HasKings, right_kings, wrong_pawns, right_pawns, enemy_white}
 use Rattle.chess.proofs.FenFacts.{enemy_black, wrong_check, right_check, spelled_kept}
-use Rattle.chess.proofs.position.Position.from_fen.Goals as goal
 use Rattle.chess.proofs.position.Position.from_fen.Goals.{in-White, in-Black}
+use Rattle.chess.proofs.position.Position.from_fen.Goals as goal
 
 pub returns-in_default-only_king : goal.returns-in_default-only_king
 returns-in_default-only_king g c =

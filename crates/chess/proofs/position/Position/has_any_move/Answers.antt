@@ -1,6 +1,5 @@
-use Rattle.std.proofs.Common.{◌≡◌, true, false, refl}
+use Rattle.chess.proofs.Common.{◌≡◌, true, false, refl, King, Queen, Rook, Bishop, Knight, Pawn}
 use Rattle.chess.proofs.PlaceFacts.{true_not_false}
-use Rattle.chess.specs.declared.board.man.Kind.TheVariants.{King, Queen, Rook, Bishop, Knight, Pawn}
 use Rattle.chess.proofs.WayFacts.{no_move, found_move}
 use Rattle.chess.proofs.position.Position.has_any_move.Goals as goal
 

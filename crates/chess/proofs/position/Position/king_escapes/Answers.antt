@@ -1,9 +1,4 @@
-use Rattle.std.proofs.Common.{subst, Option, None}
-use Rattle.chess.specs.Public.Squares.{Place}
-use Rattle.chess.specs.Public.Attacks.{IsNear}
-use Rattle.chess.specs.Public.Positions.{IsOnlyKing}
-use Rattle.chess.specs.Shared.SetBitboards.{IsTakenFirst}
-use Rattle.chess.specs.declared.board.man.Side.{Side}
+use Rattle.chess.proofs.Common.{Option, None, Place, IsNear, IsOnlyKing, IsTakenFirst, Side}
 use Rattle.chess.proofs.LoopFacts.{fewer, left_start, left_more}
 use Rattle.chess.proofs.position.Position.king_escapes.Goals as goal
 
@@ -16,17 +11,14 @@ pub loop-to-preserved : goal.loop-to-preserved
 loop-to-preserved g c =
     left_more (IsNear c.king-king.result) (λ s.
     ⊥) c.loop-to.left c.take_first.new.self c.in-Some.to c.loop-to.invariant
-    (subst (λ (o : Option Place).
-    IsTakenFirst c.loop-to.left c.take_first.new.self o) c.in-Some.is c.take_first.ensures)
+    (rw c.in-Some.is at c.take_first.ensures)
     (λ clash. clash)
 
 pub king_steps-requires : goal.king_steps-requires
 king_steps-requires g c =
     let capture_square = c.in-Some.ensures in
     record {
-      king = subst (λ (side : Side).
-          IsOnlyKing c.args.self.now.men side c.king-king.result) c.side.ensures
-          c.king-king.ensures;
+      king = rw (← c.side.ensures) c.king-king.ensures;
       near = c.loop-to.invariant.within c.in-Some.to capture_square.0 capture_square.1;
     }
 
@@ -37,5 +29,4 @@ returns-then-king_steps g c =
 pub loop-to-smaller : goal.loop-to-smaller
 loop-to-smaller g c =
     fewer c.loop-to.left c.take_first.new.self c.in-Some.to
-    (subst (λ (o : Option Place).
-    IsTakenFirst c.loop-to.left c.take_first.new.self o) c.in-Some.is c.take_first.ensures)
+    (rw c.in-Some.is at c.take_first.ensures)

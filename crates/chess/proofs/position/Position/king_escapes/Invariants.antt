@@ -1,6 +1,4 @@
-use Rattle.chess.specs.Public.Attacks.{IsNear}
-use Rattle.chess.specs.Public.Sets.{size_of}
-use Rattle.chess.specs.Private.MoveWords.{IsLeft}
+use Rattle.chess.proofs.Common.{IsNear, size_of, IsLeft}
 use Rattle.chess.proofs.position.Position.king_escapes.Given as goal
 
 abbrev pub invariant-loop-to : goal.invariant-loop-to

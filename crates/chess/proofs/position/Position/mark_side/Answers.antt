@@ -1,5 +1,4 @@
-use Rattle.std.proofs.Common.{◌+◌, arith}
-use Rattle.chess.specs.Private.Bitboards.{number_of_side}
+use Rattle.chess.proofs.Common.{◌+◌, arith, number_of_side}
 use Rattle.chess.proofs.MarkFacts.{below_same}
 use Rattle.chess.proofs.position.Position.mark_side.Goals as goal
 

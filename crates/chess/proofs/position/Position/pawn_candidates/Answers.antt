@@ -1,6 +1,4 @@
-use Rattle.std.proofs.Common.{subst, Option}
-use Rattle.chess.specs.Public.Squares.{Place}
-use Rattle.chess.specs.Private.MoveWords.{IsSquareAhead}
+use Rattle.chess.proofs.Common.{Option, Place, IsSquareAhead}
 use Rattle.chess.proofs.WayFacts.{no_goal}
 use Rattle.chess.proofs.position.Position.pawn_candidates.Goals as goal
 
@@ -8,6 +6,5 @@ pub returns-in_default-clause-steps : goal.returns-in_default-clause-steps
 returns-in_default-clause-steps g c s there is_goal =
     absurd (no_goal c.args.self.now c.args.from c.side-side.result c.invariant.ensures
     c.side-side.ensures
-    (subst (λ (o : Option Place).
-    IsSquareAhead c.side-side.result c.args.from o) c.in_default.is c.square_ahead.ensures) s
+    (rw c.in_default.is at c.square_ahead.ensures) s
     there is_goal)

@@ -1,11 +1,5 @@
-use Rattle.std.proofs.Common.{◌≡◌, subst, Option, Some, None}
-use Rattle.chess.specs.Public.Squares.{Place}
-use Rattle.chess.specs.Public.Placements.{man_at}
-use Rattle.chess.specs.Public.Moves.{Promotes}
-use Rattle.chess.specs.Private.MoveWords.{IsMover}
-use Rattle.chess.specs.Shared.SetBitboards.{IsTakenFirst}
-use Rattle.chess.specs.declared.board.man.Side.{Side}
-use Rattle.chess.specs.declared.board.man.Kind.TheVariants.{Pawn}
+use Rattle.chess.proofs.Common.{◌≡◌, Option, Some, None, Place, man_at, Promotes, IsMover}
+use Rattle.chess.proofs.Common.{IsTakenFirst, Side, Pawn}
 use Rattle.chess.proofs.LoopFacts.{fewer, left_start, left_more}
 use Rattle.chess.proofs.position.Position.pawn_steps.Goals as goal
 
@@ -14,16 +8,13 @@ loop-from-init g c =
     let P = c.args.self.now in
     left_start (IsMover P Pawn) (λ s. ⊥) c.squares_of-left.result (λ s on clash. absurd clash)
     (λ s on in_set.
-    subst (λ (side : Side). man_at P.men s
-    ≡ Some (record { side = side; kind = Pawn })) c.side.ensures
-    ((c.squares_of-left.ensures s).0 in_set).1)
+    rw (← c.side.ensures) ((c.squares_of-left.ensures s).0 in_set).1)
 
 pub loop-from-preserved : goal.loop-from-preserved
 loop-from-preserved g c =
     left_more (IsMover c.args.self.now Pawn) (λ s.
     ⊥) c.loop-from.left c.take_first.new.self c.in-Some.from c.loop-from.invariant
-    (subst (λ (o : Option Place).
-    IsTakenFirst c.loop-from.left c.take_first.new.self o) c.in-Some.is c.take_first.ensures)
+    (rw c.in-Some.is at c.take_first.ensures)
     (λ clash. clash)
 
 pub ahead_of_pawn-to-requires : goal.ahead_of_pawn-to-requires
@@ -40,9 +31,7 @@ can_step-requires g c =
         c.ahead_of_pawn-to.ensures.rank,
         c.is_empty.ensures.0 c.if-is_empty.true,
       );
-      stays = subst (λ (side : Side).
-          Promotes side c.ahead_of_pawn-to.result None) c.side-then-is_empty.ensures
-          (c.promotes.ensures.0 c.if-promotes.true);
+      stays = rw (← c.side-then-is_empty.ensures) (c.promotes.ensures.0 c.if-promotes.true);
     }
 
 pub returns-then-promotes : goal.returns-then-promotes
@@ -52,5 +41,4 @@ returns-then-promotes g c =
 pub loop-from-smaller : goal.loop-from-smaller
 loop-from-smaller g c =
     fewer c.loop-from.left c.take_first.new.self c.in-Some.from
-    (subst (λ (o : Option Place).
-    IsTakenFirst c.loop-from.left c.take_first.new.self o) c.in-Some.is c.take_first.ensures)
+    (rw c.in-Some.is at c.take_first.ensures)

@@ -1,6 +1,4 @@
-use Rattle.chess.specs.Public.Sets.{size_of}
-use Rattle.chess.specs.Private.MoveWords.{IsMover, IsLeft}
-use Rattle.chess.specs.declared.board.man.Kind.TheVariants.{Pawn}
+use Rattle.chess.proofs.Common.{size_of, IsMover, IsLeft, Pawn}
 use Rattle.chess.proofs.position.Position.pawn_steps.Given as goal
 
 abbrev pub invariant-loop-from : goal.invariant-loop-from

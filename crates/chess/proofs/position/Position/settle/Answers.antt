@@ -1,8 +1,5 @@
-use Rattle.std.proofs.Common.{◌≡◌, ◌∙◌, ap, sym, subst}
-use Rattle.chess.specs.Public.Positions.{State}
-use Rattle.chess.specs.Shared.Codes.{IsKept}
-use Rattle.chess.specs.Public.Moves.{after, rights_after}
-use Rattle.chess.specs.declared.board.man.CastlingRights.{CastlingRights}
+use Rattle.chess.proofs.Common.{◌≡◌, ◌∙◌, ap, sym, subst, State, IsKept, after, rights_after}
+use Rattle.chess.proofs.Common.{CastlingRights}
 use Rattle.chess.proofs.SoundFacts.{after_sound}
 use Rattle.chess.proofs.position.Position.settle.Goals as goal
 

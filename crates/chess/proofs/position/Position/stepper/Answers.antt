@@ -1,7 +1,5 @@
-use Rattle.std.proofs.Common.{ap, subst, ◌∙◌, Some}
-use Rattle.chess.specs.Public.Placements.{opposite, IsEmpty}
-use Rattle.chess.specs.Private.MoveWords.{IsMover, CanStepOver, IsSquareAhead}
-use Rattle.chess.specs.declared.board.man.Kind.TheVariants.{Pawn}
+use Rattle.chess.proofs.Common.{ap, subst, ◌∙◌, Some, opposite, IsEmpty, IsMover, CanStepOver}
+use Rattle.chess.proofs.Common.{IsSquareAhead, Pawn}
 use Rattle.chess.proofs.PlaceFacts.{true_not_false}
 use Rattle.chess.proofs.StepperFacts.{rear_of, no_step_taken, no_step_edge, steps_once, only_once}
 use Rattle.chess.proofs.StepperFacts.{no_second, only_two, steps_twice}

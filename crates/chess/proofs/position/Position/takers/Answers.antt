@@ -1,7 +1,5 @@
-use Rattle.std.proofs.Common.{◌≡◌, inl, inr, ap, sym, subst, ◌∙◌, true}
-use Rattle.chess.specs.Public.Placements.{opposite, IsOccupiedBy}
-use Rattle.chess.specs.Private.MoveWords.{IsTaker}
-use Rattle.chess.specs.Public.Sets.{is_in}
+use Rattle.chess.proofs.Common.{◌≡◌, inl, inr, ap, sym, subst, ◌∙◌, true, opposite, IsOccupiedBy}
+use Rattle.chess.proofs.Common.{IsTaker, is_in}
 use Rattle.chess.proofs.PlaceFacts.{true_not_false}
 use Rattle.chess.proofs.CandidateFacts.{none_hold}
 use Rattle.chess.proofs.position.Position.takers.Goals as goal

@@ -1,6 +1,4 @@
-use Rattle.chess.specs.Public.Sets.{size_of}
-use Rattle.chess.specs.Public.Moves.{CanGo}
-use Rattle.chess.specs.Private.MoveWords.{IsSifted}
+use Rattle.chess.proofs.Common.{size_of, CanGo, IsSifted}
 use Rattle.chess.proofs.position.Position.targets.Given as goal
 
 abbrev pub invariant-loop-to : goal.invariant-loop-to

@@ -1,6 +1,4 @@
-use Rattle.std.proofs.Common.{sym, subst, Option}
-use Rattle.chess.specs.Public.Moves.{IsUnbarred}
-use Rattle.chess.specs.declared.board.man.Wing.{Wing}
+use Rattle.chess.proofs.Common.{sym, subst, Option, IsUnbarred, Wing}
 use Rattle.chess.proofs.PlaceFacts.{true_not_false}
 use Rattle.chess.proofs.position.Position.try_move.Goals as goal
 

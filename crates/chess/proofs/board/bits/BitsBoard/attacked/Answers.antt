@@ -1,5 +1,4 @@
-use Rattle.chess.specs.Shared.CellFacts.{on_board-men_of}
-use Rattle.chess.specs.Private.Bitboards.{words_men, man_in}
+use Rattle.chess.proofs.Common.{on_board-men_of, words_men, man_in}
 use Rattle.chess.proofs.FileFacts.{all_bits}
 use Rattle.chess.proofs.LeftFacts.{all_left}
 use Rattle.chess.proofs.board.bits.BitsBoard.attacked.Goals as goal

@@ -1,5 +1,4 @@
-use Rattle.std.proofs.Common.{ap, ◌∙◌}
-use Rattle.chess.specs.Private.Bitboards.{words_men}
+use Rattle.chess.proofs.Common.{ap, ◌∙◌, words_men}
 use Rattle.chess.proofs.BitFacts.{no_words_men}
 use Rattle.chess.proofs.board.bits.BitsBoard.empty.Goals as goal
 

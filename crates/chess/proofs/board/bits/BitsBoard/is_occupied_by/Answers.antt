@@ -1,7 +1,5 @@
-use Rattle.std.proofs.Common.{◌≡◌, false, true, arith, eq-eqb}
-use Rattle.std.proofs.lemmas.Bool.Decides.{nat_tests}
-use Rattle.chess.specs.Public.Placements.{IsOccupiedBy}
-use Rattle.chess.specs.Private.Bitboards.{words_men}
+use Rattle.std.proofs.Common.{eq-eqb}
+use Rattle.chess.proofs.Common.{◌≡◌, false, true, arith, nat_tests, IsOccupiedBy, words_men}
 use Rattle.chess.proofs.BitFacts.{empty_by_bitboard}
 use Rattle.chess.proofs.OccupiedFacts.{has_square, occupied_not_empty}
 use Rattle.chess.proofs.board.bits.BitsBoard.is_occupied_by.Goals as goal

@@ -1,5 +1,4 @@
-use Rattle.std.proofs.Common.{sym, ◌∙◌}
-use Rattle.chess.specs.Private.Bitboards.{words_men}
+use Rattle.chess.proofs.Common.{sym, ◌∙◌, words_men}
 use Rattle.chess.proofs.BoardFacts.{no_reach}
 use Rattle.chess.proofs.board.bits.BitsBoard.reach.Goals as goal
 

@@ -1,5 +1,4 @@
-use Rattle.chess.specs.Private.Cells.{cells_men}
-use Rattle.chess.specs.Public.Attacks.{Reaches}
+use Rattle.chess.proofs.Common.{cells_men, Reaches}
 use Rattle.chess.proofs.BoardFacts.{gathered_none, gathered_step}
 use Rattle.chess.proofs.board.mailbox.Mailbox.attacks_from.Goals as goal
 

@@ -1,5 +1,4 @@
-use Rattle.chess.specs.Private.Cells.{cells_men}
-use Rattle.chess.specs.Public.Attacks.{Reaches}
+use Rattle.chess.proofs.Common.{cells_men, Reaches}
 use Rattle.chess.proofs.BoardFacts.{IsGathered}
 use Rattle.chess.proofs.board.mailbox.Mailbox.attacks_from.Given as goal
 

@@ -1,6 +1,4 @@
-use Rattle.std.proofs.Common.{◌≤◌}
-use Rattle.chess.specs.Private.Cells.{cells_men}
-use Rattle.chess.specs.Public.Attacks.{IsClearFor}
+use Rattle.chess.proofs.Common.{◌≤◌, cells_men, IsClearFor}
 use Rattle.chess.proofs.board.mailbox.Mailbox.is_clear.Given as goal
 
 abbrev pub invariant-loop-step : goal.invariant-loop-step

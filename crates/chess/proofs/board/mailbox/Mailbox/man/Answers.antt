@@ -1,7 +1,5 @@
-use Rattle.std.proofs.Common.{sym, ap, ◌∙◌, None}
 use Rattle.std.specs.Prelude.{get_or}
-use Rattle.chess.specs.Private.Cells.{cell_of}
-use Rattle.chess.specs.Shared.CellFacts.{man_at-men_of}
+use Rattle.chess.proofs.Common.{sym, ap, ◌∙◌, None, cell_of, man_at-men_of}
 use Rattle.chess.proofs.board.mailbox.Mailbox.man.Goals as goal
 
 pub returns : goal.returns

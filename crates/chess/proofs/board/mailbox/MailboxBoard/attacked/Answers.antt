@@ -1,7 +1,4 @@
-use Rattle.std.proofs.Common.{◌≡◌, true, false, arith}
-use Rattle.chess.specs.Shared.SetFacts.{index_of-below}
-use Rattle.chess.specs.Shared.CellFacts.{on_board-men_of}
-use Rattle.chess.specs.Private.Cells.{cell_of}
+use Rattle.chess.proofs.Common.{◌≡◌, true, false, arith, index_of-below, on_board-men_of, cell_of}
 use Rattle.chess.proofs.board.mailbox.MailboxBoard.attacked.Goals as goal
 
 pub returns : goal.returns

@@ -1,5 +1,4 @@
-use Rattle.chess.specs.Private.Cells.{cells_men}
-use Rattle.chess.specs.Public.Sets.{IsAttacker}
+use Rattle.chess.proofs.Common.{cells_men, IsAttacker}
 use Rattle.chess.proofs.BoardFacts.{gathered_none, gathered_step}
 use Rattle.chess.proofs.board.mailbox.MailboxBoard.attackers_from.Goals as goal
 

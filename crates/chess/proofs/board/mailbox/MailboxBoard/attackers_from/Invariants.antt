@@ -1,5 +1,4 @@
-use Rattle.chess.specs.Private.Cells.{cells_men}
-use Rattle.chess.specs.Public.Sets.{IsAttacker}
+use Rattle.chess.proofs.Common.{cells_men, IsAttacker}
 use Rattle.chess.proofs.BoardFacts.{IsGathered}
 use Rattle.chess.proofs.board.mailbox.MailboxBoard.attackers_from.Given as goal
 

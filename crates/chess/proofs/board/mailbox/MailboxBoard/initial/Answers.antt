@@ -1,7 +1,5 @@
-use Rattle.std.proofs.Common.{◌≡◌, ◌∙◌, ap, sym, arith}
-use Rattle.chess.specs.Public.Squares.{Place, square_at}
-use Rattle.chess.specs.Public.Placements.{with_man, first_men}
-use Rattle.chess.specs.Public.Start.{initial_man}
+use Rattle.chess.proofs.Common.{◌≡◌, ◌∙◌, ap, sym, arith, Place, square_at, with_man, first_men}
+use Rattle.chess.proofs.Common.{initial_man}
 use Rattle.chess.proofs.StartFacts.{initial_none, initial_next}
 use Rattle.chess.proofs.board.mailbox.MailboxBoard.initial.Goals as goal
 

@@ -1,8 +1,4 @@
-use Rattle.std.proofs.Common.{◌≡◌}
-use Rattle.chess.specs.Public.Squares.{square_at}
-use Rattle.chess.specs.Private.Cells.{cells_men}
-use Rattle.chess.specs.Public.Placements.{first_men}
-use Rattle.chess.specs.Public.Start.{initial_man}
+use Rattle.chess.proofs.Common.{◌≡◌, square_at, cells_men, first_men, initial_man}
 use Rattle.chess.proofs.board.mailbox.MailboxBoard.initial.Given as goal
 
 abbrev pub invariant-loop-index : goal.invariant-loop-index

@@ -1,11 +1,7 @@
-use Rattle.std.proofs.Common.{rules, arith, ap, ◌∙◌, ◌≡◌, None}
 use Rattle.std.specs.Prelude.{get_or, slice_set, length}
-use Rattle.chess.specs.Public.Squares.{index_of}
-use Rattle.chess.specs.Private.Cells.{cell_of}
-use Rattle.chess.specs.Shared.CellFacts.{men_of-put}
-use Rattle.chess.specs.Shared.SetFacts.{index_of-below}
+use Rattle.chess.proofs.Common.{rules, arith, ap, ◌∙◌, ◌≡◌, None, index_of, cell_of, men_of-put}
+use Rattle.chess.proofs.Common.{index_of-below, get_or-set_same, get_or-set_other}
 use Rattle.chess.proofs.board.mailbox.MailboxBoard.put.Goals as goal
-use Rattle.std.proofs.lemmas.List.{get_or-set_same, get_or-set_other}
 
 pub returns : goal.returns
 returns c =

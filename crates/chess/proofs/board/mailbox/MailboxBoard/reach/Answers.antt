@@ -1,5 +1,4 @@
-use Rattle.std.proofs.Common.{sym, ◌∙◌}
-use Rattle.chess.specs.Private.Cells.{cells_men}
+use Rattle.chess.proofs.Common.{sym, ◌∙◌, cells_men}
 use Rattle.chess.proofs.BoardFacts.{no_reach}
 use Rattle.chess.proofs.board.mailbox.MailboxBoard.reach.Goals as goal
 

@@ -1,6 +1,4 @@
-use Rattle.std.proofs.Common.{◌≡◌, Some}
-use Rattle.chess.specs.Public.Placements.{man_at}
-use Rattle.chess.specs.Private.Cells.{cells_men}
+use Rattle.chess.proofs.Common.{◌≡◌, Some, man_at, cells_men}
 use Rattle.chess.proofs.BoardFacts.{IsGathered}
 use Rattle.chess.proofs.board.mailbox.MailboxBoard.squares_of.Given as goal
 

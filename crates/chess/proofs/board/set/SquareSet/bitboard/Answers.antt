@@ -1,7 +1,4 @@
-use Rattle.std.proofs.Common.{◌∙◌, sym, ap}
-use Rattle.chess.specs.Public.Sets.{is_in}
-use Rattle.chess.specs.Shared.SetBitboards.{has_bit}
-use Rattle.chess.specs.Shared.SetFacts.{is_in-places_of}
+use Rattle.chess.proofs.Common.{◌∙◌, sym, ap, is_in, has_bit, is_in-places_of}
 use Rattle.chess.proofs.board.set.SquareSet.bitboard.Goals as goal
 
 pub returns : goal.returns

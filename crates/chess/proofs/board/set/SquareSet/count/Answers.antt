@@ -1,5 +1,4 @@
-use Rattle.std.proofs.Common.{ap, ◌∙◌}
-use Rattle.chess.specs.Public.Sets.{size_of}
+use Rattle.chess.proofs.Common.{ap, ◌∙◌, size_of}
 use Rattle.chess.proofs.SizeFacts.{ones-size}
 use Rattle.chess.proofs.board.set.SquareSet.count.Goals as goal
 

@@ -1,9 +1,5 @@
-use Rattle.std.proofs.Common.{sym, ap, ◌∙◌, nat_eq}
-use Rattle.chess.specs.Public.Sets.{is_in}
-use Rattle.chess.specs.Shared.SetBitboards.{has_bit}
-use Rattle.chess.specs.Shared.SetFacts.{is_in-places_of}
+use Rattle.chess.proofs.Common.{sym, ap, ◌∙◌, nat_eq, is_in, has_bit, is_in-places_of, shr_and_one}
 use Rattle.chess.proofs.board.set.SquareSet.has.Goals as goal
-use Rattle.std.proofs.lemmas.Nat.Bits.{shr_and_one}
 
 pub returns : goal.returns
 returns c =

@@ -1,13 +1,7 @@
-use Rattle.std.proofs.Common.{arith, sym, ap, ◌∙◌, ◌≡◌, not, nat_eq, w64, inl, inr}
-use Rattle.std.proofs.lemmas.Bool.Decides.{nat_tests}
-use Rattle.std.proofs.lemmas.Bool.{cases_eq}
-use Rattle.std.proofs.lemmas.Nat.Bits.{bit_at-zero, bit_at-trailing_zeros}
-use Rattle.std.specs.Int.{trailing_zeros}
-use Rattle.chess.specs.Shared.SquareFacts.{index_of-square_at}
-use Rattle.chess.specs.Public.Squares.{Place, IsOnBoard, index_of, square_at}
-use Rattle.chess.specs.Public.Sets.{is_in}
-use Rattle.chess.specs.Shared.SetBitboards.{has_bit}
-use Rattle.chess.specs.Shared.SetFacts.{is_in-places_of}
+use Rattle.chess.proofs.Common.{arith, sym, ap, ◌∙◌, ◌≡◌, not, nat_eq, w64, inl, inr, nat_tests}
+use Rattle.chess.proofs.Common.{cases_eq, bit_at-zero, bit_at-trailing_zeros, trailing_zeros}
+use Rattle.chess.proofs.Common.{index_of-square_at, Place, IsOnBoard, index_of, square_at, is_in}
+use Rattle.chess.proofs.Common.{has_bit, is_in-places_of}
 use Rattle.chess.proofs.PlaceFacts.{true_not_false}
 use Rattle.chess.proofs.board.set.SquareSet.has_some.Goals as goal
 

@@ -1,10 +1,7 @@
-use Rattle.std.proofs.Common.{arith, ap, ◌∙◌, ◌||◌, ◌<◌, ◌*◌, ◌^◌, ◌%◌, bit_or}
-use Rattle.chess.specs.Public.Squares.{same_square}
-use Rattle.chess.specs.Public.Sets.{is_in}
-use Rattle.chess.specs.Shared.SetBitboards.{places_of, has_bit}
+use Rattle.chess.proofs.Common.{arith, ap, ◌∙◌, ◌||◌, ◌<◌, ◌*◌, ◌^◌, ◌%◌, bit_or, same_square}
+use Rattle.chess.proofs.Common.{is_in, places_of, has_bit, or_lt}
 use Rattle.chess.proofs.SetBits.{set_bit}
 use Rattle.chess.proofs.board.set.SquareSet.insert.Goals as goal
-use Rattle.std.proofs.lemmas.Nat.{or_lt}
 
 pub invariant_of-self : goal.invariant_of-self
 invariant_of-self c =

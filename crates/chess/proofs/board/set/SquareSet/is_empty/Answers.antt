@@ -1,9 +1,7 @@
-use Rattle.std.proofs.Common.{arith, sym, ap, ◌∙◌, ◌≡◌, inl, inr}
-use Rattle.std.proofs.lemmas.Bool.Decides.{nat_tests}
-use Rattle.chess.specs.Shared.SetBitboards.{places_of, has_bit}
-use Rattle.chess.specs.Shared.SetFacts.{empty_bitboard, not_empty_bitboard}
+use Rattle.chess.proofs.Common.{arith, sym, ap, ◌∙◌, ◌≡◌, inl, inr, nat_tests, places_of, has_bit}
+use Rattle.chess.proofs.Common.{empty_bitboard, cases_eq}
+use Rattle.chess.specs.Shared.SetFacts.{not_empty_bitboard}
 use Rattle.chess.proofs.board.set.SquareSet.is_empty.Goals as goal
-use Rattle.std.proofs.lemmas.Bool.{cases_eq}
 
 pub returns : goal.returns
 returns c =

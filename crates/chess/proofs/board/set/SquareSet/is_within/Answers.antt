@@ -1,13 +1,8 @@
-use Rattle.std.proofs.Common.{◌≡◌, ◌<◌, ◌^◌, bit_and, ℕ, true, min, arith, sym, ap, ◌∙◌, inl, inr}
-use Rattle.std.specs.Int.{bit_at}
-use Rattle.std.proofs.lemmas.Bool.{cases_eq, eqb-true, eq-eqb}
-use Rattle.std.proofs.lemmas.Nat.{and_le_l}
-use Rattle.std.proofs.lemmas.Nat.Bits.{bit_at_and, bit_at-lt, same_from_bits_below}
-use Rattle.chess.specs.Public.Squares.{Place, index_of, square_at}
-use Rattle.chess.specs.Shared.SquareFacts.{index_of-square_at}
-use Rattle.chess.specs.Public.Sets.{is_in}
-use Rattle.chess.specs.Shared.SetBitboards.{has_bit, places_of}
-use Rattle.chess.specs.Shared.SetFacts.{is_in-places_of, on_board-places_of, on_board-square_at}
+use Rattle.chess.proofs.Common.{◌≡◌, ◌<◌, ◌^◌, bit_and, ℕ, true, min, arith, sym, ap, ◌∙◌, inl, inr}
+use Rattle.chess.proofs.Common.{bit_at, cases_eq, eqb-true, eq-eqb, and_le_l, bit_at_and, bit_at-lt}
+use Rattle.chess.proofs.Common.{same_from_bits_below, Place, index_of, square_at}
+use Rattle.chess.proofs.Common.{index_of-square_at, is_in, has_bit, places_of, is_in-places_of}
+use Rattle.chess.proofs.Common.{on_board-places_of, on_board-square_at}
 use Rattle.chess.proofs.board.set.SquareSet.is_within.Goals as goal
 
 -- words of which one has all bits of the other

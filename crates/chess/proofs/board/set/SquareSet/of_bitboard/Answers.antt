@@ -1,6 +1,4 @@
-use Rattle.std.proofs.Common.{◌∙◌, sym}
-use Rattle.chess.specs.Shared.SetBitboards.{has_bit}
-use Rattle.chess.specs.Shared.SetFacts.{is_in-places_of, on_board-places_of}
+use Rattle.chess.proofs.Common.{◌∙◌, sym, has_bit, is_in-places_of, on_board-places_of}
 use Rattle.chess.proofs.board.set.SquareSet.of_bitboard.Goals as goal
 
 pub returns : goal.returns

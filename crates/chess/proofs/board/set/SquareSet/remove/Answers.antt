@@ -1,7 +1,5 @@
-use Rattle.std.proofs.Common.{arith, ap, not, ◌∙◌, ◌&&◌}
-use Rattle.chess.specs.Public.Squares.{Place, same_square, square_at}
-use Rattle.chess.specs.Public.Sets.{is_in}
-use Rattle.chess.specs.Shared.SetFacts.{square_at-index_of}
+use Rattle.chess.proofs.Common.{arith, ap, not, ◌∙◌, ◌&&◌, Place, same_square, square_at, is_in}
+use Rattle.chess.proofs.Common.{square_at-index_of}
 use Rattle.chess.proofs.SetBits.{clear_bit}
 use Rattle.chess.proofs.board.set.SquareSet.remove.Goals as goal
 

@@ -1,16 +1,10 @@
-use Rattle.std.proofs.Common.{arith, refl, sym, ap, ◌∙◌, ◌≡◌, true, false, nat_eq, w64}
-use Rattle.std.proofs.lemmas.Bool.Decides.{nat_tests}
-use Rattle.chess.specs.Shared.SquareFacts.{index_of-square_at}
-use Rattle.chess.specs.Public.Squares.{Place, IsOnBoard, same_square, index_of, square_at}
-use Rattle.chess.specs.Public.Sets.{is_in}
-use Rattle.chess.specs.Shared.SetBitboards.{places_of, has_bit}
-use Rattle.chess.specs.Shared.SetFacts.{is_in-places_of, on_board-places_of, empty_bitboard}
+use Rattle.chess.proofs.Common.{arith, refl, sym, ap, ◌∙◌, ◌≡◌, true, false, nat_eq, w64, inl, inr}
+use Rattle.chess.proofs.Common.{not, ◌&&◌, nat_tests, index_of-square_at, Place, IsOnBoard}
+use Rattle.chess.proofs.Common.{same_square, index_of, square_at, is_in, places_of, has_bit}
+use Rattle.chess.proofs.Common.{is_in-places_of, on_board-places_of, empty_bitboard}
+use Rattle.chess.proofs.Common.{bit_at-trailing_zeros, trailing_zeros, cases_lt}
 use Rattle.chess.proofs.SetBits.{clear_bit, without_lowest}
 use Rattle.chess.proofs.board.set.SquareSet.take_first.Goals as goal
-use Rattle.std.proofs.lemmas.Nat.Bits.{bit_at-trailing_zeros}
-use Rattle.std.specs.Int.{trailing_zeros}
-use Rattle.std.proofs.lemmas.Bool.{cases_lt}
-use Rattle.std.proofs.Common.{inl, inr, not, ◌&&◌}
 
 pub returns-then-bitboard-eq0 : goal.returns-then-bitboard-eq0
 returns-then-bitboard-eq0 c =

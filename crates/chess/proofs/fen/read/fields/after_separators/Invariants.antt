@@ -1,5 +1,4 @@
-use Rattle.std.proofs.Common.{◌≡◌, length}
-use Rattle.chess.specs.Shared.Runs.{after_all}
+use Rattle.chess.proofs.Common.{◌≡◌, length, after_all}
 use Rattle.chess.proofs.fen.read.fields.after_separators.Given as goal
 
 abbrev pub invariant-loop-rest : goal.invariant-loop-rest

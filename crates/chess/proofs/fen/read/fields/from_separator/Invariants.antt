@@ -1,5 +1,4 @@
-use Rattle.std.proofs.Common.{◌≡◌, length}
-use Rattle.chess.specs.Shared.Runs.{after_run}
+use Rattle.chess.proofs.Common.{◌≡◌, length, after_run}
 use Rattle.chess.proofs.fen.read.fields.from_separator.Given as goal
 
 abbrev pub invariant-loop-rest : goal.invariant-loop-rest

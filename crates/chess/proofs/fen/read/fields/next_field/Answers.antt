@@ -1,7 +1,5 @@
-use Rattle.std.proofs.Common.{◌≡◌, ℕ, true, false, List, [], ◌∷◌, length, sym, ap, ◌∙◌}
-use Rattle.std.specs.Prelude.{◌==◌}
-use Rattle.chess.specs.Public.Fen.{fields_of}
-use Rattle.chess.specs.Shared.Runs.{run_of, after_run, after_all}
+use Rattle.chess.proofs.Common.{◌≡◌, ℕ, true, false, List, [], ◌∷◌, length, sym, ap, ◌∙◌, ◌==◌}
+use Rattle.chess.proofs.Common.{fields_of, run_of, after_run, after_all}
 use Rattle.chess.proofs.RestFacts.{no_length}
 use Rattle.chess.proofs.FieldFacts.{fields_after_spaces, begins_field, fields_of_run}
 use Rattle.chess.proofs.fen.read.fields.next_field.Goals as goal

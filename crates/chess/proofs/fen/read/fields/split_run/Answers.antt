@@ -1,5 +1,4 @@
-use Rattle.std.proofs.Common.{arith}
-use Rattle.chess.specs.Shared.Runs.{run_of, after_run}
+use Rattle.chess.proofs.Common.{arith, run_of, after_run}
 use Rattle.chess.proofs.RestFacts.{rest_within, front_taken}
 use Rattle.chess.proofs.FieldFacts.{run_whole}
 use Rattle.chess.proofs.fen.read.fields.split_run.Goals as goal

@@ -1,6 +1,4 @@
-use Rattle.std.proofs.Common.{◌≡◌, length}
-use Rattle.std.specs.List.{list_all}
-use Rattle.chess.specs.Public.Fen.{is_right_letter}
+use Rattle.chess.proofs.Common.{◌≡◌, length, list_all, is_right_letter}
 use Rattle.chess.proofs.fen.read.parse.are_right_letters.Given as goal
 
 abbrev pub invariant-loop-rest : goal.invariant-loop-rest

@@ -1,5 +1,4 @@
-use Rattle.std.proofs.Common.{◌≡◌, length}
-use Rattle.chess.specs.Public.Fen.{has_byte}
+use Rattle.chess.proofs.Common.{◌≡◌, length, has_byte}
 use Rattle.chess.proofs.fen.read.parse.has_byte.Given as goal
 
 abbrev pub invariant-loop-rest : goal.invariant-loop-rest

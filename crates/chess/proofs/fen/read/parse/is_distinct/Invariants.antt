@@ -1,5 +1,4 @@
-use Rattle.std.proofs.Common.{◌≡◌, length}
-use Rattle.chess.specs.Public.Fen.{is_distinct}
+use Rattle.chess.proofs.Common.{◌≡◌, length, is_distinct}
 use Rattle.chess.proofs.fen.read.parse.is_distinct.Given as goal
 
 abbrev pub invariant-loop-rest : goal.invariant-loop-rest

@@ -1,5 +1,4 @@
-use Rattle.std.proofs.Common.{length}
-use Rattle.chess.specs.Shared.Tens.{IsCounted}
+use Rattle.chess.proofs.Common.{length, IsCounted}
 use Rattle.chess.proofs.fen.read.parse.read_count.Given as goal
 
 abbrev pub invariant-loop-rest : goal.invariant-loop-rest

@@ -1,7 +1,5 @@
-use Rattle.std.proofs.Common.{◌≡◌, ℕ, List, [], ◌∷◌, MatchOption, subst, arith}
-use Rattle.chess.specs.Public.Placements.{Placement}
-use Rattle.chess.specs.Public.Fen.{parted_at, SpellRanks}
-use Rattle.chess.specs.Shared.Runs.{run_of, after_run}
+use Rattle.chess.proofs.Common.{◌≡◌, ℕ, List, [], ◌∷◌, MatchOption, subst, arith, Placement}
+use Rattle.chess.proofs.Common.{parted_at, SpellRanks, run_of, after_run}
 use Rattle.chess.proofs.FieldFacts.{parted_by_run, parted_after}
 use Rattle.chess.proofs.fen.read.ranks.+put_ranks.Goals as goal
 
@@ -24,9 +22,6 @@ returns-then-rank-eq1-2-clause-spelled g t c p spelled =
     let text = c.args.text.now in
     let last : c.args.rank ≡ 1 = omega arith in
     let parted : parted_at 47 text ≡ first ∷ parted_at 47 c.in-Some.rest.now =
-    subst (λ o.
-    MatchOption o (parted_at 47 text ≡ first ∷ []) (λ rest. parted_at 47 text
-    ≡ first ∷ parted_at 47 rest.now)) c.in-Some.is
-    c.next_rank.ensures in
+    rw c.in-Some.is at c.next_rank.ensures in
     two_ranks p text first c.in-Some.rest.now parted
     (subst (λ n. SpellRanks p n (parted_at 47 text)) last spelled)

@@ -1,5 +1,4 @@
-use Rattle.std.proofs.Common.{arith, ◌∙◌}
-use Rattle.std.proofs.lemmas.List.{length-set}
+use Rattle.chess.proofs.Common.{arith, ◌∙◌, length-set}
 use Rattle.chess.proofs.RestFacts.{first_and_rest, no_bytes}
 use Rattle.chess.proofs.RankFacts.{row_start, row_more, row_end}
 use Rattle.chess.proofs.fen.read.ranks.read_row.Goals as goal

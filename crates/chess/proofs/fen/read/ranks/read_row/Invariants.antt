@@ -1,5 +1,4 @@
-use Rattle.std.proofs.Common.{length}
-use Rattle.chess.specs.Private.FenWords.{IsRow}
+use Rattle.chess.proofs.Common.{length, IsRow}
 use Rattle.chess.proofs.fen.read.ranks.read_row.Given as goal
 
 abbrev pub invariant-loop-rest : goal.invariant-loop-rest

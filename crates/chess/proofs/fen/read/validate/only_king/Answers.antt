@@ -1,6 +1,4 @@
-use Rattle.std.proofs.Common.{subst, Option}
-use Rattle.chess.specs.Public.Squares.{Place}
-use Rattle.chess.specs.Shared.SetBitboards.{IsTakenFirst}
+use Rattle.chess.proofs.Common.{Option, Place, IsTakenFirst}
 use Rattle.chess.proofs.FenFacts.{no_king, one_king}
 use Rattle.chess.proofs.fen.read.validate.only_king.Goals as goal
 
@@ -18,7 +16,5 @@ returns g c =
     c.take_first.new.self c.take_first-2.new.self
     c.in_ok-square.square c.take_first-2.result c.is_some.result
     (g.met.B.Board.on_board c.args.board.now) c.squares_of-kings.ensures
-    (subst (λ (o : Option Place).
-    IsTakenFirst c.squares_of-kings.result c.take_first.new.self o) c.in_ok-square.was
-    c.take_first.ensures)
+    (rw c.in_ok-square.was at c.take_first.ensures)
     c.take_first-2.ensures c.is_some.ensures c.if-is_some.false

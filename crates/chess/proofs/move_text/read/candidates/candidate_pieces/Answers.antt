@@ -1,14 +1,11 @@
-use Rattle.std.proofs.Common.{◌≡◌, inl, inr, subst, sym}
-use Rattle.chess.specs.Public.Placements.{IsOccupiedBy}
-use Rattle.chess.specs.Public.Sets.{HoldsExactly, IsAttacker}
-use Rattle.chess.specs.Private.SanWords.{said_by, man_said, IsCandidate}
-use Rattle.chess.specs.declared.board.man.Man.{Man}
+use Rattle.chess.proofs.Common.{◌≡◌, inl, inr, subst, sym, IsOccupiedBy, HoldsExactly, IsAttacker}
+use Rattle.chess.proofs.Common.{said_by, man_said, IsCandidate, Man}
 use Rattle.chess.proofs.PlaceFacts.{true_not_false}
 use Rattle.chess.proofs.CandidateFacts.{candidate_pieces, no_piece, none_hold, promotes_some}
 use Rattle.chess.proofs.CandidateFacts.{promotes_none}
-use Rattle.chess.proofs.move_text.read.candidates.candidate_pieces.Goals as goal
 use Rattle.chess.proofs.move_text.read.candidates.candidate_pieces.Goals.{then-is_some-via-then-is_some}
 use Rattle.chess.proofs.move_text.read.candidates.candidate_pieces.Goals.{then-is_some-via-else-is_some+then-is_occupied_by}
+use Rattle.chess.proofs.move_text.read.candidates.candidate_pieces.Goals as goal
 
 pub returns-then-is_some : goal.returns-then-is_some
 returns-then-is_some g c =

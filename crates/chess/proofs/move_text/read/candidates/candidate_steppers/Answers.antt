@@ -1,6 +1,4 @@
-use Rattle.std.proofs.Common.{subst, sym}
-use Rattle.chess.specs.Public.Moves.{Promotes}
-use Rattle.chess.specs.Private.SanWords.{said_by, IsCandidate}
+use Rattle.chess.proofs.Common.{Promotes, said_by, IsCandidate}
 use Rattle.chess.proofs.PlaceFacts.{true_not_false}
 use Rattle.chess.proofs.CandidateFacts.{candidate_steppers, pawn_goes, none_hold}
 use Rattle.chess.proofs.move_text.read.candidates.candidate_steppers.Goals as goal
@@ -13,8 +11,7 @@ returns-then-not-promotes g c =
     (λ s on candidates.
     true_not_false c.promotes.result
     (c.promotes.ensures.1
-    (subst (λ a. Promotes a said.target said.promote) (sym c.side.ensures)
-    (pawn_goes P said s c.requires.pawn candidates).1))
+    (rw c.side.ensures (pawn_goes P said s c.requires.pawn candidates).1))
     c.if-not-promotes.true)
 
 pub returns : goal.returns
@@ -23,7 +20,6 @@ returns g c =
     let said = said_by c.args.said.now in
     candidate_steppers P said c.steppers.result c.origins.result c.common.result c.requires.pawn
     c.invariant-2.ensures
-    (subst (λ a. Promotes a said.target said.promote) c.side.ensures
-    (c.promotes.ensures.0 c.if-not-promotes.false))
+    (rw (← c.side.ensures) (c.promotes.ensures.0 c.if-not-promotes.false))
     c.requires.steps c.steppers.ensures c.origins.ensures
     c.common.ensures

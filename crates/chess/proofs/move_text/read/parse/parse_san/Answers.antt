@@ -1,10 +1,6 @@
-use Rattle.std.proofs.Common.{◌≡◌, ◌≤◌, ◌-◌, ℕ, inl, inr, ap, sym, subst, ◌∙◌, Some, None, List, []}
-use Rattle.std.proofs.Common.{reverse}
-use Rattle.std.proofs.lemmas.Option.{same_Some}
-use Rattle.chess.specs.Public.San.{Said, Spells}
-use Rattle.chess.specs.Private.SanWords.{kind_given, number_given, last_of, before_last}
-use Rattle.chess.specs.Private.SanWords.{after_letter}
-use Rattle.chess.specs.declared.move_text.read.parse.ByteClass.TheVariants.{KindLetter}
+use Rattle.chess.proofs.Common.{◌≡◌, ◌≤◌, ◌-◌, ℕ, inl, inr, ap, sym, subst, ◌∙◌, Some, None, List}
+use Rattle.chess.proofs.Common.{[], reverse, same_Some, Said, Spells, kind_given, number_given}
+use Rattle.chess.proofs.Common.{last_of, before_last, after_letter, KindLetter}
 use Rattle.chess.proofs.SpelledParts.{file_number, rank_number, found_bytes, found_are, found_text}
 use Rattle.chess.proofs.SpelledParts.{said_of, spelled_parts, said_bytes}
 use Rattle.chess.proofs.TextParts.{Bytes, ReadAs, read_text}

@@ -1,5 +1,4 @@
-use Rattle.std.proofs.Common.{◌≡◌, length, reverse}
-use Rattle.chess.specs.Private.SanWords.{unmarked}
+use Rattle.chess.proofs.Common.{◌≡◌, length, reverse, unmarked}
 use Rattle.chess.proofs.move_text.read.parse.unmarked.Given as goal
 
 abbrev pub invariant-loop-rest : goal.invariant-loop-rest
