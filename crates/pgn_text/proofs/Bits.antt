@@ -56,8 +56,7 @@ unfolding has_bit
 bit-mod n i h =
     let m = 63 - i in
     let e : m + 1 + i ≡ 64 = omega arith in
-    ap (λ x. x == 1) (subst (λ w. bit_at (n % 2 ^ w) i
-    ≡ bit_at n i) e (ap (λ x. x % 2) (field n (m + 1) i) ∙ mod-mod-pow (n / 2 ^ i) m 1))
+    ap (λ x. x == 1) (rw e at (ap (λ x. x % 2) (field n (m + 1) i) ∙ mod-mod-pow (n / 2 ^ i) m 1))
 
 -- of `y << 1`
 abbrev pub shl : ℕ → ℕ → ℕ

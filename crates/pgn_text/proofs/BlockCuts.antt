@@ -1,21 +1,19 @@
 -- Where a text is cut: the tests by place, and the blocks between two cuts.
-use Rattle.std.proofs.Common.{◌≡◌, ℕ, ◌+◌, ◌-◌, ◌<◌, ◌≤◌, Bool, true, false, List, [], ◌∷◌, ◌++◌}
-use Rattle.std.proofs.Common.{length, get_or, take, drop, refl, sym, ap, ◌∙◌, subst, arith}
-use Rattle.std.proofs.Common.{length-append, length-drop, append_assoc, inl, inr}
-use Rattle.std.specs.Prelude.{◌≢◌, ◌&&◌, ◌==◌, nat_eq, IsTrue, Some, None}
-use Rattle.std.specs.List.{starts_with}
+use Rattle.std.specs.Prelude.{◌≢◌, IsTrue, None}
 use Rattle.std.specs.Cmp.Lexicographic.{pointwise}
 use Rattle.std.proofs.lemmas.List.{drop_more, get_or_append_left, take-append-le, drop-append-le}
 use Rattle.std.proofs.lemmas.List.{drop_at, append-nil, get_or-append_right, get_or-drop, drop-drop}
 use Rattle.std.proofs.Math.Seq.{drop-append-add}
-use Rattle.std.proofs.lemmas.Bool.{and_parts, both_ways, cases_lt, eqb-true, false_from_ne_true}
-use Rattle.pgn_text.specs.Public.Blocks.{event_line, is_event_line, IsFirstBlock}
 use Rattle.std.proofs.lemmas.Bool.Decides.{Decides-eqb}
 use Rattle.std.proofs.lemmas.Slice.Eq.{starts_is}
 use Rattle.memchr.specs.Find.{OccursAt, FindsNeedle}
 use Rattle.memchr.proofs.lemmas.MatchLemmas.{OccursAt-part, OccursAt-from_part}
-use Rattle.pgn_text.specs.Private.Cuts.{is_cut, NoCutBefore}
-use Rattle.pgn_text.specs.Private.Searches.{IsNextCut}
+use Rattle.pgn_text.proofs.Common.{◌≡◌, ℕ, ◌+◌, ◌-◌, ◌<◌, ◌≤◌, Bool, true, false, List, [], ◌∷◌}
+use Rattle.pgn_text.proofs.Common.{◌++◌, length, get_or, take, drop, refl, sym, ap, ◌∙◌, subst}
+use Rattle.pgn_text.proofs.Common.{arith, length-append, length-drop, append_assoc, inl, inr, ◌&&◌}
+use Rattle.pgn_text.proofs.Common.{◌==◌, nat_eq, Some, starts_with, and_parts, both_ways, cases_lt}
+use Rattle.pgn_text.proofs.Common.{eqb-true, false_from_ne_true, event_line, is_event_line}
+use Rattle.pgn_text.proofs.Common.{IsFirstBlock, is_cut, NoCutBefore, IsNextCut}
 
 -- the test of a cut, over the byte before and the eight bytes from there on
 abbrev cut_test : ℕ → List ℕ → Bool

@@ -1,11 +1,9 @@
 -- The blocks of a text in memory, call by call.
-use Rattle.std.proofs.Common.{◌≡◌, ◌≢◌, ℕ, ◌+◌, ◌<◌, Bool, true, false, List, [], ◌∷◌, ◌++◌, Some}
-use Rattle.std.proofs.Common.{map, length, refl, sym, ap, subst, ◌∙◌, inl, inr, arith, append_assoc}
-use Rattle.std.proofs.Common.{append-nil, length-append}
-use Rattle.std.proofs.lemmas.Bool.{cases_Bool, both_ways}
-use Rattle.std.proofs.lemmas.List.{map-append}
-use Rattle.pgn_text.specs.Public.Blocks.{IsFirstBlock, AreBlocks}
-use Rattle.pgn_text.specs.Public.Windows.{Window, IsCutOff}
+use Rattle.std.proofs.Common.{Some}
+use Rattle.pgn_text.proofs.Common.{◌≡◌, ◌≢◌, ℕ, ◌+◌, ◌<◌, Bool, true, false, List, [], ◌∷◌, ◌++◌}
+use Rattle.pgn_text.proofs.Common.{map, length, refl, sym, ap, subst, ◌∙◌, inl, inr, arith}
+use Rattle.pgn_text.proofs.Common.{append_assoc, append-nil, length-append, cases_Bool, both_ways}
+use Rattle.pgn_text.proofs.Common.{map-append, IsFirstBlock, AreBlocks, Window, IsCutOff}
 use Rattle.pgn_text.proofs.OneBlocks.{empty_first}
 use Rattle.pgn_text.proofs.OneList.{no_bytes}
 
@@ -78,11 +76,9 @@ one_sized text now next left left' read block sizes size s cut reads is = record
   sized = ap (λ l. l ++ size ∷ []) s.sized ∙ ap (λ n. map length s.blocks ++ n ∷ []) is
       ∙ sym (simp map-append);
   leads = λ more are.
-      subst (λ l. AreBlocks l text) (sym (append_assoc s.blocks (block ∷ []) more))
-      (s.leads (block
-      ∷ more) (subst (λ e. AreLeft e (block ∷ more) (now.ahead ++ left)) (sym cut.going)
-      (subst (AreBlocks (block ∷ more)) (sym (cut_text now next left left' read block cut reads))
-      (lead next.ended refl more are))));
+      rw (append_assoc s.blocks (block ∷ []) more) (s.leads (block ∷ more) (rw cut.going (subst
+      (AreBlocks (block ∷ more)) (sym (cut_text now next left left' read block cut reads)) (lead
+      next.ended refl more are))));
 }
   where
     lead : (ended : Bool) → next.ended ≡ ended → (more : List (List ℕ))

@@ -1,10 +1,8 @@
 -- Brace comments, found by their closing brace.
-use Rattle.std.proofs.Common.{◌≡◌, ℕ, ◌+◌, List, take, drop, sym, ap, ◌∙◌}
 use Rattle.std.specs.Prelude.{Some, None, option_map}
-use Rattle.memchr.specs.Find.{IsFirstByte, is_byte}
-use Rattle.pgn_text.specs.Public.Bytes.{is_not_brace, run_of, after_run}
-use Rattle.pgn_text.specs.Public.Parts.{Brace}
-use Rattle.pgn_text.specs.Private.Reading.{rest_after, brace_front}
+use Rattle.memchr.specs.Find.{is_byte}
+use Rattle.pgn_text.proofs.Common.{◌≡◌, ℕ, ◌+◌, List, take, drop, sym, ap, ◌∙◌, IsFirstByte}
+use Rattle.pgn_text.proofs.Common.{is_not_brace, run_of, after_run, Brace, rest_after, brace_front}
 use Rattle.pgn_text.proofs.Runs.{first_byte-run, after-first_byte, after-first_byte-none, take_run}
 
 pub brace_found : (text : List ℕ) (n : ℕ) → IsFirstByte (is_byte 125) text (Some n)

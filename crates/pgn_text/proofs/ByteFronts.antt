@@ -1,19 +1,12 @@
 -- What the front of a part goes on with may be bytes.
-use Rattle.std.proofs.Common.{◌≡◌, ℕ, Bool, true, List, [], ◌∷◌, ◌++◌, IsTrue, refl, sym, ap, subst}
-use Rattle.std.proofs.Common.{◌∙◌, inl, inr, arith, append-nil}
-use Rattle.std.specs.List.{list_all}
-use Rattle.std.proofs.lemmas.Bool.{and_parts, and_from, cases_Bool}
-use Rattle.std.proofs.lemmas.Bool.Decides.{nat_tests}
-use Rattle.std.proofs.lemmas.List.Folds.{list_all-append}
-use Rattle.pgn_text.specs.Public.Bytes.{is_byte, is_white, is_digit, is_word_byte, is_mark}
-use Rattle.pgn_text.specs.Public.Bytes.{is_not_line_feed, is_not_brace}
-use Rattle.pgn_text.specs.Public.Parts.{Part, ByteOrderMark, White, Brace, Line, EscapeLine, Tag}
-use Rattle.pgn_text.specs.Public.Parts.{Word, Star, Dot, Glyph, Marks, Open, Close, Standing}
-use Rattle.pgn_text.specs.Public.Parts.{Stands, spelled_part}
-use Rattle.pgn_text.specs.Public.Games.{is_tag}
-use Rattle.pgn_text.specs.Private.Steps.{State}
-use Rattle.pgn_text.specs.Private.PartFronts.{Follows, IsPartFront, Ends}
-use Rattle.pgn_text.specs.declared.error.error_position.InTag.TheVariants.{BeforeName}
+use Rattle.pgn_text.proofs.Common.{◌≡◌, ℕ, Bool, true, List, [], ◌∷◌, ◌++◌, IsTrue, refl, sym, ap}
+use Rattle.pgn_text.proofs.Common.{subst, ◌∙◌, inl, inr, arith, append-nil, list_all, and_parts}
+use Rattle.pgn_text.proofs.Common.{and_from, cases_Bool, nat_tests, list_all-append, is_byte}
+use Rattle.pgn_text.proofs.Common.{is_white, is_digit, is_word_byte, is_mark, is_not_line_feed}
+use Rattle.pgn_text.proofs.Common.{is_not_brace, Part, ByteOrderMark, White, Brace, Line}
+use Rattle.pgn_text.proofs.Common.{EscapeLine, Tag, Word, Star, Dot, Glyph, Marks, Open, Close}
+use Rattle.pgn_text.proofs.Common.{Standing, Stands, spelled_part, is_tag, State, Follows}
+use Rattle.pgn_text.proofs.Common.{IsPartFront, Ends, BeforeName}
 use Rattle.pgn_text.proofs.InTag.{tag_is, tag_ends, tag_bytes}
 use Rattle.pgn_text.proofs.Lines.{cut_append}
 

@@ -1,13 +1,11 @@
 -- Worked rows of the classes of bytes, of runs and of strings. A class is held by all its bytes.
-use Rattle.std.proofs.Common.{◌≡◌, ℕ, zero, suc, ◌+◌, Bool, true, false, not, List, [], ◌∷◌, ◌++◌}
-use Rattle.std.proofs.Common.{codes, refl}
 use Rattle.std.specs.List.{filter}
-use Rattle.pgn_text.specs.Public.Bytes.{is_byte, is_white, is_digit, is_letter, is_name_byte}
-use Rattle.pgn_text.specs.Public.Bytes.{is_word_byte, is_mark, is_check_sign, is_plain}
-use Rattle.pgn_text.specs.Public.Bytes.{is_not_line_feed, is_not_brace, ends_in_line_feed, is_empty}
-use Rattle.pgn_text.specs.Public.Bytes.{stops, begins, run_of, after_run}
-use Rattle.pgn_text.specs.Public.StopPlaces.{is_open_brace, is_open_bracket, is_quote}
-use Rattle.pgn_text.specs.Public.Strings.{Single, Escaped, spelled_sign, is_sign, value_of_sign}
+use Rattle.pgn_text.proofs.Common.{◌≡◌, ℕ, zero, suc, ◌+◌, Bool, true, false, not, List, [], ◌∷◌}
+use Rattle.pgn_text.proofs.Common.{◌++◌, codes, refl, is_byte, is_white, is_digit, is_letter}
+use Rattle.pgn_text.proofs.Common.{is_name_byte, is_word_byte, is_mark, is_check_sign, is_plain}
+use Rattle.pgn_text.proofs.Common.{is_not_line_feed, is_not_brace, ends_in_line_feed, is_empty}
+use Rattle.pgn_text.proofs.Common.{stops, begins, run_of, after_run, is_open_brace, is_open_bracket}
+use Rattle.pgn_text.proofs.Common.{is_quote, Single, Escaped, spelled_sign, is_sign, value_of_sign}
 
 -- so many numbers in a row
 abbrev numbers : ℕ → ℕ → List ℕ

@@ -1,9 +1,6 @@
 -- Classes of bytes that have no byte in common.
-use Rattle.std.proofs.Common.{◌≡◌, ℕ, true, false, arith}
-use Rattle.std.proofs.lemmas.Bool.Decides.{nat_tests}
-use Rattle.std.specs.Prelude.{◌==◌}
-use Rattle.pgn_text.specs.Public.Bytes.{is_white, is_digit, is_letter, is_name_byte, is_word_byte}
-use Rattle.pgn_text.specs.Public.Bytes.{is_mark}
+use Rattle.pgn_text.proofs.Common.{◌≡◌, ℕ, true, false, arith, nat_tests, ◌==◌, is_white, is_digit}
+use Rattle.pgn_text.proofs.Common.{is_letter, is_name_byte, is_word_byte, is_mark}
 
 pub is_white-word : (b : ℕ) → is_word_byte b ≡ true → is_white b ≡ false
 is_white-word b word = grind (arith, nat_tests)

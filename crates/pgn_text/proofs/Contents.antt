@@ -1,16 +1,10 @@
 -- The contents of a string, read run by run.
-use Rattle.std.proofs.Common.{◌≡◌, ℕ, ◌+◌, ◌-◌, ◌<◌, ◌≤◌, true, false, List, [], ◌∷◌}
-use Rattle.std.proofs.Common.{◌++◌, take, drop, length, get_or, refl, sym, ap, ◌∙◌, subst}
-use Rattle.std.proofs.Common.{append_assoc, arith, drop-drop}
 use Rattle.std.specs.Prelude.{Option, Some, None, option_map, IsTrue, ◌==◌, ◌&&◌, not}
-use Rattle.std.specs.List.{list_all}
-use Rattle.std.proofs.lemmas.Bool.{and_parts, not-true}
-use Rattle.std.proofs.lemmas.List.{drop_more}
-use Rattle.std.proofs.Math.Seq.{take-add}
-use Rattle.pgn_text.specs.Public.Bytes.{is_plain, stops, run_of}
-use Rattle.pgn_text.specs.Private.Reading.{is_single}
-use Rattle.pgn_text.specs.Shared.StringTexts.{contents_front, with_byte}
-use Rattle.pgn_text.specs.Private.Tokens.{RunTo}
+use Rattle.pgn_text.proofs.Common.{◌≡◌, ℕ, ◌+◌, ◌-◌, ◌<◌, ◌≤◌, true, false, List, [], ◌∷◌, ◌++◌}
+use Rattle.pgn_text.proofs.Common.{take, drop, length, get_or, refl, sym, ap, ◌∙◌}
+use Rattle.pgn_text.proofs.Common.{append_assoc, arith, drop-drop, list_all, and_parts, not-true}
+use Rattle.pgn_text.proofs.Common.{drop_more, take-add, is_plain, stops, run_of, is_single}
+use Rattle.pgn_text.proofs.Common.{contents_front, with_byte, RunTo}
 use Rattle.pgn_text.proofs.Fronts.{run-append-after, list_all-run, stops-after_run}
 
 -- contents that were found after a front
@@ -113,8 +107,7 @@ read_run {block} {begin} {at} to = record {
   reads = reads_run block begin at to;
   forward = to.forward;
   within = to.within;
-  ends = subst (λ xs. IsTrue (stops is_single xs)) (sym to.rest)
-      (stops-after_run is_single (drop begin block));
+  ends = rw to.rest (stops-after_run is_single (drop begin block));
 }
 
 -- after a backslash with a plain byte, and the run after them

@@ -1,12 +1,10 @@
 -- A block cut off from the bytes held, as the window shows it.
-use Rattle.std.proofs.Common.{◌≡◌, ℕ, ◌+◌, ◌-◌, ◌≤◌, Bool, false, List, [], ◌++◌, length, take}
-use Rattle.std.proofs.Common.{drop, Option, sym, ap, ◌∙◌, arith, append_assoc, length-append}
-use Rattle.std.proofs.Common.{length-drop}
+use Rattle.std.proofs.Common.{Option}
 use Rattle.std.proofs.lemmas.List.{append-nil, drop_all, take-append-drop}
-use Rattle.pgn_text.specs.Public.Limits.{block_limit}
-use Rattle.pgn_text.specs.Private.Searches.{FindsEnd}
-use Rattle.pgn_text.specs.Public.Tallies.{Reads}
-use Rattle.pgn_text.specs.Public.Windows.{Window, EndsIn, HoldsTheRest, IsCutOff}
+use Rattle.pgn_text.proofs.Common.{◌≡◌, ℕ, ◌+◌, ◌-◌, ◌≤◌, Bool, false, List, [], ◌++◌, length, take}
+use Rattle.pgn_text.proofs.Common.{drop, sym, ap, ◌∙◌, arith, append_assoc, length-append}
+use Rattle.pgn_text.proofs.Common.{length-drop, block_limit, FindsEnd, Reads, Window, IsCutOff}
+use Rattle.pgn_text.specs.Public.Windows.{EndsIn, HoldsTheRest}
 use Rattle.pgn_text.specs.declared.io.blocks.BlockEnd.{BlockEnd}
 use Rattle.pgn_text.specs.Public.AnswerLaws.{DoneWithTheBlock}
 use Rattle.pgn_text.proofs.OneList.{same_fronts}

@@ -1,12 +1,9 @@
 -- A block cut into pieces: one piece more in front of those that are left.
-use Rattle.std.proofs.Common.{◌≡◌, ◌≢◌, ℕ, ◌≤◌, Bool, List, [], ◌∷◌, ◌++◌, length, take, drop, refl}
-use Rattle.std.proofs.Common.{sym, ap, ◌∙◌, subst, arith, append-nil, length-drop}
-use Rattle.std.proofs.lemmas.List.{length-take-le, drop_all}
-use Rattle.pgn_text.specs.Public.Parts.{Part, spelled}
-use Rattle.pgn_text.specs.Public.Games.{IsGame}
-use Rattle.pgn_text.specs.Public.Gaps.{IsLongestGap}
-use Rattle.pgn_text.specs.Public.Pieces.{Piece, Game, Unreadable, ArePieces, NoGame}
-use Rattle.pgn_text.specs.Private.Walk.{GapTo, LongestGapTo, GameTo}
+use Rattle.pgn_text.proofs.Common.{◌≡◌, ◌≢◌, ℕ, ◌≤◌, Bool, List, [], ◌∷◌, ◌++◌, length, take, drop}
+use Rattle.pgn_text.proofs.Common.{refl, sym, ap, ◌∙◌, subst, arith, append-nil, length-drop}
+use Rattle.pgn_text.proofs.Common.{length-take-le, drop_all, Part, spelled, IsGame, IsLongestGap}
+use Rattle.pgn_text.proofs.Common.{Piece, Game, Unreadable, ArePieces, NoGame, GapTo, LongestGapTo}
+use Rattle.pgn_text.proofs.Common.{GameTo}
 use Rattle.pgn_text.proofs.OneList.{no_bytes, game_has_byte, one_gap, no_more}
 
 -- where no byte is left no piece is

@@ -2,15 +2,10 @@
 use Rattle.std.proofs.Common.{◌≡◌, ℕ, zero, suc, ◌+◌, ◌<◌, Bool, false, List, [], ◌∷◌, ◌++◌, Option}
 use Rattle.std.proofs.Common.{Some, None, length, refl, sym, ap, subst, ◌∙◌, inl, inr, arith}
 use Rattle.std.proofs.Common.{append_assoc, append-nil}
-use Rattle.std.proofs.lemmas.Bool.{cases_Bool, cases_eq}
-use Rattle.std.proofs.lemmas.List.{take_all}
 use Rattle.std.proofs.Math.Seq.{take-length}
-use Rattle.pgn_text.specs.Public.Parts.{Part, standing_of, Stands, AllStand, spelled, spelled_part}
-use Rattle.pgn_text.specs.Public.Games.{is_result}
-use Rattle.pgn_text.specs.Private.Steps.{State, start, step}
-use Rattle.pgn_text.specs.Public.Stops.{IsGameFront, IsLongestViablePrefix}
-use Rattle.pgn_text.specs.Private.ErrorPosition.{Walks}
-use Rattle.pgn_text.specs.Private.PartFronts.{Follows, NoneFollows}
+use Rattle.pgn_text.proofs.Common.{cases_Bool, cases_eq, take_all, Part, standing_of, Stands}
+use Rattle.pgn_text.proofs.Common.{AllStand, spelled, spelled_part, is_result, State, start, step}
+use Rattle.pgn_text.proofs.Common.{IsGameFront, IsLongestViablePrefix, Walks, Follows, NoneFollows}
 use Rattle.pgn_text.proofs.OneList.{shorter}
 use Rattle.pgn_text.proofs.FoundLemmas.{part_or_none}
 use Rattle.pgn_text.proofs.GameFronts.{Halts, stops, halts_in_part, halts_at_game, front_from}
@@ -125,6 +120,5 @@ module _ (max_depth : ℕ) (f : Bool) where
       with_bytes before x (record {
         more = y ++ k.more;
         parts = k.parts;
-        reads = subst (λ l. Reads max_depth f before l start k.parts []) (append_assoc x y k.more)
-            k.reads;
+        reads = rw (← (append_assoc x y k.more)) k.reads;
       })

@@ -4,16 +4,15 @@ use Rattle.std.proofs.Common.{◌++◌, length, take, drop, Option, refl, sym, a
 use Rattle.std.proofs.Common.{length-append, length-drop, append_assoc, inl, inr}
 use Rattle.std.specs.Prelude.{◌≢◌}
 use Rattle.std.specs.Io.KnownBytes.{IsAtEnd}
-use Rattle.std.proofs.lemmas.Bool.{both_ways, cases_lt}
-use Rattle.std.proofs.lemmas.List.{append-nil, take-append-drop, length-take-le, nil_from_length}
-use Rattle.std.proofs.lemmas.List.{drop-append-le, drop-drop, drop_all, take_all}
-use Rattle.pgn_text.specs.Public.Blocks.{IsFirstBlock}
-use Rattle.pgn_text.specs.Private.Cuts.{is_cut, NoCutBefore}
+use Rattle.std.proofs.lemmas.List.{append-nil, drop-drop}
+use Rattle.pgn_text.proofs.Common.{both_ways, cases_lt, take-append-drop, length-take-le}
+use Rattle.pgn_text.proofs.Common.{nil_from_length, drop-append-le, drop_all, take_all}
+use Rattle.pgn_text.proofs.Common.{IsFirstBlock, is_cut, NoCutBefore, block_limit, largest_offset}
+use Rattle.pgn_text.proofs.Common.{IsNextCut, FindsEnd, Reads, FailsAfter}
 use Rattle.pgn_text.specs.Private.Held.{IsOccupiedBy}
-use Rattle.pgn_text.specs.Public.Limits.{block_limit, largest_offset, window_limit}
-use Rattle.pgn_text.specs.Private.Searches.{IsNextCut, FindsMore, FindsEnd, FailsFrom, GivesUp}
-use Rattle.pgn_text.specs.Public.Tallies.{AppendsRead, Reads}
-use Rattle.pgn_text.specs.Public.Windows.{FailsAfter}
+use Rattle.pgn_text.specs.Public.Limits.{window_limit}
+use Rattle.pgn_text.specs.Private.Searches.{FindsMore, FailsFrom, GivesUp}
+use Rattle.pgn_text.specs.Public.Tallies.{AppendsRead}
 use Rattle.pgn_text.specs.declared.io.blocks.ReadError.{ReadError}
 use Rattle.pgn_text.specs.declared.io.blocks.ReadError.TheVariants.{Read, OutOfMemory, InputTooLong}
 use Rattle.pgn_text.specs.declared.io.blocks.ReadError.TheVariants.{Failed}
@@ -202,8 +201,7 @@ module _ {ahead held : List ℕ} {place lost : ℕ} {left now : Option (List ℕ
   -- these hold no event line within
   uncut_so_far : IsFirstBlock (ahead ++ p.read) []
   uncut_so_far =
-      subst (λ t. IsFirstBlock t []) (sym p.joined)
-      (first_block_at_end [] (p.gone ++ held) (λ j a b. p.none j (omega arith) b))
+      rw p.joined (first_block_at_end [] (p.gone ++ held) (λ j a b. p.none j (omega arith) b))
 
   size_so_far : length (ahead ++ p.read) ≡ lost + length held
   size_so_far = ap length p.joined ∙ length-append p.gone held ∙ ap (λ k. k + length held) p.counted

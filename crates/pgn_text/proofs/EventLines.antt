@@ -1,10 +1,8 @@
 -- An event line parts the pieces of a text.
-use Rattle.std.proofs.Common.{◌≡◌, ◌≢◌, ℕ, ◌+◌, true, List, [], ◌∷◌, ◌++◌, length, sym, ap, subst}
-use Rattle.std.proofs.Common.{◌∙◌, arith, append_assoc, append-nil, length-append, IsTrue}
-use Rattle.std.proofs.lemmas.Bool.{and_parts, and_from, false≢true}
-use Rattle.pgn_text.specs.Public.Bytes.{ends_in_line_feed}
-use Rattle.pgn_text.specs.Public.Blocks.{is_event_line, IsFirstBlock, AreBlocks}
-use Rattle.pgn_text.specs.Public.Marks.{MarkedPiece, AreOfBlocks}
+use Rattle.pgn_text.proofs.Common.{◌≡◌, ◌≢◌, ℕ, ◌+◌, true, List, [], ◌∷◌, ◌++◌, length, sym, ap}
+use Rattle.pgn_text.proofs.Common.{subst, ◌∙◌, arith, append_assoc, append-nil, length-append}
+use Rattle.pgn_text.proofs.Common.{IsTrue, and_parts, and_from, false≢true, ends_in_line_feed}
+use Rattle.pgn_text.proofs.Common.{is_event_line, IsFirstBlock, AreBlocks, MarkedPiece, AreOfBlocks}
 use Rattle.pgn_text.specs.Public.TextLaws.{PiecesJoinAtEventLines, PiecesPartAtEventLines}
 use Rattle.pgn_text.proofs.FrontText.{event_front}
 use Rattle.pgn_text.proofs.LineFronts.{begins_line, line_front}

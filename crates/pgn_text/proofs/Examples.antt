@@ -1,21 +1,18 @@
 -- What the definitions refuse: of the complete blocks of a text, and of what one call of an
 -- iterator over a block gives.
-use Rattle.std.proofs.Common.{◌≡◌, ◌≢◌, ◌≤◌, ◌<◌, ◌∙◌, ℕ, true, false, List, [], ◌∷◌, ◌++◌, length}
-use Rattle.std.proofs.Common.{None, Some, Err, inl, inr, ap, refl, sym, arith}
+use Rattle.std.proofs.Common.{Some}
 use Rattle.std.proofs.lemmas.List.{length-append}
-use Rattle.pgn_text.specs.Public.Blocks.{event_line}
-use Rattle.std.specs.declared.alloc.AllocError.{AllocError}
+use Rattle.pgn_text.proofs.Common.{◌≡◌, ◌≢◌, ◌≤◌, ◌<◌, ◌∙◌, ℕ, true, false, List, [], ◌∷◌, ◌++◌}
+use Rattle.pgn_text.proofs.Common.{length, None, Err, inl, inr, ap, refl, sym, arith, event_line}
+use Rattle.pgn_text.proofs.Common.{AllocError, GameText, Left, ArePiecesLeft, GivesPiece, IsPiece}
+use Rattle.pgn_text.proofs.Common.{GivesMark, IsMark, AreOfBlocks, MarkedPiece, PieceStart}
 use Rattle.pgn_text.specs.Public.Complete.{AreCompleteBlocks, AreCompletePieces}
-use Rattle.pgn_text.specs.Public.GameTexts.{GameText}
-use Rattle.pgn_text.specs.Public.Left.{Left, ArePiecesLeft, GivesPiece, IsPiece, TakesPiece}
-use Rattle.pgn_text.specs.Public.Left.{piece_place}
-use Rattle.pgn_text.specs.Public.LeftMarks.{GivesMark, IsMark, TakesMark}
-use Rattle.pgn_text.specs.Public.Marks.{AreOfBlocks, MarkedPiece}
-use Rattle.pgn_text.specs.Public.Pieces as spec
+use Rattle.pgn_text.specs.Public.Left.{TakesPiece, piece_place}
+use Rattle.pgn_text.specs.Public.LeftMarks.{TakesMark}
 use Rattle.pgn_text.specs.declared.game.pieces.Piece.{Piece}
 use Rattle.pgn_text.specs.declared.game.pieces.Piece.TheVariants.{Unreadable}
+use Rattle.pgn_text.specs.Public.Pieces as spec
 use Rattle.pgn_text.specs.declared.game.pieces.Piece.TheVariants as pieces
-use Rattle.pgn_text.specs.declared.game.pieces.PieceStart.{PieceStart}
 use Rattle.pgn_text.specs.declared.game.pieces.PieceStart.TheVariants as starts
 
 -- a text with two event lines has a complete block

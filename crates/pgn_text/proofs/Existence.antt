@@ -2,14 +2,11 @@
 use Rattle.std.proofs.Common.{◌≡◌, ℕ, zero, suc, ◌<◌, ◌≤◌, Bool, true, false, List, [], ◌∷◌, ◌++◌}
 use Rattle.std.proofs.Common.{Option, Some, None, length, IsTrue, refl, sym, ap, ◌∙◌, ◌⊎◌, inl, inr}
 use Rattle.std.proofs.Common.{arith, append_assoc, append-nil, length-append}
-use Rattle.std.specs.List.{list_all}
-use Rattle.std.proofs.lemmas.Bool.{false≢true, and_parts, and_from, not_from_false, cases_Bool}
-use Rattle.std.proofs.lemmas.Bool.{cases_eq}
-use Rattle.pgn_text.specs.Public.Parts.{Part, standing_of, Stands, spelled, spelled_part}
-use Rattle.pgn_text.specs.Public.Games.{is_gap_part, is_result, begins_outside_gap, IsGame}
-use Rattle.pgn_text.specs.Private.Steps.{State, start, step}
-use Rattle.pgn_text.specs.Public.Gaps.{IsGap, IsLongestGap}
-use Rattle.pgn_text.specs.Public.Pieces.{NoGame, Piece, Game, Unreadable, ArePieces}
+use Rattle.pgn_text.proofs.Common.{list_all, false≢true, and_parts, and_from, not_from_false}
+use Rattle.pgn_text.proofs.Common.{cases_Bool, cases_eq, Part, standing_of, Stands, spelled}
+use Rattle.pgn_text.proofs.Common.{spelled_part, is_gap_part, is_result, begins_outside_gap, IsGame}
+use Rattle.pgn_text.proofs.Common.{State, start, step, IsGap, IsLongestGap, NoGame, Piece, Game}
+use Rattle.pgn_text.proofs.Common.{Unreadable, ArePieces}
 use Rattle.pgn_text.proofs.PartLemmas.{one_part, part_has_byte}
 use Rattle.pgn_text.proofs.FoundLemmas.{part_or_none}
 use Rattle.pgn_text.proofs.OneList.{shorter, game_has_byte}

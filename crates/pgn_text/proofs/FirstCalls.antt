@@ -1,14 +1,12 @@
 -- What the first calls over a block give.
-use Rattle.std.proofs.Common.{◌≡◌, ℕ, Bool, false, List, [], ◌∷◌, Some, None, Ok, take, drop, refl}
-use Rattle.std.proofs.Common.{subst}
-use Rattle.std.specs.Prelude.{Option, MatchOption}
-use Rattle.pgn_text.specs.Public.Left.{Left, ArePiecesLeft, IsPiece, GivesPiece}
-use Rattle.pgn_text.specs.Public.LeftMarks.{IsMark, GivesMark}
-use Rattle.pgn_text.specs.Public.Pieces.{ArePieces}
-use Rattle.pgn_text.specs.Public.Pieces as spec
-use Rattle.pgn_text.specs.declared.game.pieces.PieceStart.{PieceStart}
+use Rattle.std.proofs.Common.{Some}
+use Rattle.std.specs.Prelude.{MatchOption}
+use Rattle.pgn_text.proofs.Common.{◌≡◌, ℕ, Bool, false, List, [], ◌∷◌, None, Ok, take, drop, refl}
+use Rattle.pgn_text.proofs.Common.{subst, Option, Left, ArePiecesLeft, IsPiece, GivesPiece, IsMark}
+use Rattle.pgn_text.proofs.Common.{GivesMark, ArePieces, PieceStart}
 use Rattle.pgn_text.specs.declared.game.pieces.Piece.{Piece}
 use Rattle.pgn_text.proofs.Existence.{pieces_exist}
+use Rattle.pgn_text.specs.Public.Pieces as spec
 
 -- the pieces of a block before the first call
 abbrev pub all_left : List ℕ → Bool → Left

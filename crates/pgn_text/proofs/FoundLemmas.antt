@@ -1,23 +1,20 @@
 -- A part that is read may stand where it was read.
-use Rattle.std.proofs.Common.{◌≡◌, ℕ, Bool, true, false, List, [], ◌∷◌, ◌++◌, length, drop, refl}
-use Rattle.std.proofs.Common.{sym, ap, ◌∙◌, subst, append_assoc, inl, inr}
-use Rattle.std.specs.Prelude.{Option, Some, None, option_map, option_and_then, if◌then◌else◌}
-use Rattle.std.specs.Prelude.{IsTrue, ◌==◌, ◌&&◌, ◌||◌, not, flat_map, nat_le, nat_eq, ◌⊎◌}
-use Rattle.std.specs.Option.{option_or}
-use Rattle.std.specs.List.{list_all, starts_with}
-use Rattle.std.proofs.lemmas.Bool.{and_parts, and_from, or_parts, not-false, eqb-true, cond_both}
-use Rattle.std.proofs.lemmas.Bool.{not_from_false}
-use Rattle.pgn_text.specs.Public.Bytes.{is_white, is_digit, is_name_byte, is_word_byte, is_mark}
-use Rattle.pgn_text.specs.Public.Bytes.{is_plain, is_not_line_feed, is_not_brace, is_empty, run_of}
-use Rattle.pgn_text.specs.Public.Bytes.{after_run}
-use Rattle.pgn_text.specs.Public.Strings.{Sign, Single, Escaped, spelled_sign, is_sign, IsContents}
-use Rattle.pgn_text.specs.Public.Parts.{Part, ByteOrderMark, Brace, Line, EscapeLine, Tag, Word}
-use Rattle.pgn_text.specs.Public.Parts.{Star, Dot, Glyph, Marks, Open, Close, Standing, Stands}
-use Rattle.pgn_text.specs.Public.Parts.{spelled_part, number_of}
-use Rattle.pgn_text.specs.Private.Reading.{rest_after, brace_front, mark_front, gap_front, tag_end}
-use Rattle.pgn_text.specs.Private.Reading.{tag_string, tag_name, tag_front, is_glyph, glyph_front}
-use Rattle.pgn_text.specs.Private.Reading.{game_front, part_front}
-use Rattle.pgn_text.specs.Shared.StringTexts.{with_byte, contents_front}
+use Rattle.std.specs.Prelude.{None, IsTrue, ◌||◌, not, ◌⊎◌}
+use Rattle.std.proofs.lemmas.Bool.{not-false}
+use Rattle.pgn_text.proofs.Common.{◌≡◌, ℕ, Bool, true, false, List, [], ◌∷◌, ◌++◌, length, drop}
+use Rattle.pgn_text.proofs.Common.{refl, sym, ap, ◌∙◌, subst, append_assoc, inl, inr, Option, Some}
+use Rattle.pgn_text.proofs.Common.{option_map, option_and_then, if◌then◌else◌, ◌==◌, ◌&&◌, flat_map}
+use Rattle.pgn_text.proofs.Common.{nat_le, nat_eq, option_or, list_all, starts_with, and_parts}
+use Rattle.pgn_text.proofs.Common.{and_from, or_parts, eqb-true, cond_both, not_from_false}
+use Rattle.pgn_text.proofs.Common.{is_white, is_digit, is_name_byte, is_word_byte, is_mark}
+use Rattle.pgn_text.proofs.Common.{is_plain, is_not_line_feed, is_not_brace, is_empty, run_of}
+use Rattle.pgn_text.proofs.Common.{after_run, Sign, Single, Escaped, spelled_sign, is_sign}
+use Rattle.pgn_text.proofs.Common.{IsContents, Part, ByteOrderMark, Brace, Line, EscapeLine, Tag}
+use Rattle.pgn_text.proofs.Common.{Word, Star, Dot, Glyph, Marks, Open, Close, Standing, Stands}
+use Rattle.pgn_text.proofs.Common.{spelled_part, number_of, rest_after, brace_front, gap_front}
+use Rattle.pgn_text.proofs.Common.{tag_end, tag_string, tag_name, tag_front, is_glyph, glyph_front}
+use Rattle.pgn_text.proofs.Common.{game_front, part_front, with_byte, contents_front}
+use Rattle.pgn_text.specs.Private.Reading.{mark_front}
 use Rattle.pgn_text.proofs.Fronts.{run-append-after, list_all-run, stops-after_run}
 use Rattle.pgn_text.proofs.PartLemmas.{tag_regroup, stands-read}
 
@@ -196,11 +193,8 @@ tag_close-found : (place : Standing) (first name second contents : List ℕ)
     (option_and_then (λ rest. tag_end first name second contents rest) o)
 tag_close-found place first name second contents begun spelt text None is = tt
 tag_close-found place first name second contents begun spelt text (Some rest) is =
-    subst (λ xs.
-    IsFound place (91 ∷ (first ++ (name ++ (second ++ (34 ∷ (contents ++ xs))))))
-    (tag_end first name second contents rest)) (sym (rest_after-is 34 text rest is))
-    (tag_end-found place first name second contents begun spelt rest
-    (rest_after 93 (after_run is_white rest)) refl)
+    rw (rest_after-is 34 text rest is) (tag_end-found place first name second contents begun spelt
+    rest (rest_after 93 (after_run is_white rest)) refl)
 
 tag_contents-found : (place : Standing) (first name second : List ℕ) → Begun place first name second
     → (text : List ℕ) (o : Option (List ℕ × List ℕ)) → IsRead false text o
@@ -209,12 +203,8 @@ tag_contents-found : (place : Standing) (first name second : List ℕ) → Begun
     option_and_then (λ rest. tag_end first name second found.0 rest) (rest_after 34 found.1)) o)
 tag_contents-found place first name second begun text None read = tt
 tag_contents-found place first name second begun text (Some found) (spelt, parted) =
-    subst (λ xs.
-    IsFound place (91 ∷ (first ++ (name ++ (second ++ (34 ∷ xs)))))
-    (option_and_then (λ rest. tag_end first name second found.0 rest) (rest_after 34 found.1)))
-    (sym parted)
-    (tag_close-found place first name second found.0 begun spelt found.1 (rest_after 34 found.1)
-    refl)
+    rw parted (tag_close-found place first name second found.0 begun spelt found.1 (rest_after 34
+    found.1) refl)
 
 tag_string-found : (place : Standing) (first name second : List ℕ) → Begun place first name second
     → (text : List ℕ) (o : Option (List ℕ)) → rest_after 34 text ≡ o
@@ -225,13 +215,8 @@ tag_string-found : (place : Standing) (first name second : List ℕ) → Begun p
     (contents_front false after)) o)
 tag_string-found place first name second begun text None is = tt
 tag_string-found place first name second begun text (Some after) is =
-    subst (λ xs.
-    IsFound place (91 ∷ (first ++ (name ++ (second ++ xs))))
-    (option_and_then (λ found.
-    option_and_then (λ rest. tag_end first name second found.0 rest) (rest_after 34 found.1))
-    (contents_front false after))) (sym (rest_after-is 34 text after is))
-    (tag_contents-found place first name second begun after (contents_front false after)
-    (contents-sound false after))
+    rw (rest_after-is 34 text after is) (tag_contents-found place first name second begun after
+    (contents_front false after) (contents-sound false after))
 
 tag_name-found : (place : Standing) (first text : List ℕ) → IsTrue (list_all is_white first)
     → IsFound place (91 ∷ (first ++ text)) (tag_name first text)
@@ -258,9 +243,8 @@ tag_name-found place first text whites =
 
 pub tag-found : (place : Standing) (text : List ℕ) → IsFound place (91 ∷ text) (tag_front text)
 tag-found place text =
-    subst (λ xs. IsFound place (91 ∷ xs) (tag_front text)) (sym (run-append-after is_white text))
-    (tag_name-found place (run_of is_white text) (after_run is_white text)
-    (list_all-run is_white text))
+    rw (← (run-append-after is_white text)) at (tag_name-found place (run_of is_white text)
+    (after_run is_white text) (list_all-run is_white text))
 
 glyph-found : (place : Standing) (text : List ℕ) → IsFound place (36 ∷ text) (glyph_front text)
 glyph-found place text =

@@ -1,11 +1,7 @@
 -- How long a front of a word and of bytes after it is, counted byte by byte.
-use Rattle.std.proofs.Common.{◌≡◌, ℕ, suc, ◌+◌, ◌<◌, ◌≤◌, Bool, List, [], ◌∷◌, drop, length, refl}
-use Rattle.std.proofs.Common.{ap, inl, inr, arith}
-use Rattle.std.specs.Prelude.{◌==◌}
-use Rattle.std.proofs.Math.ListN.{drop_of_length-le}
-use Rattle.std.proofs.lemmas.Bool.{cases_Bool}
-use Rattle.pgn_text.specs.Private.PartFronts.{front_length, no_byte}
-use Rattle.pgn_text.specs.Public.Bytes.{run_of}
+use Rattle.pgn_text.proofs.Common.{◌≡◌, ℕ, suc, ◌+◌, ◌<◌, ◌≤◌, Bool, List, [], ◌∷◌, drop, length}
+use Rattle.pgn_text.proofs.Common.{refl, ap, inl, inr, arith, ◌==◌, drop_of_length-le, cases_Bool}
+use Rattle.pgn_text.proofs.Common.{front_length, no_byte, run_of}
 
 -- the word alone, and bytes after it, as far as the word does not stand whole
 pub front_short : (test : ℕ → Bool) (word text : List ℕ)

@@ -2,13 +2,10 @@
 use Rattle.std.proofs.Common.{◌≡◌, ◌≢◌, ℕ, ◌+◌, ◌-◌, ◌≤◌, ◌==◌, Bool, true, List, [], ◌∷◌, ◌++◌}
 use Rattle.std.proofs.Common.{map, length, take, get_or, refl, sym, ap, subst, ◌∙◌, inl, inr, arith}
 use Rattle.std.proofs.Common.{append_assoc, append-nil, length-append, take_at, IsTrue}
-use Rattle.std.proofs.lemmas.Bool.{and_parts, and_from}
-use Rattle.pgn_text.specs.Public.Parts.{spelled}
-use Rattle.pgn_text.specs.Public.Gaps.{IsGap}
-use Rattle.pgn_text.specs.Public.Pieces.{Piece, Game, Unreadable, ArePieces}
-use Rattle.pgn_text.specs.Public.Blocks.{event_line, is_event_line, IsFirstBlock, AreBlocks}
-use Rattle.pgn_text.specs.Public.Marks.{TooLongBlock, MarkedPiece, marked, AreOfBlock, over, within}
-use Rattle.pgn_text.specs.Public.Marks.{AreOfBlocks, AreMarkedPieces}
+use Rattle.pgn_text.proofs.Common.{and_parts, and_from, spelled, IsGap, Piece, Game, Unreadable}
+use Rattle.pgn_text.proofs.Common.{ArePieces, event_line, is_event_line, IsFirstBlock, AreBlocks}
+use Rattle.pgn_text.proofs.Common.{TooLongBlock, MarkedPiece, marked, AreOfBlock, over, within}
+use Rattle.pgn_text.proofs.Common.{AreOfBlocks, AreMarkedPieces}
 use Rattle.pgn_text.specs.Public.Laws.{FrontHasThePiecesBefore}
 use Rattle.pgn_text.proofs.LineFronts.{begins_line, starts_more, short_front, gap_line, game_line}
 use Rattle.pgn_text.proofs.LineFronts.{block_line}
@@ -326,10 +323,9 @@ text_front limit max_depth offset (block ∷ next ∷ more) text before piece af
         → AreOfBlock limit max_depth offset block own
         → TextFront limit max_depth offset text before piece
     later again there own e f is =
-        subst (λ l. TextFront limit max_depth offset text l piece) (sym e)
-        (front_later limit max_depth offset block next more text own there piece parted is
-        (again there
-        (subst (AreOfBlocks limit max_depth (offset + length block) (next ∷ more)) f h.4)))
+        rw e (front_later limit max_depth offset block next more text own there piece parted is
+        (again there (subst (AreOfBlocks limit max_depth (offset + length block) (next ∷ more)) f
+        h.4)))
 
     inside : FrontsOf limit max_depth (offset + length block) (next ∷ more) parted.0 piece after
         → (m : List MarkedPiece) → h.0 ≡ before ++ m → piece ∷ after ≡ m ++ h.1

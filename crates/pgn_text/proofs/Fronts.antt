@@ -1,9 +1,8 @@
 -- A run of bytes that is as long as it can be is the one that is read.
-use Rattle.std.proofs.Common.{◌≡◌, ℕ, Bool, true, false, List, [], ◌∷◌, ◌++◌, refl, ap}
-use Rattle.std.specs.Prelude.{if◌then◌else◌, IsTrue}
-use Rattle.std.specs.List.{list_all}
-use Rattle.std.proofs.lemmas.Bool.{and_parts, not-true, not_from_false}
-use Rattle.pgn_text.specs.Public.Bytes.{stops, run_of, after_run}
+use Rattle.std.specs.Prelude.{IsTrue}
+use Rattle.pgn_text.proofs.Common.{◌≡◌, ℕ, Bool, true, false, List, [], ◌∷◌, ◌++◌, refl, ap}
+use Rattle.pgn_text.proofs.Common.{if◌then◌else◌, list_all, and_parts, not-true, not_from_false}
+use Rattle.pgn_text.proofs.Common.{stops, run_of, after_run}
 
 pub run_of-append : (test : ℕ → Bool) (xs after : List ℕ) → IsTrue (list_all test xs)
     → IsTrue (stops test after) → run_of test (xs ++ after) ≡ xs

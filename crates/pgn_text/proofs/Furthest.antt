@@ -1,13 +1,11 @@
 -- The longest front of a text that has a property which each front of such a front has.
-use Rattle.std.proofs.Common.{◌≡◌, ℕ, zero, suc, ◌≤◌, Bool, true, List, [], ◌∷◌, ◌++◌, IsTrue, take}
-use Rattle.std.proofs.Common.{length, refl, sym, ap, subst, ◌∙◌, ◌⊎◌, inl, inr, arith, append-nil}
-use Rattle.std.proofs.Common.{append_assoc}
 use Rattle.std.proofs.Math.Nat.{max-eq_left, max-eq_right}
-use Rattle.std.specs.Prelude.{max, ◌==◌, if◌then◌else◌}
-use Rattle.std.specs.List.{list_all}
-use Rattle.pgn_text.specs.Private.PartFronts.{Longest, IsFrontOf, front_length}
-use Rattle.std.proofs.lemmas.Bool.{false≢true, and_parts, and_from, cases_Bool, cases_eq, cases_lt}
-use Rattle.std.proofs.lemmas.Bool.{ne_eqb, eq-eqb}
+use Rattle.std.specs.Prelude.{max}
+use Rattle.pgn_text.proofs.Common.{◌≡◌, ℕ, zero, suc, ◌≤◌, Bool, true, List, [], ◌∷◌, ◌++◌, IsTrue}
+use Rattle.pgn_text.proofs.Common.{take, length, refl, sym, ap, subst, ◌∙◌, ◌⊎◌, inl, inr, arith}
+use Rattle.pgn_text.proofs.Common.{append-nil, append_assoc, ◌==◌, if◌then◌else◌, list_all, Longest}
+use Rattle.pgn_text.proofs.Common.{IsFrontOf, front_length, false≢true, and_parts, and_from}
+use Rattle.pgn_text.proofs.Common.{cases_Bool, cases_eq, cases_lt, ne_eqb, eq-eqb}
 
 -- the same by another property
 pub longest_same : (P Q : List ℕ → Type 0) (text : List ℕ) (n : ℕ) → ((x : List ℕ) → Q x → P x)

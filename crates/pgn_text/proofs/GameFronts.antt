@@ -1,18 +1,12 @@
 -- Where a text stops, read off from the parts that were read of it.
-use Rattle.std.proofs.Common.{◌≡◌, ◌≢◌, ℕ, zero, suc, ◌+◌, ◌-◌, ◌≤◌, Bool, true, List, [], ◌∷◌}
-use Rattle.std.proofs.Common.{◌++◌, IsTrue, take, drop, length, refl, sym, ap, subst, ◌∙◌, inl, inr}
-use Rattle.std.proofs.Common.{arith, append_assoc, append-nil, length-append}
-use Rattle.std.specs.List.{list_all}
-use Rattle.std.proofs.Math.Seq.{take-append-add}
-use Rattle.std.proofs.lemmas.List.{take-append-drop}
-use Rattle.std.proofs.lemmas.Bool.{and_from, cases_Bool, cases_lt, not_from_false}
-use Rattle.pgn_text.specs.Public.Parts.{Part, ByteOrderMark, White, Brace, Line, EscapeLine}
-use Rattle.pgn_text.specs.Public.Parts.{standing_of, AllStand, spelled}
-use Rattle.pgn_text.specs.Public.Games.{is_gap_part, begins_outside_gap}
-use Rattle.pgn_text.specs.Private.Steps.{State, start, Leads}
-use Rattle.pgn_text.specs.Public.Stops.{IsGameFront, IsLongestViablePrefix}
-use Rattle.pgn_text.specs.Private.ErrorPosition.{Walks}
-use Rattle.pgn_text.specs.Private.PartFronts.{IsPartFront, NoneFollows}
+use Rattle.pgn_text.proofs.Common.{◌≡◌, ◌≢◌, ℕ, zero, suc, ◌+◌, ◌-◌, ◌≤◌, Bool, true, List, [], ◌∷◌}
+use Rattle.pgn_text.proofs.Common.{◌++◌, IsTrue, take, drop, length, refl, sym, ap, subst, ◌∙◌, inl}
+use Rattle.pgn_text.proofs.Common.{inr, arith, append_assoc, append-nil, length-append, list_all}
+use Rattle.pgn_text.proofs.Common.{take-append-add, take-append-drop, and_from, cases_Bool}
+use Rattle.pgn_text.proofs.Common.{cases_lt, not_from_false, Part, ByteOrderMark, White, Brace}
+use Rattle.pgn_text.proofs.Common.{Line, EscapeLine, standing_of, AllStand, spelled, is_gap_part}
+use Rattle.pgn_text.proofs.Common.{begins_outside_gap, State, start, Leads, IsGameFront}
+use Rattle.pgn_text.proofs.Common.{IsLongestViablePrefix, Walks, IsPartFront, NoneFollows}
 use Rattle.pgn_text.proofs.GameLeads.{game_leads, game_from}
 use Rattle.pgn_text.proofs.Halfway.{Reads, stands_join, stands_cut, spelled-append, one_reading}
 use Rattle.pgn_text.proofs.Stopping.{instead_nothing, instead_same, all_instead, Front, ByteFront}
@@ -86,8 +80,7 @@ module _ (max_depth : ℕ) (f : Bool) where
       parted = g.parted ∙ sym (spelled-append g.gap g.parts)
           ∙ sym (append-nil (spelled (g.gap ++ g.parts)));
       stand = stands_join f before g.gap g.parts []
-          (subst (λ l. AllStand f before g.gap l) (sym (append-nil (spelled g.parts)))
-          g.is_gap.stand) g.is_game.stand;
+          (rw (append-nil (spelled g.parts)) g.is_gap.stand) g.is_game.stand;
       leads = leads_gap max_depth start g.gap g.parts g.is_gap.only
           (game_leads max_depth f (before ++ spelled g.gap) g.parts [] g.is_game);
     };
@@ -109,8 +102,7 @@ module _ (max_depth : ℕ) (f : Bool) where
         parted = r.parted ∙ append-nil (spelled k.parts) ∙ ap spelled first.is
             ∙ spelled-append first.gap first.rest;
         is_gap = record {
-          stand = subst (λ l. AllStand f before first.gap l) (append-nil (spelled first.rest))
-              stand.0;
+          stand = rw (← (append-nil (spelled first.rest))) stand.0;
           only = first.only;
         };
         is_game =

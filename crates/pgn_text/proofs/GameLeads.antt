@@ -1,19 +1,17 @@
 -- Parts are a game exactly where each may stand, the first is none of a gap, and they lead from the
 -- start to a result.
-use Rattle.std.proofs.Common.{◌≡◌, ◌≢◌, ℕ, ◌+◌, ◌-◌, ◌≤◌, ◌↔◌, Bool, true, false, cond, ◌&&◌, ◌||◌}
-use Rattle.std.proofs.Common.{List, [], ◌∷◌, ◌++◌, Some, None, IsTrue, MatchBool, count_by, refl}
-use Rattle.std.proofs.Common.{sym, subst, ◌∙◌, inl, inr, arith, nat_lt}
-use Rattle.std.specs.List.{list_all}
-use Rattle.std.proofs.lemmas.Bool.{false≢true, and_parts, and_from, ltb-true, lt-ltb, cases_Bool}
-use Rattle.std.proofs.lemmas.Bool.{or_left, or_right, MatchBool-at_true, MatchBool-at_false}
-use Rattle.std.proofs.lemmas.Bool.{true_from_ne_false, false_from_ne_true}
-use Rattle.std.proofs.lemmas.Option.{cond_some}
-use Rattle.pgn_text.specs.Public.Parts.{Part, Tag}
-use Rattle.pgn_text.specs.Public.Parts.{Word, Star, Dot, Glyph, Marks, Open, Close, AllStand}
-use Rattle.pgn_text.specs.Public.Games.{is_number, is_result_word, is_move_text, is_gap_part}
-use Rattle.pgn_text.specs.Public.Games.{is_tag, is_result, is_meant, is_open, is_close, EachFrom}
-use Rattle.pgn_text.specs.Public.Games.{depth_after, MoveInLine, begins_outside_gap, IsGame}
-use Rattle.pgn_text.specs.Private.Steps.{State, start, in_movetext, step, Leads}
+use Rattle.std.proofs.Common.{◌&&◌, Some}
+use Rattle.std.proofs.lemmas.Bool.{true_from_ne_false}
+use Rattle.pgn_text.proofs.Common.{◌≡◌, ◌≢◌, ℕ, ◌+◌, ◌-◌, ◌≤◌, ◌↔◌, Bool, true, false, cond, ◌||◌}
+use Rattle.pgn_text.proofs.Common.{List, [], ◌∷◌, ◌++◌, None, IsTrue, MatchBool, count_by, refl}
+use Rattle.pgn_text.proofs.Common.{sym, subst, ◌∙◌, inl, inr, arith, nat_lt, list_all, false≢true}
+use Rattle.pgn_text.proofs.Common.{and_parts, and_from, ltb-true, lt-ltb, cases_Bool, or_left}
+use Rattle.pgn_text.proofs.Common.{or_right, MatchBool-at_true, MatchBool-at_false}
+use Rattle.pgn_text.proofs.Common.{false_from_ne_true, cond_some, Part, Tag, Word, Star, Dot, Glyph}
+use Rattle.pgn_text.proofs.Common.{Marks, Open, Close, AllStand, is_number, is_result_word}
+use Rattle.pgn_text.proofs.Common.{is_move_text, is_gap_part, is_tag, is_result, is_meant, is_open}
+use Rattle.pgn_text.proofs.Common.{is_close, EachFrom, depth_after, MoveInLine, begins_outside_gap}
+use Rattle.pgn_text.proofs.Common.{IsGame, State, start, in_movetext, step, Leads}
 use Rattle.pgn_text.proofs.Lines.{Shows, shows_start, shows_more, count_push_yes, count_push_not}
 use Rattle.pgn_text.proofs.Lines.{depth_is}
 

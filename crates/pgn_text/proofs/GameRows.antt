@@ -1,29 +1,26 @@
 -- Worked rows of the parts of games, of how they stand and of what is read off them; and what the
 -- definitions refuse.
-use Rattle.std.proofs.Common.{◌≡◌, ◌≢◌, ℕ, ◌+◌, Bool, true, false, ◌&&◌, ◌||◌, ◌<◌, ◌≤◌, ◌∙◌, List}
-use Rattle.std.proofs.Common.{[], ◌∷◌, ◌++◌, codes, length, refl, ap, sym, take, drop, arith, None}
-use Rattle.std.proofs.Common.{IsTrue}
+use Rattle.std.proofs.Common.{◌&&◌}
 use Rattle.std.specs.Borrow.{Bor}
-use Rattle.pgn_text.specs.Public.Elements.{tag_of}
+use Rattle.pgn_text.proofs.Common.{◌≡◌, ◌≢◌, ℕ, ◌+◌, Bool, true, false, ◌||◌, ◌<◌, ◌≤◌, ◌∙◌, List}
+use Rattle.pgn_text.proofs.Common.{[], ◌∷◌, ◌++◌, codes, length, refl, ap, sym, take, drop, arith}
+use Rattle.pgn_text.proofs.Common.{None, IsTrue, tag_of, MoveText, is_number, is_result_word}
+use Rattle.pgn_text.proofs.Common.{is_zero_castling, is_move_text, is_gap_part, is_tag, is_result}
+use Rattle.pgn_text.proofs.Common.{is_move, is_open, is_close, is_meant, EachFrom, MoveInLine}
+use Rattle.pgn_text.proofs.Common.{depth_after, begins_outside_gap, glyphs_of_marks, items_of_part}
+use Rattle.pgn_text.proofs.Common.{result_of, Left, IsPiece, IsMark, GivesMark, largest_offset}
+use Rattle.pgn_text.proofs.Common.{MarkedPiece, ReadableGame, UnreadableRest, TooLongBlock}
+use Rattle.pgn_text.proofs.Common.{AreOfBlocks, marked, IsPlaceOf, GivesElement, IsFirstTag, Part}
+use Rattle.pgn_text.proofs.Common.{ByteOrderMark, White, Brace, Line, EscapeLine, Tag, Word, Star}
+use Rattle.pgn_text.proofs.Common.{Dot, Glyph, Marks, Open, Close, Standing, Stands, number_from}
+use Rattle.pgn_text.proofs.Common.{number_of, spelled, spelled_part, IsCutShort, IsPastEnd}
 use Rattle.pgn_text.specs.Public.GameTexts.{HaveNames}
-use Rattle.pgn_text.specs.Public.Games.{MoveText, GlyphNumber, CommentText, VariationOpen}
-use Rattle.pgn_text.specs.Public.Games.{VariationClose, is_number, is_result_word, is_zero_castling}
-use Rattle.pgn_text.specs.Public.Games.{is_move_text, is_gap_part, is_tag, is_result, is_move}
-use Rattle.pgn_text.specs.Public.Games.{is_open, is_close, is_meant, Each, EachFrom, MoveInLine}
-use Rattle.pgn_text.specs.Public.Games.{depth_after, begins_outside_gap, single_mark, double_mark}
-use Rattle.pgn_text.specs.Public.Games.{glyphs_of_marks, items_of_part, result_of}
-use Rattle.pgn_text.specs.Public.Left.{Left, IsPiece}
-use Rattle.pgn_text.specs.Public.LeftMarks.{IsMark, GivesMark, mark_place}
-use Rattle.pgn_text.specs.Public.Limits.{largest_offset}
-use Rattle.pgn_text.specs.Public.Marks.{MarkedPiece, ReadableGame, UnreadableRest, TooLongBlock}
-use Rattle.pgn_text.specs.Public.Marks.{AreOfBlocks, is_readable_kind, marked}
-use Rattle.pgn_text.specs.Public.PartPlaces.{IsPlaceOf, GivesElement, IsFirstTag}
-use Rattle.pgn_text.specs.Public.Parts.{Part, ByteOrderMark, White, Brace, Line, EscapeLine, Tag}
-use Rattle.pgn_text.specs.Public.Parts.{Word, Star, Dot, Glyph, Marks, Open, Close, Standing}
-use Rattle.pgn_text.specs.Public.Parts.{Stands, number_from, number_of, spelled, spelled_part}
-use Rattle.pgn_text.specs.Public.Pieces as spec
+use Rattle.pgn_text.specs.Public.Games.{GlyphNumber, CommentText, VariationOpen, VariationClose}
+use Rattle.pgn_text.specs.Public.Games.{Each, single_mark, double_mark}
+use Rattle.pgn_text.specs.Public.LeftMarks.{mark_place}
+use Rattle.pgn_text.specs.Public.Marks.{is_readable_kind}
 use Rattle.pgn_text.specs.Public.StopPlaces.{PartsThen, PartsThenOther, is_before_movetext}
-use Rattle.pgn_text.specs.Public.Windows.{IsCutShort, IsPastEnd}
+use Rattle.pgn_text.specs.Public.Pieces as spec
 use Rattle.pgn_text.specs.declared.game.pieces.Piece.TheVariants as pieces
 use Rattle.pgn_text.specs.declared.game.pieces.PieceStart.TheVariants as starts
 

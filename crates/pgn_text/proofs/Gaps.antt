@@ -1,14 +1,11 @@
 -- Gaps of a block: a gap after which no part of a gap stands is the longest.
-use Rattle.std.proofs.Common.{◌≡◌, ℕ, ◌<◌, ◌≤◌, Bool, true, false, List, [], ◌∷◌, ◌++◌, length}
-use Rattle.std.proofs.Common.{take, drop, refl, sym, ap, ◌∙◌, subst, append_assoc, append-nil}
-use Rattle.std.proofs.Common.{arith, length-append}
 use Rattle.std.specs.Prelude.{IsTrue}
-use Rattle.std.specs.List.{list_all}
-use Rattle.std.proofs.lemmas.Bool.{and_parts, and_from}
-use Rattle.pgn_text.specs.Public.Parts.{Part, Stands, AllStand, standing_of, spelled_part, spelled}
-use Rattle.pgn_text.specs.Public.Games.{is_gap_part}
-use Rattle.pgn_text.specs.Public.Gaps.{IsGap, IsLongestGap}
-use Rattle.pgn_text.specs.Private.Walk.{PartAt, GapPartAt, NoGapPartAt, GapTo, LongestGapTo}
+use Rattle.pgn_text.proofs.Common.{◌≡◌, ℕ, ◌<◌, ◌≤◌, Bool, true, false, List, [], ◌∷◌, ◌++◌, length}
+use Rattle.pgn_text.proofs.Common.{take, drop, refl, sym, ap, ◌∙◌, subst, append_assoc, append-nil}
+use Rattle.pgn_text.proofs.Common.{arith, length-append, list_all, and_parts, and_from, Part}
+use Rattle.pgn_text.proofs.Common.{Stands, AllStand, standing_of, spelled_part, spelled}
+use Rattle.pgn_text.proofs.Common.{is_gap_part, IsGap, IsLongestGap, PartAt, GapPartAt, NoGapPartAt}
+use Rattle.pgn_text.proofs.Common.{GapTo, LongestGapTo}
 use Rattle.pgn_text.proofs.PartLemmas.{one_part}
 use Rattle.pgn_text.proofs.Halfway.{stands_join, before_more, spelled-append}
 
@@ -84,8 +81,7 @@ gap_more f block begin at end to more =
       is_gap = record {
         stand = stands_join f (take begin block) to.gap (more.part ∷ []) (drop end block)
             (subst (AllStand f (take begin block) to.gap) (sym one) to.is_gap.stand) (
-              subst (λ xs. Stands (standing_of f xs) more.part (drop end block)) before
-                  found.stands,
+              rw (← before) found.stands,
               tt,
             );
         only = all_push to.gap more.part to.is_gap.only more.is_gap;

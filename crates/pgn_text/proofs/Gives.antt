@@ -1,13 +1,9 @@
 -- What a call of `next` gives of the pieces of a block.
-use Rattle.std.proofs.Common.{◌≡◌, ◌≢◌, ℕ, ◌<◌, ◌≤◌, Bool, true, false, List, length, take, drop}
-use Rattle.std.proofs.Common.{refl, subst, arith}
-use Rattle.std.specs.Prelude.{Some, Ok, Err}
-use Rattle.std.specs.declared.alloc.AllocError.{AllocError}
-use Rattle.pgn_text.specs.Public.Parts.{Part}
-use Rattle.pgn_text.specs.Public.Pieces.{Game as GameOf, Unreadable as UnreadableOf, NoGame}
-use Rattle.pgn_text.specs.Public.GameTexts.{GameText, ShowsGame}
-use Rattle.pgn_text.specs.Private.Walk.{LongestGapTo, GameTo}
-use Rattle.pgn_text.specs.Public.Left.{Left, GivesPiece}
+use Rattle.std.specs.Prelude.{Ok, Err}
+use Rattle.pgn_text.proofs.Common.{◌≡◌, ◌≢◌, ℕ, ◌<◌, ◌≤◌, Bool, true, false, List, length, take}
+use Rattle.pgn_text.proofs.Common.{drop, refl, subst, arith, Some, AllocError, Part, NoGame}
+use Rattle.pgn_text.proofs.Common.{GameText, ShowsGame, LongestGapTo, GameTo, Left, GivesPiece}
+use Rattle.pgn_text.specs.Public.Pieces.{Game as GameOf, Unreadable as UnreadableOf}
 use Rattle.pgn_text.specs.declared.game.pieces.Piece.TheVariants.{Game, Unreadable}
 use Rattle.pgn_text.proofs.Cuts.{piece_game, piece_unreadable, piece_left}
 use Rattle.pgn_text.proofs.Existence.{pieces_exist}
@@ -67,9 +63,13 @@ pub gives_error : (max_depth : ℕ) (f : Bool) (block : List ℕ) (at begin : �
     → GivesPiece max_depth old (Some (Err error)) (left_at f block (length block) true)
 gives_error max_depth f block at begin failed error old is sound gap not_end =
     let pieces = pieces_exist max_depth f (take at block) (drop at block) in
-    subst (λ o.
-    GivesPiece max_depth o (Some (Err error)) (left_at f block (length block) true)) is (
+    rw (← is) (
       sound,
       refl,
-      (pieces.0, piece_left max_depth f block at begin gap not_end pieces.0 pieces.1, pieces.1),
+      (
+        pieces.0,
+        piece_left max_depth f block at begin gap not_end pieces.0
+            pieces.1,
+        pieces.1,
+      ),
     )

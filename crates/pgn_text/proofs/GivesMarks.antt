@@ -1,12 +1,8 @@
 -- What a call of `next` gives of the places of a block's pieces.
-use Rattle.std.proofs.Common.{◌≡◌, ◌≢◌, ℕ, ◌<◌, ◌≤◌, Bool, false, List, length, take, drop, refl}
-use Rattle.std.proofs.Common.{subst, arith}
-use Rattle.std.specs.Prelude.{Some}
-use Rattle.pgn_text.specs.Public.Parts.{Part}
-use Rattle.pgn_text.specs.Public.Pieces.{Game as GameOf, Unreadable as UnreadableOf, NoGame}
-use Rattle.pgn_text.specs.Private.Walk.{LongestGapTo, GameTo}
-use Rattle.pgn_text.specs.Public.Left.{Left}
-use Rattle.pgn_text.specs.Public.LeftMarks.{GivesMark}
+use Rattle.pgn_text.proofs.Common.{◌≡◌, ◌≢◌, ℕ, ◌<◌, ◌≤◌, Bool, false, List, length, take, drop}
+use Rattle.pgn_text.proofs.Common.{refl, subst, arith, Some, Part, NoGame, LongestGapTo, GameTo}
+use Rattle.pgn_text.proofs.Common.{Left, GivesMark}
+use Rattle.pgn_text.specs.Public.Pieces.{Game as GameOf, Unreadable as UnreadableOf}
 use Rattle.pgn_text.specs.declared.game.pieces.PieceStart.TheVariants.{Game, Unreadable}
 use Rattle.pgn_text.proofs.Cuts.{piece_game, piece_unreadable}
 use Rattle.pgn_text.proofs.Gives.{left_at}

@@ -1,13 +1,12 @@
 -- A reading of a text part by part, from a state: what is read so far, and that there is no other
 -- reading.
-use Rattle.std.proofs.Common.{◌≡◌, ◌≢◌, ℕ, Bool, true, false, List, [], ◌∷◌, ◌++◌, Some, None}
-use Rattle.std.proofs.Common.{IsTrue, MatchBool, refl, sym, ap, subst, ◌∙◌, inl, inr, append_assoc}
-use Rattle.std.proofs.Common.{append-nil}
-use Rattle.std.proofs.lemmas.List.Concat.{flat_map-append}
-use Rattle.std.proofs.lemmas.Bool.{MatchBool-at_true, MatchBool-at_false, cases_Bool}
-use Rattle.pgn_text.specs.Public.Parts.{Part, standing_of, Stands, AllStand, spelled, spelled_part}
-use Rattle.pgn_text.specs.Public.Games.{is_result, begins_outside_gap, IsGame}
-use Rattle.pgn_text.specs.Private.Steps.{State, start, step, Leads}
+use Rattle.std.proofs.Common.{Some}
+use Rattle.pgn_text.proofs.Common.{◌≡◌, ◌≢◌, ℕ, Bool, true, false, List, [], ◌∷◌, ◌++◌, None}
+use Rattle.pgn_text.proofs.Common.{IsTrue, MatchBool, refl, sym, ap, ◌∙◌, inl, inr}
+use Rattle.pgn_text.proofs.Common.{append_assoc, append-nil, flat_map-append, MatchBool-at_true}
+use Rattle.pgn_text.proofs.Common.{MatchBool-at_false, cases_Bool, Part, standing_of, Stands}
+use Rattle.pgn_text.proofs.Common.{AllStand, spelled, spelled_part, is_result, begins_outside_gap}
+use Rattle.pgn_text.proofs.Common.{IsGame, State, start, step, Leads}
 use Rattle.pgn_text.proofs.GameLeads.{game_leads, game_from}
 use Rattle.pgn_text.proofs.PartLemmas.{one_part}
 
@@ -105,8 +104,7 @@ module _ (max_depth : ℕ) (file_start : Bool) where
       let one =
       one_part (standing_of file_start before) q p (spelled more ++ after) rest h.stand.0 stands
       (sym (append_assoc (spelled_part q) (spelled more) after) ∙ sym h.parted ∙ parted) in
-      let leads = subst (λ r. MatchBool (is_result r) ((s.depth ≡ 0) × (more ≡ []))
-      ((next : State) × (step max_depth s r ≡ Some next) × Leads max_depth next more)) one.0 h.leads
+      let leads = rw one.0 at h.leads
       in
       record {
         more = more;

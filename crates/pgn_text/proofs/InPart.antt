@@ -3,21 +3,16 @@ use Rattle.std.proofs.Common.{◌≡◌, ℕ, zero, suc, ◌+◌, ◌≤◌, Boo
 use Rattle.std.proofs.Common.{Some, IsTrue, codes, take, length, refl, sym, ap, subst, ◌∙◌, inl}
 use Rattle.std.proofs.Common.{inr, arith, append-nil, length-append}
 use Rattle.std.specs.Prelude.{◌==◌, ◌&&◌, ◌||◌, nat_le, bytes_eq, ◌*◌, ◌-◌}
-use Rattle.std.specs.List.{list_all}
-use Rattle.std.proofs.lemmas.Bool.{and_parts, and_from, cases_Bool, or_cases, or_left, or_right}
-use Rattle.std.proofs.lemmas.Bool.{false≢true, le-leb, leb-true}
-use Rattle.std.proofs.lemmas.List.Folds.{list_all-append}
-use Rattle.pgn_text.specs.Public.Bytes.{is_white, is_digit, is_letter, is_word_byte, is_mark}
-use Rattle.pgn_text.specs.Public.Bytes.{is_not_brace, begins}
-use Rattle.pgn_text.specs.Public.Parts.{Part, ByteOrderMark, White, Brace, Line, EscapeLine, Tag}
-use Rattle.pgn_text.specs.Public.Parts.{Word, Star, Dot, Glyph, Marks, Open, Close, Standing}
-use Rattle.pgn_text.specs.Public.Parts.{Stands, spelled_part, number_from, number_of}
-use Rattle.pgn_text.specs.Public.Games.{is_number, is_result_word, is_move_text, is_tag}
-use Rattle.pgn_text.specs.Private.Steps.{State, in_movetext, step}
+use Rattle.std.proofs.lemmas.Bool.{le-leb, leb-true}
+use Rattle.pgn_text.proofs.Common.{list_all, and_parts, and_from, cases_Bool, or_cases, or_left}
+use Rattle.pgn_text.proofs.Common.{or_right, false≢true, list_all-append, is_white, is_digit}
+use Rattle.pgn_text.proofs.Common.{is_letter, is_word_byte, is_mark, is_not_brace, begins, Part}
+use Rattle.pgn_text.proofs.Common.{ByteOrderMark, White, Brace, Line, EscapeLine, Tag, Word, Star}
+use Rattle.pgn_text.proofs.Common.{Dot, Glyph, Marks, Open, Close, Standing, Stands, spelled_part}
+use Rattle.pgn_text.proofs.Common.{number_from, number_of, is_number, is_result_word, is_move_text}
+use Rattle.pgn_text.proofs.Common.{is_tag, State, in_movetext, step, Longest, Follows, IsPartFront}
+use Rattle.pgn_text.proofs.Common.{IsWordFront, is_glyph_front, Ends, IsTagFront, BeforeName}
 use Rattle.pgn_text.proofs.Classes.{is_white-word, is_word_byte-mark}
-use Rattle.pgn_text.specs.Private.PartFronts.{Longest, Follows, IsPartFront, IsWordFront}
-use Rattle.pgn_text.specs.Private.PartFronts.{is_glyph_front, Ends, IsTagFront}
-use Rattle.pgn_text.specs.declared.error.error_position.InTag.TheVariants.{BeforeName}
 use Rattle.pgn_text.proofs.Furthest.{longest_after, longest_nothing, longest_take, greedy}
 use Rattle.pgn_text.proofs.Furthest.{longest_greedy}
 use Rattle.pgn_text.proofs.InTag.{tag_is, tag_ends}

@@ -1,23 +1,21 @@
 -- Tags byte by byte: where in a tag a place is, how each place goes on to the tag's end, and how
 -- far a text can be the front of a tag.
-use Rattle.std.proofs.Common.{◌≡◌, ℕ, suc, Bool, true, false, List, [], ◌∷◌, ◌++◌, Option, Some}
-use Rattle.std.proofs.Common.{None, IsTrue, codes, refl, sym, ap, subst, ◌∙◌, inl, inr, arith}
-use Rattle.std.proofs.Common.{get_or, drop, length, ◌<◌, ◌≤◌}
-use Rattle.std.specs.Prelude.{◌==◌, ◌&&◌, not, flat_map}
-use Rattle.std.specs.List.{list_all}
+use Rattle.std.proofs.Common.{Option, Some}
+use Rattle.std.specs.Prelude.{not}
 use Rattle.std.proofs.Math.Seq.{drop-cons}
-use Rattle.std.proofs.Math.ListN.{drop_of_length-le}
-use Rattle.std.proofs.lemmas.Bool.{and_parts, and_from, cases_Bool, eqb-true, not_from_false}
-use Rattle.std.proofs.lemmas.Bool.{not-true}
-use Rattle.pgn_text.specs.Public.Bytes.{is_byte, is_white, is_name_byte, is_plain, is_empty}
-use Rattle.pgn_text.specs.Public.Strings.{Sign, Single, Escaped, spelled_sign, is_sign, IsContents}
-use Rattle.pgn_text.specs.Public.Parts.{Part, Tag, Standing, Stands, spelled_part}
-use Rattle.pgn_text.specs.Public.Games.{is_tag}
+use Rattle.pgn_text.proofs.Common.{◌≡◌, ℕ, suc, Bool, true, false, List, [], ◌∷◌, ◌++◌, None}
+use Rattle.pgn_text.proofs.Common.{IsTrue, codes, refl, sym, ap, subst, ◌∙◌, inl, inr, arith}
+use Rattle.pgn_text.proofs.Common.{get_or, drop, length, ◌<◌, ◌≤◌, ◌==◌, ◌&&◌, flat_map, list_all}
+use Rattle.pgn_text.proofs.Common.{drop_of_length-le, and_parts, and_from, cases_Bool, eqb-true}
+use Rattle.pgn_text.proofs.Common.{not_from_false, not-true, is_byte, is_white, is_name_byte}
+use Rattle.pgn_text.proofs.Common.{is_plain, is_empty, Sign, Single, Escaped, spelled_sign, is_sign}
+use Rattle.pgn_text.proofs.Common.{IsContents, Part, Tag, Standing, Stands, spelled_part, is_tag}
+use Rattle.pgn_text.proofs.Common.{Longest, Ends, IsTagFront, BeforeName}
 use Rattle.pgn_text.proofs.Classes.{is_name_byte-white, is_white-name}
-use Rattle.pgn_text.specs.Private.PartFronts.{Longest, next_in, Ends, IsTagFront}
+use Rattle.pgn_text.specs.Private.PartFronts.{next_in}
 use Rattle.pgn_text.specs.declared.error.error_position.InTag.{InTag}
-use Rattle.pgn_text.specs.declared.error.error_position.InTag.TheVariants.{BeforeName, AfterString}
-use Rattle.pgn_text.specs.declared.error.error_position.InTag.TheVariants.{Name, AfterName, Closed}
+use Rattle.pgn_text.specs.declared.error.error_position.InTag.TheVariants.{AfterString, Name}
+use Rattle.pgn_text.specs.declared.error.error_position.InTag.TheVariants.{AfterName, Closed}
 use Rattle.pgn_text.specs.declared.error.error_position.InTag.TheVariants.{Contents, AfterBackslash}
 use Rattle.pgn_text.proofs.Furthest.{longest_after, longest_nothing}
 
@@ -399,5 +397,4 @@ tag_ends place first name second contents third after (
 ) =
     first_ends first name _ whites some names
     (after_ends second _ more_whites
-    (subst (λ l. Ends Contents (l ++ (34 ∷ (third ++ 93 ∷ [])))) (sym spelt)
-    (signs_end signs (third ++ 93 ∷ []) all (third_ends third last_whites))))
+    (rw spelt (signs_end signs (third ++ 93 ∷ []) all (third_ends third last_whites))))

@@ -1,18 +1,13 @@
 -- What a game keeps of a part says what the part does.
-use Rattle.std.proofs.Common.{◌≡◌, ℕ, Bool, true, false, List, [], ◌∷◌, ◌++◌, refl, sym, ap, ◌∙◌}
-use Rattle.std.proofs.Common.{inl, inr, append-nil, arith}
 use Rattle.std.specs.Prelude.{Some, None, codes, bytes_eq, nat_eq, ◌&&◌, if◌then◌else◌, IsTrue}
 use Rattle.std.proofs.lemmas.Bool.{or_cases, or_left, or_from, and_parts, and_left, and_right}
-use Rattle.std.proofs.lemmas.Bool.Decides.{nat_tests}
-use Rattle.std.specs.List.{list_all, starts_with}
-use Rattle.std.proofs.lemmas.List.Concat.{flat_map-append}
-use Rattle.pgn_text.specs.Public.Bytes.{is_digit, is_letter, begins}
-use Rattle.pgn_text.specs.Public.Parts.{Part, Word}
-use Rattle.pgn_text.specs.Public.Games.{is_move_text, is_number, is_result_word, is_result}
-use Rattle.pgn_text.specs.Public.Games.{MoveText, items_of_part, items_of}
-use Rattle.pgn_text.specs.Private.Reading.{Kept, kept, kept_word, step_kept, KeptMove, KeptStray}
-use Rattle.pgn_text.specs.Private.Reading.{is_kept_result, items_of_kept, KeptNumber, KeptResult}
-use Rattle.pgn_text.specs.Private.Steps.{State, step, in_movetext}
+use Rattle.pgn_text.proofs.Common.{◌≡◌, ℕ, Bool, true, false, List, [], ◌∷◌, ◌++◌, refl, sym, ap}
+use Rattle.pgn_text.proofs.Common.{◌∙◌, inl, inr, append-nil, arith, nat_tests, list_all}
+use Rattle.pgn_text.proofs.Common.{starts_with, flat_map-append, is_digit, is_letter, begins, Part}
+use Rattle.pgn_text.proofs.Common.{Word, is_move_text, is_number, is_result_word, is_result}
+use Rattle.pgn_text.proofs.Common.{MoveText, items_of_part, items_of, Kept, kept, kept_word}
+use Rattle.pgn_text.proofs.Common.{step_kept, KeptMove, KeptStray, is_kept_result, items_of_kept}
+use Rattle.pgn_text.proofs.Common.{KeptNumber, KeptResult, State, step, in_movetext}
 use Rattle.pgn_text.proofs.TagLemmas.{bytes_eq-same}
 
 -- a word that begins with a letter is move text

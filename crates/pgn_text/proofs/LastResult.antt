@@ -1,11 +1,8 @@
 -- The result of a game is one of the four.
-use Rattle.std.proofs.Common.{◌≡◌, ℕ, ◌↔◌, ◌||◌, Bool, true, false, List, [], ◌∷◌, ◌++◌, refl, inl}
-use Rattle.std.proofs.Common.{inr}
-use Rattle.std.specs.Prelude.{bytes_eq, codes, IsTrue}
-use Rattle.std.proofs.lemmas.Bool.{or_cases}
-use Rattle.pgn_text.specs.Public.Parts.{Part, Word, Star, spelled_part}
-use Rattle.pgn_text.specs.Public.Games.{is_result, is_result_word, result_of, EachFrom, IsGame}
-use Rattle.pgn_text.specs.Public.GameTexts.{IsResult}
+use Rattle.std.specs.Prelude.{codes, IsTrue}
+use Rattle.pgn_text.proofs.Common.{◌≡◌, ℕ, ◌↔◌, ◌||◌, Bool, true, false, List, [], ◌∷◌, ◌++◌, refl}
+use Rattle.pgn_text.proofs.Common.{inl, inr, bytes_eq, or_cases, Part, Word, Star, spelled_part}
+use Rattle.pgn_text.proofs.Common.{is_result, is_result_word, result_of, EachFrom, IsGame, IsResult}
 use Rattle.pgn_text.proofs.TagLemmas.{bytes_eq-same}
 
 word_result : (text : List ℕ) → is_result_word text ≡ true → IsResult text

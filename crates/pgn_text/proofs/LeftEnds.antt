@@ -1,12 +1,11 @@
 -- The pieces of a block end where none is left, or after an error.
-use Rattle.std.proofs.Common.{◌≡◌, ℕ, List, [], ◌∷◌, Some, None, Ok, Err, take, drop, refl, sym}
-use Rattle.std.proofs.Common.{◌∙◌, inl, inr}
-use Rattle.std.proofs.lemmas.Bool.{false≢true}
+use Rattle.std.proofs.Common.{Some}
+use Rattle.pgn_text.proofs.Common.{◌≡◌, ℕ, List, [], ◌∷◌, None, Ok, Err, take, drop, refl, sym, ◌∙◌}
+use Rattle.pgn_text.proofs.Common.{inl, inr, false≢true, Left, ArePiecesLeft}
 use Rattle.pgn_text.specs.Public.AnswerLaws.{EndsWhereNothingIsLeft, EndsAfterAnError}
-use Rattle.pgn_text.specs.Public.Left.{Left, ArePiecesLeft}
-use Rattle.pgn_text.specs.Public.Pieces as spec
 use Rattle.pgn_text.proofs.Existence.{pieces_exist}
 use Rattle.pgn_text.proofs.OneList.{one_list}
+use Rattle.pgn_text.specs.Public.Pieces as spec
 
 one_left : (max_depth : ℕ) (left : Left) (pieces others : List spec.Piece)
     → ArePiecesLeft max_depth left pieces → ArePiecesLeft max_depth left others → pieces ≡ others

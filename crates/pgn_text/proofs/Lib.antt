@@ -5,6 +5,7 @@ pub mod Braces
 pub mod ByteFronts
 pub mod ByteRows
 pub mod Classes
+pub mod Common
 pub mod Contents
 pub mod CutOff
 pub mod Cuts

@@ -4,16 +4,13 @@
 use Rattle.std.proofs.Common.{◌≡◌, ◌≢◌, ℕ, suc, ◌-◌, ◌==◌, Bool, true, false, not, ◌&&◌, ◌||◌, List}
 use Rattle.std.proofs.Common.{[], ◌∷◌, ◌++◌, length, get_or, nat_eq, refl, sym, ap, ap₂, ◌∙◌, ◌⊎◌}
 use Rattle.std.proofs.Common.{inl, inr, arith, append_assoc, append-nil, IsTrue, ◌↔◌}
-use Rattle.std.specs.Prelude.{codes, bytes_eq}
-use Rattle.std.specs.List.{starts_with, list_all}
-use Rattle.std.proofs.lemmas.Bool.{and_parts, and_from, false≢true, or_cases, eqb-true}
-use Rattle.std.proofs.lemmas.List.Folds.{list_all-append}
-use Rattle.pgn_text.specs.Public.Bytes.{is_white, ends_in_line_feed}
-use Rattle.pgn_text.specs.Public.Parts.{Part, ByteOrderMark, White, Brace, Line, EscapeLine, Word}
-use Rattle.pgn_text.specs.Public.Parts.{Star, Standing, standing_of, Stands, AllStand, spelled}
-use Rattle.pgn_text.specs.Public.Parts.{spelled_part}
-use Rattle.pgn_text.specs.Public.Games.{is_gap_part, is_result, is_result_word, EachFrom, IsGame}
-use Rattle.pgn_text.specs.Public.Blocks.{event_line, IsFirstBlock}
+use Rattle.std.specs.Prelude.{codes}
+use Rattle.pgn_text.proofs.Common.{bytes_eq, starts_with, list_all, and_parts, and_from, false≢true}
+use Rattle.pgn_text.proofs.Common.{or_cases, eqb-true, list_all-append, is_white, ends_in_line_feed}
+use Rattle.pgn_text.proofs.Common.{Part, ByteOrderMark, White, Brace, Line, EscapeLine, Word, Star}
+use Rattle.pgn_text.proofs.Common.{Standing, standing_of, Stands, AllStand, spelled, spelled_part}
+use Rattle.pgn_text.proofs.Common.{is_gap_part, is_result, is_result_word, EachFrom, IsGame}
+use Rattle.pgn_text.proofs.Common.{event_line, IsFirstBlock}
 use Rattle.pgn_text.proofs.TagLemmas.{bytes_eq-same}
 
 -- the text begins with an event line

@@ -4,17 +4,14 @@
 use Rattle.std.proofs.Common.{◌≡◌, ℕ, suc, ◌+◌, ◌-◌, ◌<◌, ◌≤◌, Bool, true, false, cond, ◌&&◌, ◌||◌}
 use Rattle.std.proofs.Common.{List, [], ◌∷◌, ◌++◌, Some, None, count_by, refl, sym, ap, ◌∙◌, ◌⊎◌}
 use Rattle.std.proofs.Common.{inl, inr, arith, append_assoc, append-nil, nat_lt, le_refl}
-use Rattle.std.specs.List.{list_all}
 use Rattle.std.proofs.lemmas.List.Sums.{sum_by_push}
-use Rattle.std.proofs.lemmas.List.Folds.{list_all-append}
-use Rattle.std.proofs.lemmas.Bool.{false≢true, and_parts, ltb-true, cases_lt, and_right}
-use Rattle.std.proofs.lemmas.Option.{cond_some}
 use Rattle.std.proofs.Math.Bool.{and-true}
-use Rattle.pgn_text.specs.Public.Parts.{Part, ByteOrderMark, White, Brace, Line, EscapeLine, Tag}
-use Rattle.pgn_text.specs.Public.Parts.{Word, Star, Dot, Glyph, Marks, Open, Close}
-use Rattle.pgn_text.specs.Public.Games.{is_number, is_move_text, is_gap_part, is_tag, is_move}
-use Rattle.pgn_text.specs.Public.Games.{is_open, is_close, depth_after, MoveInLine}
-use Rattle.pgn_text.specs.Private.Steps.{State, start, in_movetext, step}
+use Rattle.pgn_text.proofs.Common.{list_all, list_all-append, false≢true, and_parts, ltb-true}
+use Rattle.pgn_text.proofs.Common.{cases_lt, and_right, cond_some, Part, ByteOrderMark, White}
+use Rattle.pgn_text.proofs.Common.{Brace, Line, EscapeLine, Tag, Word, Star, Dot, Glyph, Marks}
+use Rattle.pgn_text.proofs.Common.{Open, Close, is_number, is_move_text, is_gap_part, is_tag}
+use Rattle.pgn_text.proofs.Common.{is_move, is_open, is_close, depth_after, MoveInLine, State}
+use Rattle.pgn_text.proofs.Common.{start, in_movetext, step}
 
 -- where two lists joined are cut within the first or at its end, or further on
 pub cut_append : {X : Type 0} (a b c d : List X) → a ++ b ≡ c ++ d

@@ -2,16 +2,13 @@
 use Rattle.std.proofs.Common.{◌≡◌, ◌⊎◌, ℕ, ◌+◌, ◌/◌, ◌%◌, ◌<◌, ◌≤◌, Bool, true, false, List, []}
 use Rattle.std.proofs.Common.{◌∷◌, ◌++◌, Some, None, take, drop, length, refl, sym, ap, subst, ◌∙◌}
 use Rattle.std.proofs.Common.{inl, inr, arith, append_assoc, append-nil, length-append}
-use Rattle.std.specs.Prelude.{is_some, Option, ◌-◌}
-use Rattle.std.proofs.lemmas.List.{length-take-le}
-use Rattle.std.proofs.lemmas.List.Concat.{flat_map-append}
-use Rattle.pgn_text.specs.Public.Parts.{Part, Stands, AllStand, standing_of, spelled_part, spelled}
-use Rattle.pgn_text.specs.Public.Games.{items_of, items_of_part, first_tag, glyphs_of_marks}
-use Rattle.pgn_text.specs.Public.PartPlaces.{IsPlaceOf, GivesElement, IsFirstTag, IsElementPlace}
-use Rattle.pgn_text.specs.Public.PartPlaces.{IsTagPlace}
-use Rattle.pgn_text.specs.Private.Reading.{Kept, kept, items_of_kept, named_kept}
-use Rattle.pgn_text.specs.Private.Walk.{PartAt, KeptAt, NothingAt}
-use Rattle.std.specs.Option.{option_or}
+use Rattle.std.specs.Prelude.{◌-◌}
+use Rattle.pgn_text.proofs.Common.{is_some, Option, length-take-le, flat_map-append, Part, Stands}
+use Rattle.pgn_text.proofs.Common.{AllStand, standing_of, spelled_part, spelled, items_of}
+use Rattle.pgn_text.proofs.Common.{items_of_part, first_tag, glyphs_of_marks, IsPlaceOf}
+use Rattle.pgn_text.proofs.Common.{GivesElement, IsFirstTag, Kept, kept, items_of_kept, named_kept}
+use Rattle.pgn_text.proofs.Common.{PartAt, KeptAt, NothingAt, option_or}
+use Rattle.pgn_text.specs.Public.PartPlaces.{IsElementPlace, IsTagPlace}
 use Rattle.pgn_text.proofs.Halfway.{stands_join, spelled-append, before_more}
 use Rattle.pgn_text.proofs.KeptLemmas.{items-kept, items-push}
 use Rattle.pgn_text.proofs.PartLemmas.{one_part}
@@ -66,8 +63,7 @@ rows f before (x ∷ xs) (y ∷ ys) r s same stand other =
           after,
           (λ i. sym e i ∷ is i),
           parted,
-          subst (λ b. Stands (standing_of f b) next after)
-              (append_assoc before (spelled_part x) (spelled xs)) stands,
+          rw (← (append_assoc before (spelled_part x) (spelled xs))) stands,
         )
 
 -- ---- a block that is gone through part by part
@@ -107,8 +103,7 @@ passed_more f block begin at end done token to here =
           (subst (λ l. AllStand f (take begin block) done l)
           (found.parted ∙ ap (λ l. l ++ drop end block) (sym (append-nil (spelled_part here.part))))
           to.stand) (
-            subst (λ xs. Stands (standing_of f xs) here.part (drop end block)) to.passed
-                found.stands,
+            rw (← to.passed) found.stands,
             tt,
           );
       parted = to.parted ∙ ap (λ l. spelled done ++ l) found.parted

@@ -2,11 +2,9 @@
 use Rattle.std.proofs.Common.{◌≡◌, ◌≢◌, ℕ, ◌+◌, ◌<◌, ◌≤◌, ◌==◌, Bool, List, [], ◌∷◌, ◌++◌, length}
 use Rattle.std.proofs.Common.{refl, sym, ap, ◌∙◌, inl, inr, arith, append-nil, length-append}
 use Rattle.std.proofs.lemmas.List.{length-map}
-use Rattle.pgn_text.specs.Public.Parts.{spelled}
-use Rattle.pgn_text.specs.Public.Pieces.{Piece, Game, Unreadable, ArePieces}
-use Rattle.pgn_text.specs.Public.Blocks.{AreBlocks}
-use Rattle.pgn_text.specs.Public.Marks.{TooLongBlock, MarkedPiece, marked, AreOfBlock, over, within}
-use Rattle.pgn_text.specs.Public.Marks.{AreOfBlocks}
+use Rattle.pgn_text.proofs.Common.{spelled, Piece, Game, Unreadable, ArePieces, AreBlocks}
+use Rattle.pgn_text.proofs.Common.{TooLongBlock, MarkedPiece, marked, AreOfBlock, over, within}
+use Rattle.pgn_text.proofs.Common.{AreOfBlocks}
 use Rattle.pgn_text.specs.Public.TextLaws.{PieceBeginsInItsText}
 use Rattle.pgn_text.proofs.Lines.{cut_append, cut_single}
 use Rattle.pgn_text.proofs.OneList.{game_has_byte}

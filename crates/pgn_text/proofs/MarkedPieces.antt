@@ -1,9 +1,8 @@
 -- Each text has a list of pieces with their offsets, and only one.
-use Rattle.std.proofs.Common.{◌≡◌, ℕ, ◌+◌, ◌==◌, List, [], ◌∷◌, ◌++◌, map, length, refl, sym, ap}
-use Rattle.std.proofs.Common.{ap₂, ◌∙◌, inl, inr, arith}
-use Rattle.std.proofs.lemmas.Bool.{cases_lt}
-use Rattle.pgn_text.specs.Public.Marks.{TooLongBlock, MarkedPiece, marked, AreOfBlock, over, within}
-use Rattle.pgn_text.specs.Public.Marks.{AreOfBlocks, AreMarkedPieces}
+use Rattle.std.proofs.Common.{◌==◌}
+use Rattle.pgn_text.proofs.Common.{◌≡◌, ℕ, ◌+◌, List, [], ◌∷◌, ◌++◌, map, length, refl, sym, ap}
+use Rattle.pgn_text.proofs.Common.{ap₂, ◌∙◌, inl, inr, arith, cases_lt, TooLongBlock, MarkedPiece}
+use Rattle.pgn_text.proofs.Common.{marked, AreOfBlock, over, within, AreOfBlocks, AreMarkedPieces}
 use Rattle.pgn_text.proofs.OneList.{one_list}
 use Rattle.pgn_text.proofs.OneBlocks.{one_blocks, blocks_exist}
 use Rattle.pgn_text.proofs.Existence.{pieces_exist}

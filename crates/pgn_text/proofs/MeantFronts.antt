@@ -1,21 +1,16 @@
 -- A part with a meaning stands at the front of no text that is the front of one that may follow,
 -- where no part that stands there may.
-use Rattle.std.proofs.Common.{◌≡◌, ℕ, true, false, List, [], ◌∷◌, ◌++◌, Some, None, IsTrue, codes}
-use Rattle.std.proofs.Common.{refl, sym, ap, subst, ◌∙◌, inl, inr, append_assoc}
-use Rattle.std.specs.Prelude.{Option, ◌||◌, bytes_eq}
-use Rattle.std.specs.List.{list_all, list_any}
-use Rattle.std.proofs.lemmas.Bool.{and_parts, and_from, cases_Bool, or_cases, or_left, or_right}
-use Rattle.std.proofs.lemmas.Bool.{false≢true, false_from_ne_true}
-use Rattle.pgn_text.specs.Private.ErrorPosition.{Walks}
-use Rattle.pgn_text.specs.Public.Bytes.{is_word_byte}
-use Rattle.pgn_text.specs.Public.Games.{is_number, is_result_word, is_move_text, is_result}
-use Rattle.pgn_text.specs.Public.Games.{is_meant}
-use Rattle.pgn_text.specs.Private.PartFronts.{Follows, IsPartFront, NoneFollows}
-use Rattle.pgn_text.specs.Public.Parts.{Part, ByteOrderMark, White, Brace, Line, EscapeLine, Tag}
-use Rattle.pgn_text.specs.Public.Parts.{Word, Star, Dot, Glyph, Marks, Open, Close, Standing}
-use Rattle.pgn_text.specs.Public.Parts.{Stands, spelled_part}
-use Rattle.pgn_text.specs.Private.Reading.{part_front}
-use Rattle.pgn_text.specs.Private.Steps.{State, in_movetext, step}
+use Rattle.std.proofs.Common.{Some}
+use Rattle.std.specs.Prelude.{◌||◌}
+use Rattle.pgn_text.proofs.Common.{◌≡◌, ℕ, true, false, List, [], ◌∷◌, ◌++◌, None, IsTrue, codes}
+use Rattle.pgn_text.proofs.Common.{refl, sym, ap, subst, ◌∙◌, inl, inr, append_assoc, Option}
+use Rattle.pgn_text.proofs.Common.{bytes_eq, list_all, list_any, and_parts, and_from, cases_Bool}
+use Rattle.pgn_text.proofs.Common.{or_cases, or_left, or_right, false≢true, false_from_ne_true}
+use Rattle.pgn_text.proofs.Common.{Walks, is_word_byte, is_number, is_result_word, is_move_text}
+use Rattle.pgn_text.proofs.Common.{is_result, is_meant, Follows, IsPartFront, NoneFollows, Part}
+use Rattle.pgn_text.proofs.Common.{ByteOrderMark, White, Brace, Line, EscapeLine, Tag, Word, Star}
+use Rattle.pgn_text.proofs.Common.{Dot, Glyph, Marks, Open, Close, Standing, Stands, spelled_part}
+use Rattle.pgn_text.proofs.Common.{part_front, State, in_movetext, step}
 use Rattle.pgn_text.proofs.InPart.{from_word, word_follows, word_step}
 use Rattle.pgn_text.proofs.PartLemmas.{stands-read}
 use Rattle.pgn_text.proofs.Stuck.{follows_always, bracket_tag, tag_stuck}

@@ -1,14 +1,11 @@
 -- Under larger limits a text without faulty pieces keeps its pieces.
-use Rattle.std.proofs.Common.{ℕ, ◌+◌, ◌≤◌, ◌==◌, Bool, List, [], ◌∷◌, ◌++◌, map, length, IsTrue}
-use Rattle.std.proofs.Common.{sym, ap, ◌∙◌, arith}
-use Rattle.std.specs.List.{list_all}
-use Rattle.std.proofs.lemmas.Bool.{false≢true, and_parts}
-use Rattle.std.proofs.lemmas.List.Folds.{list_all-append}
-use Rattle.pgn_text.specs.Public.Parts.{Part, spelled}
-use Rattle.pgn_text.specs.Public.Games.{EachFrom, depth_after, IsGame}
-use Rattle.pgn_text.specs.Public.Pieces.{Piece, Game, Unreadable, ArePieces}
-use Rattle.pgn_text.specs.Public.Marks.{MarkedPiece, marked, is_readable, AreOfBlock, over, within}
-use Rattle.pgn_text.specs.Public.Marks.{AreOfBlocks, AreMarkedPieces}
+use Rattle.std.proofs.Common.{◌==◌}
+use Rattle.pgn_text.proofs.Common.{ℕ, ◌+◌, ◌≤◌, Bool, List, [], ◌∷◌, ◌++◌, map, length, IsTrue, sym}
+use Rattle.pgn_text.proofs.Common.{ap, ◌∙◌, arith, list_all, false≢true, and_parts, list_all-append}
+use Rattle.pgn_text.proofs.Common.{Part, spelled, EachFrom, depth_after, IsGame, Piece, Game}
+use Rattle.pgn_text.proofs.Common.{Unreadable, ArePieces, MarkedPiece, marked, AreOfBlock, over}
+use Rattle.pgn_text.proofs.Common.{within, AreOfBlocks, AreMarkedPieces}
+use Rattle.pgn_text.specs.Public.Marks.{is_readable}
 
 each_within : (low high : ℕ) (front parts : List Part)
     → low ≤ high

@@ -1,11 +1,10 @@
 -- Each text has a list of blocks, and only one.
-use Rattle.std.proofs.Common.{◌≡◌, ℕ, suc, ◌-◌, true, false, List, [], ◌∷◌, ◌++◌, length, get_or}
-use Rattle.std.proofs.Common.{refl, sym, ap, ◌∙◌, arith, inl, inr}
-use Rattle.std.specs.Prelude.{◌≢◌, ◌⊎◌, ◌&&◌, ◌==◌, nat_eq, IsTrue}
-use Rattle.std.specs.List.{starts_with}
-use Rattle.std.proofs.lemmas.Bool.{cases_Bool, both_ways, false≢true, and_right}
+use Rattle.std.specs.Prelude.{◌≢◌, ◌⊎◌, IsTrue}
 use Rattle.std.proofs.lemmas.List.{append-nil}
-use Rattle.pgn_text.specs.Public.Blocks.{event_line, is_event_line, IsFirstBlock, AreBlocks}
+use Rattle.pgn_text.proofs.Common.{◌≡◌, ℕ, suc, ◌-◌, true, false, List, [], ◌∷◌, ◌++◌, length}
+use Rattle.pgn_text.proofs.Common.{get_or, refl, sym, ap, ◌∙◌, arith, inl, inr, ◌&&◌, ◌==◌, nat_eq}
+use Rattle.pgn_text.proofs.Common.{starts_with, cases_Bool, both_ways, false≢true, and_right}
+use Rattle.pgn_text.proofs.Common.{event_line, is_event_line, IsFirstBlock, AreBlocks}
 use Rattle.pgn_text.proofs.OneList.{no_bytes}
 
 -- two cuts of one text: one of the fronts begins the other

@@ -1,11 +1,9 @@
 -- A block has one list of pieces at most.
-use Rattle.std.proofs.Common.{◌≡◌, ◌≢◌, ℕ, suc, ◌<◌, Bool, List, [], ◌∷◌, ◌++◌, length, take, drop}
-use Rattle.std.proofs.Common.{refl, sym, ap, ◌∙◌, arith, append-nil, length-append, le_antisymm}
-use Rattle.std.proofs.Common.{take_at, drop_at}
-use Rattle.pgn_text.specs.Public.Parts.{Part, standing_of, spelled, spelled_part}
-use Rattle.pgn_text.specs.Public.Games.{IsGame}
-use Rattle.pgn_text.specs.Public.Gaps.{IsLongestGap}
-use Rattle.pgn_text.specs.Public.Pieces.{Piece, Game, Unreadable, ArePieces}
+use Rattle.std.proofs.Common.{le_antisymm}
+use Rattle.pgn_text.proofs.Common.{◌≡◌, ◌≢◌, ℕ, suc, ◌<◌, Bool, List, [], ◌∷◌, ◌++◌, length, take}
+use Rattle.pgn_text.proofs.Common.{drop, refl, sym, ap, ◌∙◌, arith, append-nil, length-append}
+use Rattle.pgn_text.proofs.Common.{take_at, drop_at, Part, standing_of, spelled, spelled_part}
+use Rattle.pgn_text.proofs.Common.{IsGame, IsLongestGap, Piece, Game, Unreadable, ArePieces}
 use Rattle.pgn_text.proofs.PartLemmas.{part_has_byte}
 use Rattle.pgn_text.proofs.Halfway.{one_game}
 

@@ -1,14 +1,10 @@
 -- An element of a game stands at one place, and so does the first tag of a name.
-use Rattle.std.proofs.Common.{◌≡◌, ℕ, ◌+◌, true, false, List, [], ◌∷◌, ◌++◌, length, None, refl}
-use Rattle.std.proofs.Common.{sym, ap, subst, ◌∙◌, inl, inr, arith, append_assoc, append-nil}
-use Rattle.std.proofs.Common.{length-append}
-use Rattle.std.specs.Prelude.{is_some}
-use Rattle.std.proofs.lemmas.List.Concat.{flat_map-append}
-use Rattle.pgn_text.specs.Public.Parts.{Part, spelled}
-use Rattle.pgn_text.specs.Public.Games.{items_of, items_of_part, first_tag}
-use Rattle.pgn_text.specs.Public.PartPlaces.{IsPlaceOf, GivesElement, IsFirstTag}
+use Rattle.pgn_text.proofs.Common.{◌≡◌, ℕ, ◌+◌, true, false, List, [], ◌∷◌, ◌++◌, length, None}
+use Rattle.pgn_text.proofs.Common.{refl, sym, ap, subst, ◌∙◌, inl, inr, arith, append_assoc}
+use Rattle.pgn_text.proofs.Common.{append-nil, length-append, is_some, flat_map-append, Part}
+use Rattle.pgn_text.proofs.Common.{spelled, items_of, items_of_part, first_tag, IsPlaceOf}
+use Rattle.pgn_text.proofs.Common.{GivesElement, IsFirstTag, kept, named_kept}
 use Rattle.pgn_text.specs.Public.AnswerLaws.{OneElementPlace, OneTagPlace}
-use Rattle.pgn_text.specs.Private.Reading.{kept, named_kept}
 use Rattle.pgn_text.proofs.Lines.{cut_append}
 use Rattle.pgn_text.proofs.Located.{fewer_items, neither, none_earlier}
 use Rattle.pgn_text.proofs.TagLemmas.{first_tag-cons, first_tag-push}

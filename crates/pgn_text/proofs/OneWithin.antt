@@ -2,23 +2,17 @@
 use Rattle.std.proofs.Common.{◌≡◌, ℕ, ◌+◌, ◌-◌, ◌<◌, Bool, true, false, List, [], ◌∷◌, ◌++◌, IsTrue}
 use Rattle.std.proofs.Common.{take, drop, length, refl, sym, ap, subst, ◌∙◌, inl, inr, arith}
 use Rattle.std.proofs.Common.{append_assoc, append-nil, length-append, drop-drop, drop_at, take_at}
-use Rattle.std.specs.Prelude.{not, ◌||◌, nat_lt, count_by, if◌then◌else◌}
-use Rattle.std.specs.List.{list_all, list_any}
-use Rattle.std.proofs.lemmas.Bool.{and_parts, false≢true, eqb-true, or_left, or_right, or_parts}
-use Rattle.std.proofs.lemmas.Bool.{not-true}
-use Rattle.std.proofs.lemmas.Bool.Decides.{nat_tests}
-use Rattle.std.proofs.lemmas.List.Folds.{list_all-append, list_any-append}
+use Rattle.std.specs.Prelude.{not, ◌||◌, nat_lt, count_by}
+use Rattle.std.proofs.lemmas.List.Folds.{list_any-append}
+use Rattle.pgn_text.proofs.Common.{if◌then◌else◌, list_all, list_any, and_parts, false≢true}
+use Rattle.pgn_text.proofs.Common.{eqb-true, or_left, or_right, or_parts, not-true, nat_tests}
+use Rattle.pgn_text.proofs.Common.{list_all-append, begins, is_not_brace, is_open, is_result}
+use Rattle.pgn_text.proofs.Common.{is_meant, depth_after, Part, Open, Stands, standing_of, AllStand}
+use Rattle.pgn_text.proofs.Common.{spelled_part, spelled, PartsThen, StandsWithin, is_open_brace}
+use Rattle.pgn_text.proofs.Common.{is_open_bracket, is_quote, is_before_movetext, Within, Comment}
+use Rattle.pgn_text.proofs.Common.{Tags, MainLine, TagName, TagValue, Variation}
 use Rattle.pgn_text.specs.Public.AnswerLaws.{StandsInOneThing, CommentIsOpen}
-use Rattle.pgn_text.specs.Public.Bytes.{begins, is_not_brace}
-use Rattle.pgn_text.specs.Public.Games.{is_open, is_result, is_meant, depth_after}
-use Rattle.pgn_text.specs.Public.Parts.{Part, Open, Stands, standing_of, AllStand, spelled_part}
-use Rattle.pgn_text.specs.Public.Parts.{spelled}
-use Rattle.pgn_text.specs.Public.StopPlaces.{PartsThen, StandsWithin, is_open_brace}
-use Rattle.pgn_text.specs.Public.StopPlaces.{is_open_bracket, is_quote, is_before_movetext}
-use Rattle.pgn_text.specs.declared.error.error_position.Within.{Within}
-use Rattle.pgn_text.specs.declared.error.error_position.Within.TheVariants.{Comment, Tags, MainLine}
-use Rattle.pgn_text.specs.declared.error.error_position.Within.TheVariants.{TagName, Game}
-use Rattle.pgn_text.specs.declared.error.error_position.Within.TheVariants.{TagValue, Variation}
+use Rattle.pgn_text.specs.declared.error.error_position.Within.TheVariants.{Game}
 use Rattle.pgn_text.proofs.Halfway.{spelled-append, stands_cut}
 use Rattle.pgn_text.proofs.Located.{rows}
 use Rattle.pgn_text.proofs.OneList.{same_fronts}

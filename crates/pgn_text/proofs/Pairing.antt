@@ -1,22 +1,15 @@
 -- The variations of a game's elements are paired, and the names of its tags ascend.
-use Rattle.std.proofs.Common.{◌≡◌, ℕ, ◌+◌, ◌-◌, Bool, true, false, List, [], ◌∷◌, ◌++◌, refl, sym}
-use Rattle.std.proofs.Common.{ap, ◌∙◌, subst, inl, inr, Bor}
-use Rattle.std.specs.Prelude.{Option, Some, None, if◌then◌else◌, map}
-use Rattle.std.specs.List.{AllByRecursion}
+use Rattle.std.specs.Prelude.{None, map}
 use Rattle.std.specs.List.Sorted.{IsStrictlySortedBy}
-use Rattle.std.specs.Ordering.{nat_cmp}
-use Rattle.std.specs.Cmp.Lexicographic.{slice_cmp}
 use Rattle.std.specs.Map.{keys_of}
-use Rattle.std.specs.declared.cmp.Ordering.TheVariants.{Less}
-use Rattle.std.proofs.lemmas.Bool.{cases_Bool, ltb-true, MatchBool-at_true, MatchBool-at_false}
-use Rattle.pgn_text.specs.Public.Parts.{Part}
-use Rattle.pgn_text.specs.Public.Games.{Item, is_result, items_of, items_of_part, glyphs_of_marks}
-use Rattle.pgn_text.specs.Public.GameTexts.{IsPaired, tag_names}
-use Rattle.pgn_text.specs.Public.Elements.{tag_of}
-use Rattle.pgn_text.specs.Private.Steps.{State, Leads}
-use Rattle.pgn_text.specs.Private.Reading.{Kept, KeptGap, KeptComment, KeptTag, KeptMove}
-use Rattle.pgn_text.specs.Private.Reading.{KeptResult, KeptStray, KeptMarks, KeptOpen, KeptClose}
-use Rattle.pgn_text.specs.Private.Reading.{kept, step_kept, items_of_kept}
+use Rattle.pgn_text.proofs.Common.{◌≡◌, ℕ, ◌+◌, ◌-◌, Bool, true, false, List, [], ◌∷◌, ◌++◌, refl}
+use Rattle.pgn_text.proofs.Common.{sym, ap, ◌∙◌, subst, inl, inr, Bor, Option, Some, if◌then◌else◌}
+use Rattle.pgn_text.proofs.Common.{AllByRecursion, nat_cmp, slice_cmp, Less, cases_Bool, ltb-true}
+use Rattle.pgn_text.proofs.Common.{MatchBool-at_true, MatchBool-at_false, Part, Item, is_result}
+use Rattle.pgn_text.proofs.Common.{items_of, items_of_part, glyphs_of_marks, IsPaired, tag_names}
+use Rattle.pgn_text.proofs.Common.{tag_of, State, Leads, Kept, KeptGap, KeptComment, KeptTag}
+use Rattle.pgn_text.proofs.Common.{KeptMove, KeptResult, KeptStray, KeptMarks, KeptOpen, KeptClose}
+use Rattle.pgn_text.proofs.Common.{kept, step_kept, items_of_kept}
 use Rattle.pgn_text.proofs.KeptLemmas.{is_result-kept, step-kept, items-kept, kept_result}
 
 -- NAGs pair nothing
@@ -49,19 +42,15 @@ paired_more max_depth s next (KeptComment text) rest is paired =
 paired_more max_depth s next (KeptTag name contents) rest is paired =
     subst (λ d. IsPaired d rest) (sym (depth_if s.in_tags s next is).1) paired
 paired_more max_depth s next (KeptMove word) rest is paired =
-    subst (λ d. IsPaired d rest)
-    (sym (same_depth (record { in_tags = false; depth = s.depth; has_move = true }) next is))
-    paired
+    rw (same_depth (record { in_tags = false; depth = s.depth; has_move = true }) next is) paired
 paired_more max_depth s next KeptResult rest is paired = absurd (cc)
 paired_more max_depth s next KeptStray rest is paired = absurd (cc)
 paired_more max_depth s next (KeptMarks marks) rest is paired =
     marks_paired marks s.depth rest
-    (subst (λ d. IsPaired d rest) (sym (same_depth (record s { in_tags = false }) next is))
-    paired)
+    (rw (same_depth (record s { in_tags = false }) next is) paired)
 paired_more max_depth s next KeptOpen rest is paired =
-    subst (λ d. IsPaired d rest)
-    (sym (depth_if _ (record { in_tags = false; depth = s.depth + 1; has_move = false }) next
-    is).1) paired
+    rw (depth_if _ (record { in_tags = false; depth = s.depth + 1; has_move = false }) next is).1
+    paired
 paired_more max_depth s next KeptClose rest is paired =
     let both = depth_if _ (record { in_tags = false; depth = s.depth - 1; has_move = true }) next is
     in
@@ -83,9 +72,8 @@ leads_paired max_depth s (p ∷ back) leads =
           ends.0
       | inr no_result ↦
           let next = MatchBool-at_false _ _ no_result leads in
-          subst (λ xs. IsPaired s.depth (xs ++ items_of back)) (sym (items-kept p))
-          (paired_more max_depth s next.0 (kept p) (items_of back) (sym (step-kept max_depth s p)
-          ∙ next.1) (leads_paired max_depth next.0 back next.2))
+          rw (items-kept p) (paired_more max_depth s next.0 (kept p) (items_of back) (sym (step-kept
+          max_depth s p) ∙ next.1) (leads_paired max_depth next.0 back next.2))
     ]
 
 -- names that ascend, seen by their bytes

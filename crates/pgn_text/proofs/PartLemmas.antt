@@ -1,18 +1,14 @@
 -- The part at the front of a text is the one that may stand there, and no other.
-use Rattle.std.proofs.Common.{◌≡◌, ◌≢◌, ℕ, true, false, List, [], ◌∷◌, ◌++◌, refl, sym, ap, ◌∙◌}
-use Rattle.std.proofs.Common.{append_assoc}
 use Rattle.std.specs.Prelude.{Option, Some, None, option_map, IsTrue, ◌==◌, ◌&&◌, not, flat_map}
-use Rattle.std.specs.Option.{option_or}
-use Rattle.std.specs.List.{list_all}
-use Rattle.std.proofs.lemmas.Bool.{and_parts, not-true, not_from_false}
-use Rattle.pgn_text.specs.Public.Bytes.{is_white, is_digit, is_name_byte, is_word_byte, is_mark}
-use Rattle.pgn_text.specs.Public.Bytes.{is_plain, is_not_line_feed, is_not_brace, is_empty, stops}
-use Rattle.pgn_text.specs.Public.Strings.{Sign, Single, Escaped, spelled_sign, is_sign, IsContents}
-use Rattle.pgn_text.specs.Public.Parts.{Part, ByteOrderMark, White, Brace, Line, EscapeLine, Tag}
-use Rattle.pgn_text.specs.Public.Parts.{Word, Glyph, Marks, Standing, Stands, spelled_part}
-use Rattle.pgn_text.specs.Private.Reading.{gap_front, tag_end, tag_string, tag_front, game_front}
-use Rattle.pgn_text.specs.Private.Reading.{part_front, kept_found}
-use Rattle.pgn_text.specs.Shared.StringTexts.{with_byte, contents_front}
+use Rattle.pgn_text.proofs.Common.{◌≡◌, ◌≢◌, ℕ, true, false, List, [], ◌∷◌, ◌++◌, refl, sym, ap}
+use Rattle.pgn_text.proofs.Common.{◌∙◌, append_assoc, option_or, list_all, and_parts, not-true}
+use Rattle.pgn_text.proofs.Common.{not_from_false, is_white, is_digit, is_name_byte, is_word_byte}
+use Rattle.pgn_text.proofs.Common.{is_mark, is_plain, is_not_line_feed, is_not_brace, is_empty}
+use Rattle.pgn_text.proofs.Common.{stops, Sign, Single, Escaped, spelled_sign, is_sign, IsContents}
+use Rattle.pgn_text.proofs.Common.{Part, ByteOrderMark, White, Brace, Line, EscapeLine, Tag, Word}
+use Rattle.pgn_text.proofs.Common.{Glyph, Marks, Standing, Stands, spelled_part, gap_front, tag_end}
+use Rattle.pgn_text.proofs.Common.{tag_string, tag_front, game_front, part_front, kept_found}
+use Rattle.pgn_text.proofs.Common.{with_byte, contents_front}
 use Rattle.pgn_text.proofs.Fronts.{run_of-append, after_run-append}
 use Rattle.pgn_text.proofs.Classes.{is_white-word, brace-word, semicolon-word, percent-word}
 use Rattle.pgn_text.proofs.Classes.{order_mark-word, is_white-mark, brace-mark, semicolon-mark}

@@ -1,29 +1,25 @@
 -- Parts distinguished by the byte at their place, and by the place after them.
-use Rattle.std.proofs.Common.{◌≡◌, ℕ, suc, ◌+◌, ◌-◌, ◌<◌, ◌≤◌, Bool, true, false, List, [], ◌∷◌}
-use Rattle.std.proofs.Common.{◌++◌, length, take, drop, get_or, refl, sym, ap, ◌∙◌, subst, arith}
-use Rattle.std.proofs.Common.{length-drop, length-append, drop-drop}
-use Rattle.std.specs.Prelude.{Option, Some, None, option_map, IsTrue}
-use Rattle.std.specs.Option.{option_or}
+use Rattle.std.specs.Prelude.{None, IsTrue}
+use Rattle.memchr.specs.Find.{is_byte}
+use Rattle.pgn_text.proofs.Common.{◌≡◌, ℕ, suc, ◌+◌, ◌-◌, ◌<◌, ◌≤◌, Bool, true, false, List, []}
+use Rattle.pgn_text.proofs.Common.{◌∷◌, ◌++◌, length, take, drop, get_or, refl, sym, ap, ◌∙◌, subst}
+use Rattle.pgn_text.proofs.Common.{arith, length-drop, length-append, drop-drop, Option, Some}
+use Rattle.pgn_text.proofs.Common.{option_map, option_or, list_all, and_parts, and_from}
+use Rattle.pgn_text.proofs.Common.{not_from_false, drop_more, drop_all, nil_from_length}
+use Rattle.pgn_text.proofs.Common.{get_or-drop, is_white, is_digit, is_letter, is_mark}
+use Rattle.pgn_text.proofs.Common.{is_word_byte, begins, stops, run_of, after_run, Part, White}
+use Rattle.pgn_text.proofs.Common.{Brace, Word, Dot, Marks, Open, Close, Standing, standing_of}
+use Rattle.pgn_text.proofs.Common.{spelled_part, Kept, KeptGap, KeptComment, kept_found}
+use Rattle.pgn_text.proofs.Common.{brace_front, KeptMove, KeptNumber, KeptDot, KeptMarks, KeptOpen}
+use Rattle.pgn_text.proofs.Common.{KeptClose, kept_word, part_front, game_front, RunTo, PartAt}
+use Rattle.pgn_text.proofs.Common.{KeptAt, NothingAt, GapPartAt, IsFirstByte}
 use Rattle.pgn_text.proofs.Classes.{is_letter-word, is_digit-word, is_letter-digit}
 use Rattle.pgn_text.proofs.Classes.{is_word_byte-mark, dot-mark, dollar-mark}
 use Rattle.pgn_text.proofs.Fronts.{run_of-append, after_run-append, run-append-after, list_all-run}
-use Rattle.std.specs.List.{list_all}
-use Rattle.std.proofs.lemmas.Bool.{and_parts, and_from, not_from_false}
-use Rattle.std.proofs.lemmas.List.{drop_more, drop_all, nil_from_length, get_or-drop}
-use Rattle.pgn_text.specs.Public.Bytes.{is_white, is_digit, is_letter, is_mark, is_word_byte}
-use Rattle.pgn_text.specs.Public.Bytes.{begins, stops, run_of, after_run}
-use Rattle.pgn_text.specs.Public.Parts.{Part, White, Brace, Word, Dot, Marks, Open, Close, Standing}
-use Rattle.pgn_text.specs.Public.Parts.{standing_of, spelled_part}
-use Rattle.pgn_text.specs.Private.Reading.{Kept, KeptGap, KeptComment, kept_found, brace_front}
-use Rattle.pgn_text.specs.Private.Reading.{KeptMove, KeptNumber, KeptDot, KeptMarks, KeptOpen}
-use Rattle.pgn_text.specs.Private.Reading.{KeptClose, kept_word, part_front, game_front}
-use Rattle.pgn_text.specs.Private.Tokens.{RunTo}
-use Rattle.pgn_text.specs.Private.Walk.{PartAt, KeptAt, NothingAt, GapPartAt}
 use Rattle.pgn_text.proofs.FoundLemmas.{read-stands}
 use Rattle.pgn_text.proofs.PartLemmas.{no_gap-word, no_gap-mark, part_has_byte}
 use Rattle.pgn_text.proofs.Places.{part_placed, kept_at, nothing_at}
 use Rattle.pgn_text.proofs.Braces.{brace_found, brace_none}
-use Rattle.memchr.specs.Find.{IsFirstByte, is_byte}
 
 -- the part that is read at a place reaches to the place where what is left after it begins
 placed : (f : Bool) (block : List ℕ) (at end : ℕ) (part : Part) → at ≤ length block

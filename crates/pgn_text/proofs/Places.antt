@@ -1,22 +1,16 @@
 -- Parts at places of a block.
-use Rattle.std.proofs.Common.{◌≡◌, ℕ, ◌+◌, ◌-◌, ◌≤◌, Bool, true, false, List, [], ◌∷◌, ◌++◌, length}
-use Rattle.std.proofs.Common.{take, drop, refl, sym, ap, ◌∙◌, subst, append_assoc, arith}
-use Rattle.std.proofs.Common.{length-append, length-drop}
 use Rattle.std.specs.Prelude.{Option, Some, None, option_map, option_and_then, ◌==◌, nat_eq}
-use Rattle.std.specs.List.{starts_with}
-use Rattle.std.specs.Option.{option_or}
-use Rattle.std.proofs.lemmas.Bool.{cond_both}
-use Rattle.std.proofs.lemmas.List.{take-append-drop, length-take-le, take_at, drop_at}
-use Rattle.std.proofs.lemmas.List.{nil_from_length}
-use Rattle.pgn_text.specs.Public.Bytes.{is_white, is_word_byte, is_mark, is_digit, is_name_byte}
-use Rattle.pgn_text.specs.Public.Bytes.{is_not_brace, is_empty, run_of, after_run}
-use Rattle.pgn_text.specs.Public.Parts.{Part, Tag, Brace, Standing, Stands, spelled_part}
-use Rattle.pgn_text.specs.Public.Parts.{standing_of}
-use Rattle.pgn_text.specs.Public.Games.{is_gap_part}
-use Rattle.pgn_text.specs.Private.Reading.{Kept, kept, gap_front, tag_front, tag_string, tag_end}
-use Rattle.pgn_text.specs.Private.Reading.{kept_found, part_front, game_front, rest_after, is_glyph}
-use Rattle.pgn_text.specs.Shared.StringTexts.{contents_front}
-use Rattle.pgn_text.specs.Private.Walk.{PartAt, KeptAt, NothingAt, GapPartAt, NoGapPartAt}
+use Rattle.std.proofs.lemmas.List.{take_at, drop_at}
+use Rattle.pgn_text.proofs.Common.{◌≡◌, ℕ, ◌+◌, ◌-◌, ◌≤◌, Bool, true, false, List, [], ◌∷◌, ◌++◌}
+use Rattle.pgn_text.proofs.Common.{length, take, drop, refl, sym, ap, ◌∙◌, subst, append_assoc}
+use Rattle.pgn_text.proofs.Common.{arith, length-append, length-drop, starts_with, option_or}
+use Rattle.pgn_text.proofs.Common.{cond_both, take-append-drop, length-take-le, nil_from_length}
+use Rattle.pgn_text.proofs.Common.{is_white, is_word_byte, is_mark, is_digit, is_name_byte}
+use Rattle.pgn_text.proofs.Common.{is_not_brace, is_empty, run_of, after_run, Part, Tag, Brace}
+use Rattle.pgn_text.proofs.Common.{Standing, Stands, spelled_part, standing_of, is_gap_part, Kept}
+use Rattle.pgn_text.proofs.Common.{kept, gap_front, tag_front, tag_string, tag_end, kept_found}
+use Rattle.pgn_text.proofs.Common.{part_front, game_front, rest_after, is_glyph, contents_front}
+use Rattle.pgn_text.proofs.Common.{PartAt, KeptAt, NothingAt, GapPartAt, NoGapPartAt}
 use Rattle.pgn_text.proofs.PartLemmas.{part_has_byte, stands-read}
 use Rattle.pgn_text.proofs.FoundLemmas.{IsFound, gap-found, read-stands}
 

@@ -1,15 +1,11 @@
 -- A game read on over plain movetext.
-use Rattle.std.proofs.Common.{◌≡◌, ℕ, Bool, true, false, List, ◌++◌, refl, sym, ap, ◌∙◌, subst}
-use Rattle.std.proofs.Common.{append-nil, append_assoc}
-use Rattle.std.specs.Prelude.{Option, Some, None}
-use Rattle.std.specs.Option.{option_or}
-use Rattle.pgn_text.specs.Public.Games.{Item}
-use Rattle.pgn_text.specs.Private.Movetext.{is_plain_kept, ArePlain, none, one_more, PlainTo}
-use Rattle.pgn_text.specs.Private.Movetext.{AddsElements}
-use Rattle.pgn_text.specs.Private.Reading.{Kept, KeptGap, KeptTag, KeptMove, KeptNumber, KeptResult}
-use Rattle.pgn_text.specs.Private.Reading.{KeptDot, is_kept_result, step_kept, items_of_kept}
-use Rattle.pgn_text.specs.Private.Reading.{named_kept}
-use Rattle.pgn_text.specs.Private.Steps.{State}
+use Rattle.std.specs.Prelude.{None}
+use Rattle.pgn_text.proofs.Common.{◌≡◌, ℕ, Bool, true, false, List, ◌++◌, refl, sym, ap, ◌∙◌, subst}
+use Rattle.pgn_text.proofs.Common.{append-nil, append_assoc, Option, Some, option_or, Item}
+use Rattle.pgn_text.proofs.Common.{is_plain_kept, ArePlain, none, PlainTo, Kept, KeptGap, KeptTag}
+use Rattle.pgn_text.proofs.Common.{KeptMove, KeptNumber, KeptResult, KeptDot, is_kept_result}
+use Rattle.pgn_text.proofs.Common.{step_kept, items_of_kept, named_kept, State}
+use Rattle.pgn_text.specs.Private.Movetext.{one_more, AddsElements}
 use Rattle.pgn_text.proofs.ReadLemmas.{ReadTo, read_more, KeptUpTo}
 use Rattle.pgn_text.proofs.TagLemmas.{option_or-none}
 

@@ -2,17 +2,12 @@
 use Rattle.std.proofs.Common.{◌≡◌, ◌⊎◌, ℕ, zero, suc, ◌+◌, ◌-◌, ◌<◌, ◌≤◌, Bool, true, false, not}
 use Rattle.std.proofs.Common.{◌&&◌, ◌||◌, ◌==◌, List, [], ◌∷◌, ◌++◌, length, take, drop, get_or}
 use Rattle.std.proofs.Common.{refl, sym, ap, ◌∙◌, subst, arith, inl, inr, append-nil, append_assoc}
-use Rattle.std.proofs.lemmas.Bool.{eqb-true, cases_lt}
-use Rattle.pgn_text.specs.Public.Bytes.{is_white, is_digit, is_letter, is_word_byte}
-use Rattle.pgn_text.specs.Public.Games.{Item, MoveText}
-use Rattle.pgn_text.specs.Private.Masks.{has_bit, word_begins, HaveEnds, IsNextMove, NoneFrom}
-use Rattle.pgn_text.specs.Private.Masks.{Sweeps}
-use Rattle.pgn_text.specs.Private.Movetext.{is_plain_kept, ArePlain, none, one_more as then_part}
-use Rattle.pgn_text.specs.Private.Movetext.{PlainTo}
-use Rattle.pgn_text.specs.Private.Reading.{Kept, KeptGap, KeptMove, KeptNumber, KeptDot}
-use Rattle.pgn_text.specs.Private.Reading.{items_of_kept}
-use Rattle.pgn_text.specs.Private.Tokens.{RunTo}
-use Rattle.pgn_text.specs.Private.Walk.{PartAt, KeptAt}
+use Rattle.pgn_text.proofs.Common.{eqb-true, cases_lt, is_white, is_digit, is_letter, is_word_byte}
+use Rattle.pgn_text.proofs.Common.{Item, MoveText, has_bit, word_begins, Sweeps, is_plain_kept}
+use Rattle.pgn_text.proofs.Common.{ArePlain, none, PlainTo, Kept, KeptGap, KeptMove, KeptNumber}
+use Rattle.pgn_text.proofs.Common.{KeptDot, items_of_kept, RunTo, PartAt, KeptAt}
+use Rattle.pgn_text.specs.Private.Masks.{HaveEnds, IsNextMove, NoneFrom}
+use Rattle.pgn_text.specs.Private.Movetext.{one_more as then_part}
 use Rattle.pgn_text.proofs.Classes.{is_digit-word, is_letter-word, is_white-word}
 use Rattle.pgn_text.proofs.Bits.{both_true, clash}
 use Rattle.pgn_text.proofs.PartsAt.{kept_letters, kept_digits, kept_dot, kept_white}
@@ -159,8 +154,7 @@ module _ (block : List ℕ) (at words moves numbers len : ℕ) (from : ℕ)
   quiet_step items j lt still (in_number b i plain before digit pass is number) =
       let below = inside_block j lt in
       let more : (has_bit numbers j || (byte j == 46)) ≡ true =
-      subst (λ k. (has_bit numbers k || (byte k == 46))
-      ≡ true) (sym is) (s.goes_on i (omega arith) number) in
+      rw is (s.goes_on i (omega arith) number) in
       elim (known (has_bit numbers j)) [
         | inl on ↦ in_number b j plain (omega arith) digit
             (one_more is_digit block (b + 1) (at + j) (at

@@ -1,19 +1,14 @@
 -- A game read part by part at places of a block.
-use Rattle.std.proofs.Common.{◌≡◌, ◌≢◌, ℕ, ◌+◌, ◌-◌, ◌<◌, ◌≤◌, Bool, true, false, List, [], ◌∷◌}
-use Rattle.std.proofs.Common.{◌++◌, length, take, drop, refl, sym, ap, ◌∙◌, subst, append_assoc}
-use Rattle.std.proofs.Common.{append-nil, arith, length-append, ◌⊎◌, inl, inr}
-use Rattle.std.specs.Prelude.{Option, Some, None, IsTrue}
-use Rattle.std.specs.Option.{option_or}
-use Rattle.std.proofs.lemmas.Bool.{not_from_false}
-use Rattle.std.proofs.lemmas.List.{length-take-le, take_at}
-use Rattle.pgn_text.specs.Public.Parts.{Part, Stands, standing_of, spelled_part, spelled}
-use Rattle.pgn_text.specs.Public.Games.{Item, is_result, begins_outside_gap, items_of, first_tag}
-use Rattle.pgn_text.specs.Public.Games.{result_of}
-use Rattle.pgn_text.specs.Public.GameTexts.{IsPaired}
-use Rattle.pgn_text.specs.Public.Pieces.{NoGame}
-use Rattle.pgn_text.specs.Private.Steps.{State, start, step}
-use Rattle.pgn_text.specs.Private.Reading.{Kept, KeptGap, KeptDot, KeptResult, kept, is_kept_result}
-use Rattle.pgn_text.specs.Private.Reading.{step_kept, items_of_kept, named_kept}
+use Rattle.std.specs.Prelude.{None, IsTrue}
+use Rattle.std.proofs.lemmas.List.{take_at}
+use Rattle.pgn_text.proofs.Common.{◌≡◌, ◌≢◌, ℕ, ◌+◌, ◌-◌, ◌<◌, ◌≤◌, Bool, true, false, List, []}
+use Rattle.pgn_text.proofs.Common.{◌∷◌, ◌++◌, length, take, drop, refl, sym, ap, ◌∙◌, subst}
+use Rattle.pgn_text.proofs.Common.{append_assoc, append-nil, arith, length-append, ◌⊎◌, inl, inr}
+use Rattle.pgn_text.proofs.Common.{Option, Some, option_or, not_from_false, length-take-le, Part}
+use Rattle.pgn_text.proofs.Common.{Stands, standing_of, spelled_part, spelled, Item, is_result}
+use Rattle.pgn_text.proofs.Common.{begins_outside_gap, items_of, first_tag, result_of, IsPaired}
+use Rattle.pgn_text.proofs.Common.{NoGame, State, start, step, Kept, KeptGap, KeptDot, KeptResult}
+use Rattle.pgn_text.proofs.Common.{kept, is_kept_result, step_kept, items_of_kept, named_kept}
 use Rattle.pgn_text.specs.Private.Readings.{GoesOn, StuckAt, EndsAt}
 use Rattle.pgn_text.specs.Private.Walk.{PartAt, KeptAt, Passes, NothingAt, NoGapPartAt, GameRead}
 use Rattle.pgn_text.proofs.Halfway.{Reads, halfway_start, halfway_more, halfway_stuck, halfway_none}
@@ -43,9 +38,7 @@ read_start max_depth f block begin state tags elements within is_start no_tags n
     record {
       done = [];
       halfway =
-          subst (λ s.
-          Halfway max_depth f (take begin block) (drop begin block) [] s (drop begin block))
-          (sym is_start) (halfway_start max_depth f (take begin block) (drop begin block));
+          rw is_start (halfway_start max_depth f (take begin block) (drop begin block));
       passed = sym (append-nil (take begin block));
       forward = omega arith;
       within = within;

@@ -1,12 +1,9 @@
 -- What stands at a place of a game, by the token that was found there.
-use Rattle.std.proofs.Common.{◌≡◌, ℕ, Bool, false, List, sym, subst, inr}
-use Rattle.std.specs.Prelude.{Option, Result as ResultOf, IfOk}
+use Rattle.std.specs.Prelude.{Result as ResultOf, IfOk}
 use Rattle.std.proofs.lemmas.Result.{IfOk-weaker}
-use Rattle.pgn_text.specs.Public.Games.{Item}
-use Rattle.pgn_text.specs.Private.Reading.{Kept, is_kept_result}
+use Rattle.pgn_text.proofs.Common.{◌≡◌, ℕ, Bool, false, List, sym, subst, inr, Option, Item, Kept}
+use Rattle.pgn_text.proofs.Common.{is_kept_result, State, KeptAt}
 use Rattle.pgn_text.specs.Private.Readings.{IsReading, IsStep}
-use Rattle.pgn_text.specs.Private.Steps.{State}
-use Rattle.pgn_text.specs.Private.Walk.{KeptAt}
 use Rattle.pgn_text.specs.declared.game.Reading.{Reading}
 use Rattle.pgn_text.specs.declared.game.Reading.TheVariants.{Part, Move, Number, Result, Stuck}
 

@@ -1,11 +1,8 @@
 -- The pieces of a block read again from one of them on, as a block by itself that is not at the
 -- file's start.
-use Rattle.std.proofs.Common.{◌≢◌, ℕ, ◌-◌, Bool, false, List, [], ◌∷◌, ◌++◌, map, length, refl}
-use Rattle.std.proofs.Common.{arith, append_assoc, length-append}
-use Rattle.pgn_text.specs.Public.Parts.{Part, spelled}
-use Rattle.pgn_text.specs.Public.Games.{IsGame}
-use Rattle.pgn_text.specs.Public.Gaps.{IsLongestGap}
-use Rattle.pgn_text.specs.Public.Pieces.{NoGame, Piece, Game, Unreadable, ArePieces}
+use Rattle.pgn_text.proofs.Common.{◌≢◌, ℕ, ◌-◌, Bool, false, List, [], ◌∷◌, ◌++◌, map, length, refl}
+use Rattle.pgn_text.proofs.Common.{arith, append_assoc, length-append, Part, spelled, IsGame}
+use Rattle.pgn_text.proofs.Common.{IsLongestGap, NoGame, Piece, Game, Unreadable, ArePieces}
 use Rattle.pgn_text.proofs.ShorterText.{game_elsewhere}
 use Rattle.pgn_text.proofs.OneList.{game_has_byte}
 use Rattle.pgn_text.proofs.Resumption.{IsClear, some_bytes, stand_there, stand_back, game_there}

@@ -3,15 +3,12 @@
 use Rattle.std.proofs.Common.{◌≡◌, ◌≢◌, ℕ, ◌+◌, ◌-◌, ◌≤◌, ◌==◌, Bool, false, ◌&&◌, List, [], ◌∷◌}
 use Rattle.std.proofs.Common.{◌++◌, map, length, drop, get_or, nat_eq, refl, sym, ap, ap₂, subst}
 use Rattle.std.proofs.Common.{◌∙◌, inl, inr, arith, append_assoc, length-append, drop_at, drop-drop}
-use Rattle.std.specs.List.{starts_with}
-use Rattle.std.proofs.lemmas.Bool.{ne_eqb}
-use Rattle.std.proofs.lemmas.List.{get_or-append-add, nil_from_length}
-use Rattle.pgn_text.specs.Public.Parts.{spelled}
-use Rattle.pgn_text.specs.Public.Pieces.{Piece, Game, Unreadable, ArePieces}
-use Rattle.pgn_text.specs.Public.Blocks.{event_line, is_event_line, IsFirstBlock, AreBlocks}
-use Rattle.pgn_text.specs.Public.Marks.{ReadableGame, UnreadableRest, TooLongBlock, MarkedPiece}
-use Rattle.pgn_text.specs.Public.Marks.{marked, AreOfBlock, over, within, AreOfBlocks}
-use Rattle.pgn_text.specs.Public.Marks.{AreMarkedPieces, ResumesAt}
+use Rattle.pgn_text.proofs.Common.{starts_with, ne_eqb, get_or-append-add, nil_from_length, spelled}
+use Rattle.pgn_text.proofs.Common.{Piece, Game, Unreadable, ArePieces, event_line, is_event_line}
+use Rattle.pgn_text.proofs.Common.{IsFirstBlock, AreBlocks, ReadableGame, UnreadableRest}
+use Rattle.pgn_text.proofs.Common.{TooLongBlock, MarkedPiece, marked, AreOfBlock, over, within}
+use Rattle.pgn_text.proofs.Common.{AreOfBlocks, AreMarkedPieces}
+use Rattle.pgn_text.specs.Public.Marks.{ResumesAt}
 use Rattle.pgn_text.proofs.Lines.{cut_append, cut_single}
 use Rattle.pgn_text.proofs.MarkedPieces.{one_marked_pieces}
 use Rattle.pgn_text.proofs.OneList.{no_bytes, game_has_byte, no_more}
@@ -269,8 +266,7 @@ resumed_within limit max_depth offset block earlier piece later pieces (b
       place = place;
       each = within (omega (arith, ap length parted, length-append (b ∷ bs) rest))
           (map (moved_back n) pieces)
-          (subst (λ (f : Bool). ArePieces max_depth f [] (map (moved_back n) pieces) rest)
-          (sym later_start) read)
+          (rw later_start read)
           (sym marks ∙ ap (λ (m : ℕ). map (marked m) (map (moved_back n) pieces)) (sym place));
     }
 

@@ -1,21 +1,17 @@
 -- A block read again from one of its pieces on, as a block by itself that is not at the file's
 -- start: the same pieces follow.
-use Rattle.std.proofs.Common.{◌≡◌, ◌≢◌, ℕ, ◌+◌, ◌-◌, ◌≤◌, Bool, true, false, ◌&&◌, ◌==◌, List, []}
-use Rattle.std.proofs.Common.{◌∷◌, ◌++◌, length, IsTrue, bytes_eq, slice_index, refl, sym, ap, ap₂}
-use Rattle.std.proofs.Common.{subst, ◌∙◌, ◌⊎◌, inl, inr, arith, append_assoc, append-nil}
-use Rattle.std.proofs.Common.{length-append}
-use Rattle.std.specs.List.{list_all}
-use Rattle.std.proofs.lemmas.Bool.{false≢true, and_parts, and_from, not-true, and_right}
-use Rattle.std.proofs.lemmas.List.{get_or-append-add, nil_from_length}
-use Rattle.std.proofs.lemmas.List.Folds.{list_all-append}
-use Rattle.std.proofs.lemmas.Bool.Decides.{nat_tests}
-use Rattle.pgn_text.specs.Public.Bytes.{is_white, is_word_byte, is_mark, is_empty}
-use Rattle.pgn_text.specs.Public.Parts.{Part, ByteOrderMark, White, Brace, Line, EscapeLine, Tag}
-use Rattle.pgn_text.specs.Public.Parts.{Word, Star, Dot, Glyph, Marks, Open, Close, Standing}
-use Rattle.pgn_text.specs.Public.Parts.{standing_of, is_column_one, Stands, AllStand, spelled}
-use Rattle.pgn_text.specs.Public.Parts.{spelled_part}
-use Rattle.pgn_text.specs.Public.Games.{is_gap_part, begins_outside_gap, IsGame}
-use Rattle.pgn_text.specs.Public.Gaps.{IsGap, IsLongestGap}
+use Rattle.std.proofs.Common.{◌&&◌, ◌==◌, bytes_eq, slice_index}
+use Rattle.pgn_text.proofs.Common.{◌≡◌, ◌≢◌, ℕ, ◌+◌, ◌-◌, ◌≤◌, Bool, true, false, List, [], ◌∷◌}
+use Rattle.pgn_text.proofs.Common.{◌++◌, length, IsTrue, refl, sym, ap, ap₂, ◌∙◌, ◌⊎◌, inl}
+use Rattle.pgn_text.proofs.Common.{inr, arith, append_assoc, append-nil, length-append, list_all}
+use Rattle.pgn_text.proofs.Common.{false≢true, and_parts, and_from, not-true, and_right}
+use Rattle.pgn_text.proofs.Common.{get_or-append-add, nil_from_length, list_all-append, nat_tests}
+use Rattle.pgn_text.proofs.Common.{is_white, is_word_byte, is_mark, is_empty, Part, ByteOrderMark}
+use Rattle.pgn_text.proofs.Common.{White, Brace, Line, EscapeLine, Tag, Word, Star, Dot, Glyph}
+use Rattle.pgn_text.proofs.Common.{Marks, Open, Close, Standing, standing_of, Stands, AllStand}
+use Rattle.pgn_text.proofs.Common.{spelled, spelled_part, is_gap_part, begins_outside_gap, IsGame}
+use Rattle.pgn_text.proofs.Common.{IsGap, IsLongestGap}
+use Rattle.pgn_text.specs.Public.Parts.{is_column_one}
 use Rattle.pgn_text.proofs.PartLemmas.{part_has_byte}
 use Rattle.pgn_text.proofs.ShorterText.{game_elsewhere}
 use Rattle.pgn_text.proofs.OneList.{no_bytes}
@@ -78,8 +74,7 @@ pub stand_there : (file_start : Bool) (before : List ℕ) (z : List ℕ) (parts 
 stand_there file_start before [] parts after clear some h = absurd (some refl)
 stand_there file_start before (b ∷ bs) [] after clear some h = tt
 stand_there file_start before (b ∷ bs) (p ∷ back) after clear some h = (
-  subst (λ (place : Standing). Stands place p (spelled back ++ after))
-      (same_place file_start before b bs clear) h.0,
+  rw (← (same_place file_start before b bs clear)) h.0,
   stand_there file_start before (b ∷ (bs ++ spelled_part p)) back after clear (λ e. cc)
       (rw (append_assoc before (b ∷ bs) (spelled_part p)) at h.1),
 )
@@ -91,8 +86,7 @@ pub stand_back : (file_start : Bool) (before : List ℕ) (z : List ℕ) (parts :
 stand_back file_start before [] parts after clear some h = absurd (some refl)
 stand_back file_start before (b ∷ bs) [] after clear some h = tt
 stand_back file_start before (b ∷ bs) (p ∷ back) after clear some h = (
-  subst (λ (place : Standing). Stands place p (spelled back ++ after))
-      (sym (same_place file_start before b bs clear)) h.0,
+  rw (same_place file_start before b bs clear) h.0,
   rw (append_assoc before (b ∷ bs) (spelled_part p))
       (stand_back file_start before (b ∷ (bs ++ spelled_part p)) back
       after clear (λ e. cc) h.1),

@@ -1,13 +1,9 @@
 -- Worked rows of the definitions.
-use Rattle.std.proofs.Common.{◌≡◌, true, false, List, [], ◌∷◌, codes, refl, sym, ap, ◌∙◌}
-use Rattle.pgn_text.specs.Public.Parts.{Part, White, Word, Star, Dot, Open, Close, spelled}
-use Rattle.pgn_text.specs.Public.Parts.{standing_of}
-use Rattle.pgn_text.specs.Public.Games.{IsGame}
-use Rattle.pgn_text.specs.Public.Pieces.{NoGame}
-use Rattle.pgn_text.specs.Private.Steps.{start}
+use Rattle.pgn_text.proofs.Common.{◌≡◌, true, false, List, [], ◌∷◌, codes, refl, sym, ap, ◌∙◌, Part}
+use Rattle.pgn_text.proofs.Common.{White, Word, Star, Dot, Open, Close, spelled, standing_of}
+use Rattle.pgn_text.proofs.Common.{IsGame, NoGame, start, part_front}
 use Rattle.pgn_text.proofs.GameLeads.{game_from}
 use Rattle.pgn_text.proofs.Halfway.{halfway_start, halfway_stuck, game_reads, halfway_none}
-use Rattle.pgn_text.specs.Private.Reading.{part_front}
 use Rattle.pgn_text.proofs.PartLemmas.{stands-read}
 
 -- `1. e4 *` is a game

@@ -1,12 +1,11 @@
 -- Longest fronts of bytes that pass a test.
-use Rattle.std.proofs.Common.{◌≡◌, ℕ, zero, suc, ◌+◌, ◌<◌, ◌≤◌, Bool, true, false, not, List, []}
-use Rattle.std.proofs.Common.{◌∷◌, ◌++◌, length, take, drop, get_or, refl, sym, ap, ◌∙◌, arith}
-use Rattle.std.proofs.lemmas.Bool.{eqb-true, not_from_true, not_from_false, false_from_ne_true}
-use Rattle.std.proofs.lemmas.Bool.{ne_eqb}
-use Rattle.std.proofs.lemmas.List.{drop_more, drop_all}
-use Rattle.memchr.specs.Find.{IsFirstByte, is_byte}
+use Rattle.std.proofs.lemmas.Bool.{not_from_true}
+use Rattle.memchr.specs.Find.{is_byte}
 use Rattle.std.specs.Prelude.{if◌then◌else◌, Some, None, ◌==◌}
-use Rattle.pgn_text.specs.Public.Bytes.{is_empty, run_of, after_run}
+use Rattle.pgn_text.proofs.Common.{◌≡◌, ℕ, zero, suc, ◌+◌, ◌<◌, ◌≤◌, Bool, true, false, not, List}
+use Rattle.pgn_text.proofs.Common.{[], ◌∷◌, ◌++◌, length, take, drop, get_or, refl, sym, ap, ◌∙◌}
+use Rattle.pgn_text.proofs.Common.{arith, eqb-true, not_from_false, false_from_ne_true, ne_eqb}
+use Rattle.pgn_text.proofs.Common.{drop_more, drop_all, IsFirstByte, is_empty, run_of, after_run}
 
 pub take_run : (test : ℕ → Bool) (xs : List ℕ) → take (length (run_of test xs)) xs ≡ run_of test xs
 take_run test [] = refl

@@ -1,11 +1,7 @@
 -- Longest runs between places of a block.
 use Rattle.std.proofs.Common.{◌≡◌, Bool, true, false, length, get_or, arith, length-drop, drop-drop}
 use Rattle.std.proofs.Common.{inl, inr, ℕ, ◌+◌, ◌-◌, ◌<◌, ◌≤◌, List, ◌++◌, take, drop, sym, ap, ◌∙◌}
-use Rattle.std.proofs.lemmas.Bool.{cases_lt}
-use Rattle.std.proofs.lemmas.List.{get_or-drop}
-use Rattle.std.proofs.Math.Seq.{take-add}
-use Rattle.pgn_text.specs.Public.Bytes.{run_of, after_run}
-use Rattle.pgn_text.specs.Private.Tokens.{RunTo}
+use Rattle.pgn_text.proofs.Common.{cases_lt, get_or-drop, take-add, run_of, after_run, RunTo}
 use Rattle.pgn_text.proofs.Runs.{run_length_is, run_on, take_run, drop_run}
 
 -- a place up to which all bytes pass, and at which one fails or the block ends, is the run's end

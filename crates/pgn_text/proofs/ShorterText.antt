@@ -1,14 +1,10 @@
 -- What stands where more bytes follow stands where fewer do: parts, games and the gaps between
 -- them.
-use Rattle.std.proofs.Common.{ℕ, Bool, List, [], ◌∷◌, ◌++◌, length, refl, sym, ap, ◌∙◌, arith}
-use Rattle.std.proofs.Common.{append_assoc, length-append, IsTrue}
-use Rattle.std.specs.List.{list_all}
-use Rattle.std.proofs.lemmas.Bool.{false≢true, not-true}
-use Rattle.pgn_text.specs.Public.Bytes.{stops}
-use Rattle.pgn_text.specs.Public.Parts.{Part, Line, EscapeLine, Word, Glyph, Marks, Standing}
-use Rattle.pgn_text.specs.Public.Parts.{standing_of, Stands, AllStand, spelled, spelled_part}
-use Rattle.pgn_text.specs.Public.Games.{is_gap_part, IsGame}
-use Rattle.pgn_text.specs.Public.Gaps.{IsGap, IsLongestGap}
+use Rattle.pgn_text.proofs.Common.{ℕ, Bool, List, [], ◌∷◌, ◌++◌, length, refl, sym, ap, ◌∙◌, arith}
+use Rattle.pgn_text.proofs.Common.{append_assoc, length-append, IsTrue, list_all, false≢true}
+use Rattle.pgn_text.proofs.Common.{not-true, stops, Part, Line, EscapeLine, Word, Glyph, Marks}
+use Rattle.pgn_text.proofs.Common.{Standing, standing_of, Stands, AllStand, spelled, spelled_part}
+use Rattle.pgn_text.proofs.Common.{is_gap_part, IsGame, IsGap, IsLongestGap}
 use Rattle.pgn_text.proofs.Gaps.{longest_gap}
 use Rattle.pgn_text.proofs.PartLemmas.{one_part}
 

@@ -1,20 +1,14 @@
 -- The parts of a game make a game text.
-use Rattle.std.proofs.Common.{◌≡◌, ℕ, ◌-◌, ◌<◌, ◌≤◌, Bool, cond, List, [], ◌∷◌, ◌++◌, length, take}
-use Rattle.std.proofs.Common.{drop, refl, sym, ap, ◌∙◌, arith, length-append}
 use Rattle.std.proofs.Math.Seq.{take-append_seam}
-use Rattle.std.proofs.lemmas.List.{length-take-le}
-use Rattle.std.proofs.lemmas.Cmp.{nat_list_cmp_total, nat_list_eq_equiv}
-use Rattle.std.proofs.lemmas.Map.Text.{is_eq-slice_cmp}
-use Rattle.std.specs.Prelude.{Some, if◌then◌else◌}
-use Rattle.std.specs.FinMap.{entries, entries_sorted, find, from_entries, get-entries}
-use Rattle.std.specs.FinMap.{get-from_entries}
-use Rattle.std.specs.Ordering.{is_eq}
-use Rattle.pgn_text.specs.Public.Parts.{Part, spelled, ByteOrderMark, White, Brace, Line}
-use Rattle.pgn_text.specs.Public.Parts.{EscapeLine, Tag, Word, Star, Dot, Glyph, Marks, Open, Close}
-use Rattle.pgn_text.specs.Public.Games.{IsGame, first_tag, items_of, result_of}
-use Rattle.pgn_text.specs.Public.GameTexts.{GameText, IsGameText, ShowsGame, tag_in}
-use Rattle.pgn_text.specs.Private.Steps.{start}
-use Rattle.pgn_text.specs.Private.Walk.{GameTo}
+use Rattle.std.proofs.lemmas.Cmp.{nat_list_eq_equiv}
+use Rattle.std.specs.FinMap.{entries, entries_sorted, from_entries, get-entries, get-from_entries}
+use Rattle.pgn_text.proofs.Common.{◌≡◌, ℕ, ◌-◌, ◌<◌, ◌≤◌, Bool, cond, List, [], ◌∷◌, ◌++◌, length}
+use Rattle.pgn_text.proofs.Common.{take, drop, refl, sym, ap, ◌∙◌, arith, length-append}
+use Rattle.pgn_text.proofs.Common.{length-take-le, nat_list_cmp_total, is_eq-slice_cmp, Some}
+use Rattle.pgn_text.proofs.Common.{if◌then◌else◌, find, is_eq, Part, spelled, ByteOrderMark, White}
+use Rattle.pgn_text.proofs.Common.{Brace, Line, EscapeLine, Tag, Word, Star, Dot, Glyph, Marks}
+use Rattle.pgn_text.proofs.Common.{Open, Close, IsGame, first_tag, items_of, result_of, GameText}
+use Rattle.pgn_text.proofs.Common.{IsGameText, ShowsGame, tag_in, start, GameTo}
 use Rattle.pgn_text.proofs.GameLeads.{game_leads}
 use Rattle.pgn_text.proofs.LastResult.{game_result}
 use Rattle.pgn_text.proofs.Pairing.{leads_paired}

@@ -1,11 +1,8 @@
 -- The parts of a game make one game text at most.
-use Rattle.std.proofs.Common.{◌≡◌, ℕ, List, sym, ◌∙◌}
-use Rattle.std.proofs.lemmas.Cmp.{nat_list_cmp_total}
 use Rattle.std.proofs.lemmas.Map.Lookups.{exact_bytes}
 use Rattle.std.specs.FinMap.Entries.{same_entries}
-use Rattle.std.specs.List.Sorted.{IsStrictlySortedBy}
-use Rattle.pgn_text.specs.Public.Parts.{Part}
-use Rattle.pgn_text.specs.Public.GameTexts.{GameText, IsGameText, ShowsGame, tag_in, tag_names}
+use Rattle.pgn_text.proofs.Common.{◌≡◌, ℕ, List, sym, ◌∙◌, nat_list_cmp_total, IsStrictlySortedBy}
+use Rattle.pgn_text.proofs.Common.{Part, GameText, IsGameText, ShowsGame, tag_in, tag_names}
 use Rattle.pgn_text.proofs.SortedTags.{name_cmp, sorted_tags, find-tag_in}
 
 -- tags whose names ascend are settled by what stands under each name

@@ -1,17 +1,14 @@
 -- Tags whose names ascend are the entries of a map in the order of their bytes.
-use Rattle.std.proofs.Common.{◌≡◌, ℕ, Bool, true, false, cond, List, [], ◌∷◌, refl, sym, ap, ◌∙◌}
-use Rattle.std.proofs.Common.{subst}
 use Rattle.std.specs.Prelude.{Some, T, ◌&&◌, if◌then◌else◌}
-use Rattle.std.specs.Cmp.Lexicographic.{slice_cmp}
-use Rattle.std.specs.FinMap.{find, is_sorted}
+use Rattle.std.specs.FinMap.{is_sorted}
 use Rattle.std.specs.FinMap.Entries.{below_all}
-use Rattle.std.specs.List.{AllByRecursion}
 use Rattle.std.specs.List.Sorted.{IsStrictlySortedBy}
-use Rattle.std.specs.Ordering.{nat_cmp, is_eq, is_lt}
+use Rattle.std.specs.Ordering.{is_lt}
 use Rattle.std.specs.declared.cmp.Ordering.{Ordering}
-use Rattle.std.specs.declared.cmp.Ordering.TheVariants.{Less, Equal, Greater}
-use Rattle.std.proofs.lemmas.Map.Text.{is_eq-slice_cmp}
-use Rattle.pgn_text.specs.Public.GameTexts.{tag_in, tag_names}
+use Rattle.std.specs.declared.cmp.Ordering.TheVariants.{Equal, Greater}
+use Rattle.pgn_text.proofs.Common.{◌≡◌, ℕ, Bool, true, false, cond, List, [], ◌∷◌, refl, ap}
+use Rattle.pgn_text.proofs.Common.{◌∙◌, slice_cmp, find, AllByRecursion, nat_cmp, is_eq}
+use Rattle.pgn_text.proofs.Common.{Less, is_eq-slice_cmp, tag_in, tag_names}
 
 -- the order of names
 abbrev pub name_cmp : List ℕ → List ℕ → Ordering
@@ -36,8 +33,7 @@ below_tags : (name : List ℕ) (tags : List (List ℕ × List ℕ))
     → T (below_all name_cmp name tags)
 below_tags name [] below = tt
 below_tags name (tag ∷ tags) below =
-    subst (λ o. T (is_lt o && below_all name_cmp name tags)) (sym below.0)
-    (below_tags name tags below.1)
+    rw below.0 (below_tags name tags below.1)
 
 below_names : (name : List ℕ) (tags : List (List ℕ × List ℕ)) → T (below_all name_cmp name tags)
     → AllByRecursion (λ other. name_cmp name other ≡ Less) (tag_names tags)

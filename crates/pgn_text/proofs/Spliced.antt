@@ -1,8 +1,7 @@
 -- What a read into the room after some bytes leaves.
-use Rattle.std.proofs.Common.{◌≡◌, ℕ, ◌+◌, ◌≤◌, List, ◌++◌, length, take, sym, ap, ◌∙◌}
-use Rattle.std.proofs.Common.{append_assoc}
-use Rattle.std.proofs.lemmas.List.{take-take, take-append-le}
-use Rattle.std.proofs.Math.Seq.{take-append-add}
+use Rattle.std.proofs.lemmas.List.{take-take}
+use Rattle.pgn_text.proofs.Common.{◌≡◌, ℕ, ◌+◌, ◌≤◌, List, ◌++◌, length, take, sym, ap, ◌∙◌}
+use Rattle.pgn_text.proofs.Common.{append_assoc, take-append-le, take-append-add}
 
 -- of the room after `old` the first n bytes were filled, and the rest was cut off
 pub spliced : (old new front filled post rest : List ℕ) (held size n : ℕ) → front ≡ old

@@ -1,26 +1,16 @@
 -- What the place where a block stops stands in.
-use Rattle.std.proofs.Common.{◌≡◌, ℕ, zero, suc, ◌+◌, ◌-◌, ◌≤◌, Bool, true, List, [], ◌∷◌, ◌++◌}
-use Rattle.std.proofs.Common.{IsTrue, take, drop, length, refl, sym, ap, subst, ◌∙◌, arith}
-use Rattle.std.proofs.Common.{append_assoc, append-nil, length-append, length-drop, drop-drop}
-use Rattle.std.specs.List.{list_all}
-use Rattle.std.proofs.lemmas.Bool.{and_from, eqb-true}
-use Rattle.std.proofs.lemmas.List.{length-take-le, take-append-drop}
-use Rattle.std.proofs.lemmas.List.Folds.{list_all-append}
-use Rattle.std.specs.Prelude.{◌&&◌}
-use Rattle.pgn_text.specs.Private.ErrorPosition.{Walks, WalkedTo, AfterGame, FrontWithin}
-use Rattle.pgn_text.specs.Public.Bytes.{begins, is_not_brace}
-use Rattle.pgn_text.specs.Public.Games.{is_meant}
-use Rattle.pgn_text.specs.Private.PartFronts.{IsPartFront, NoneFollows}
-use Rattle.pgn_text.specs.Public.Parts.{Part, Standing, standing_of, Stands, AllStand, spelled_part}
-use Rattle.pgn_text.specs.Public.Parts.{spelled}
-use Rattle.pgn_text.specs.Private.Reading.{Kept, is_kept_result}
-use Rattle.pgn_text.specs.Private.Steps.{State, start}
-use Rattle.pgn_text.specs.Public.StopPlaces.{PartsThen, StandsWithin, is_open_brace}
-use Rattle.pgn_text.specs.Private.Walk.{PartAt, KeptAt}
-use Rattle.pgn_text.specs.declared.error.error_position.Within.{Within}
-use Rattle.pgn_text.specs.declared.error.error_position.Within.TheVariants.{Comment, Tags, MainLine}
-use Rattle.pgn_text.specs.declared.error.error_position.Within.TheVariants.{TagName, Game}
-use Rattle.pgn_text.specs.declared.error.error_position.Within.TheVariants.{TagValue, Variation}
+use Rattle.pgn_text.proofs.Common.{◌≡◌, ℕ, zero, suc, ◌+◌, ◌-◌, ◌≤◌, Bool, true, List, [], ◌∷◌}
+use Rattle.pgn_text.proofs.Common.{◌++◌, IsTrue, take, drop, length, refl, sym, ap, subst, ◌∙◌}
+use Rattle.pgn_text.proofs.Common.{arith, append_assoc, append-nil, length-append, length-drop}
+use Rattle.pgn_text.proofs.Common.{drop-drop, list_all, and_from, eqb-true, length-take-le}
+use Rattle.pgn_text.proofs.Common.{take-append-drop, list_all-append, ◌&&◌, Walks, WalkedTo, begins}
+use Rattle.pgn_text.proofs.Common.{is_not_brace, is_meant, IsPartFront, NoneFollows, Part, Standing}
+use Rattle.pgn_text.proofs.Common.{standing_of, Stands, AllStand, spelled_part, spelled, Kept}
+use Rattle.pgn_text.proofs.Common.{is_kept_result, State, start, PartsThen, StandsWithin}
+use Rattle.pgn_text.proofs.Common.{is_open_brace, PartAt, KeptAt, Within, Comment, Tags, MainLine}
+use Rattle.pgn_text.proofs.Common.{TagName, TagValue, Variation}
+use Rattle.pgn_text.specs.Private.ErrorPosition.{AfterGame, FrontWithin}
+use Rattle.pgn_text.specs.declared.error.error_position.Within.TheVariants.{Game}
 use Rattle.pgn_text.proofs.Halfway.{stands_join, spelled-append}
 use Rattle.pgn_text.proofs.InPart.{all_take}
 use Rattle.pgn_text.proofs.Lines.{Shows, shows_start, shows_more, depth_is}
@@ -35,9 +25,8 @@ walks_show : (max_depth : ℕ) (front done : List Part) (s t : State) → Shows 
     → Walks max_depth s done t → Shows (front ++ done) t
 walks_show max_depth front [] s t h w = rw (append-nil front, ← w) h
 walks_show max_depth front (p ∷ done) s t h w =
-    subst (λ l. Shows l t) (append_assoc front (p ∷ []) done)
-    (walks_show max_depth (front ++ p
-    ∷ []) done w.1.0 t (shows_more max_depth front s w.1.0 p w.1.1 h) w.1.2)
+    rw (← (append_assoc front (p ∷ []) done)) (walks_show max_depth (front ++ p ∷ []) done w.1.0 t
+    (shows_more max_depth front s w.1.0 p w.1.1 h) w.1.2)
 
 module _ (max_depth : ℕ) (f : Bool) (block : List ℕ) (begin : ℕ) where
   -- the parts up to a place, and the bytes from there to another, which are the front of a part
@@ -62,8 +51,7 @@ module _ (max_depth : ℕ) (f : Bool) (block : List ℕ) (begin : ℕ) where
             (subst (IsPartFront max_depth (standing_of f (take at block)) state) e here)
             (back ∙ ap (λ l. l ++ drop place block) e
             ∙ append_assoc (spelled_part part) rest (drop place block))
-            (subst (λ l. Stands (standing_of f l) part (rest ++ drop place block)) (sym w.passed)
-            stands);
+            (rw w.passed stands);
         at_is = size max_depth f block begin at state w;
         place_is =
             omega (

@@ -1,14 +1,9 @@
 -- Worked rows of the place where a text stops agreeing with games, which the checker computes.
-use Rattle.std.proofs.Common.{ℕ, ◌+◌, true, false, List, [], ◌∷◌, ◌++◌, codes, length, refl, sym}
-use Rattle.std.proofs.Common.{ap, ◌∙◌}
-use Rattle.pgn_text.specs.Private.ErrorPosition.{Walks}
-use Rattle.pgn_text.specs.Public.Limits.{depth_limit}
-use Rattle.pgn_text.specs.Private.PartFronts.{Longest, IsPartFront, NoneFollows}
-use Rattle.pgn_text.specs.Public.Parts.{Part, White, Word, Dot, AllStand, standing_of, spelled}
-use Rattle.pgn_text.specs.Private.Reading.{part_front}
-use Rattle.pgn_text.specs.Private.Steps.{State, start}
-use Rattle.pgn_text.specs.Public.Stops.{IsLongestViablePrefix}
-use Rattle.pgn_text.specs.declared.error.error_position.InTag.TheVariants.{BeforeName}
+use Rattle.pgn_text.proofs.Common.{ℕ, ◌+◌, true, false, List, [], ◌∷◌, ◌++◌, codes, length, refl}
+use Rattle.pgn_text.proofs.Common.{sym, ap, ◌∙◌, Walks, depth_limit, Longest, IsPartFront}
+use Rattle.pgn_text.proofs.Common.{NoneFollows, Part, White, Word, Dot, AllStand, standing_of}
+use Rattle.pgn_text.proofs.Common.{spelled, part_front, State, start, IsLongestViablePrefix}
+use Rattle.pgn_text.proofs.Common.{BeforeName}
 use Rattle.pgn_text.proofs.EachStops.{wrong_part}
 use Rattle.pgn_text.proofs.GameFronts.{stops_in_part}
 use Rattle.pgn_text.proofs.InPart.{stray_word, open_tag, open_brace}

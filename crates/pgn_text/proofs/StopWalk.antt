@@ -2,17 +2,12 @@
 use Rattle.std.proofs.Common.{◌≡◌, ◌≢◌, ℕ, ◌+◌, ◌<◌, ◌≤◌, Bool, true, false, List, [], ◌∷◌, ◌++◌}
 use Rattle.std.proofs.Common.{Some, None, take, drop, length, sym, ap, subst, ◌∙◌, inl, inr, arith}
 use Rattle.std.proofs.Common.{append_assoc, append-nil, length-append}
-use Rattle.std.proofs.lemmas.Bool.{cases_Bool}
-use Rattle.std.proofs.lemmas.List.{length-take-le}
-use Rattle.pgn_text.specs.Public.Parts.{Stands, AllStand, standing_of, spelled_part, spelled}
-use Rattle.pgn_text.specs.Public.Games.{is_result}
-use Rattle.pgn_text.specs.Private.Steps.{State, start}
-use Rattle.pgn_text.specs.Private.Reading.{Kept, is_kept_result, step_kept}
-use Rattle.pgn_text.specs.Public.Stops.{IsLongestViablePrefix, IsErrorPosition}
-use Rattle.pgn_text.specs.Private.Walk.{PartAt, KeptAt}
+use Rattle.pgn_text.proofs.Common.{cases_Bool, length-take-le, Stands, AllStand, standing_of}
+use Rattle.pgn_text.proofs.Common.{spelled_part, spelled, is_result, State, start, Kept}
+use Rattle.pgn_text.proofs.Common.{is_kept_result, step_kept, IsLongestViablePrefix, PartAt, KeptAt}
+use Rattle.pgn_text.proofs.Common.{WalkedTo, Longest, Follows, IsPartFront, NoneFollows}
+use Rattle.pgn_text.specs.Public.Stops.{IsErrorPosition}
 use Rattle.pgn_text.proofs.EachStops.{wrong_part}
-use Rattle.pgn_text.specs.Private.ErrorPosition.{WalkedTo}
-use Rattle.pgn_text.specs.Private.PartFronts.{Longest, Follows, IsPartFront, NoneFollows}
 use Rattle.pgn_text.proofs.GameFronts.{stops_in_part, stops_at_game}
 use Rattle.pgn_text.proofs.Halfway.{Reads, reads_end, stands_join, spelled-append, before_more}
 use Rattle.pgn_text.proofs.KeptLemmas.{is_result-kept, step-kept}
@@ -98,13 +93,9 @@ module _ (max_depth : ℕ) (f : Bool) (block : List ℕ) (begin : ℕ) where
       subst (λ p. Longest (IsPartFront max_depth p state) (drop at block) n) here l in (
         length (spelled w.done) + n,
         omega (arith, size at state w),
-        subst (λ t.
-            IsLongestViablePrefix max_depth f (take begin block) t (length (spelled w.done) + n))
-            (sym w.parted)
-            (stops_in_part max_depth f (take begin block) state w.done (drop at block) n w.walks
-            w.stand
-            (subst (λ p. NoneFollows max_depth p state (drop at block)) here nothing) longest.within
-            (λ _. longest.here) (λ k _ low p. longest.most k low p)),
+        rw w.parted (stops_in_part max_depth f (take begin block) state w.done (drop at block) n
+            w.walks w.stand (subst (λ p. NoneFollows max_depth p state (drop at block)) here
+            nothing) longest.within (λ _. longest.here) (λ k _ low p. longest.most k low p)),
       )
 
   pub walk_game : (at end : ℕ) (state : State) (token : Kept)
@@ -129,12 +120,9 @@ module _ (max_depth : ℕ) (f : Bool) (block : List ℕ) (begin : ℕ) where
         ),
         stops_at_game max_depth f (take begin block) (drop begin block) (w.done ++ here.part
             ∷ []) (drop end block)
-            (subst (λ t.
-            Reads max_depth f (take begin block) t start (w.done ++ here.part
-            ∷ []) (drop end block)) (sym w.parted)
-            (walk_reads max_depth f (take begin block) start state w.done (drop at block) (here.part
-            ∷ []) (drop end block) w.walks w.stand
-            (reads_end max_depth f (take begin block
-            ++ spelled w.done) (drop at block) state here.part (drop end block) found.parted
-            (stands_there at end state w token here) (kind at end token here ∙ result) closed))),
+            (rw w.parted (walk_reads max_depth f (take begin block) start state w.done (drop at
+            block) (here.part ∷ []) (drop end block) w.walks w.stand (reads_end max_depth f (take
+            begin block ++ spelled w.done) (drop at block) state here.part (drop end block)
+            found.parted (stands_there at end state w token here) (kind at end token here ∙ result)
+            closed))),
       )

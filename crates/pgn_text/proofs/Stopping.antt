@@ -1,22 +1,15 @@
 -- Texts that agree with some game so far: what can be said of them where a reader has come some
 -- way.
-use Rattle.std.proofs.Common.{◌≡◌, ◌≢◌, ℕ, zero, suc, ◌-◌, Bool, true, false, List, [], ◌∷◌, ◌++◌}
-use Rattle.std.proofs.Common.{Some, IsTrue, refl, sym, ap, subst, ◌∙◌, inl, inr, arith}
-use Rattle.std.proofs.Common.{append_assoc, append-nil}
-use Rattle.std.specs.List.{list_all}
-use Rattle.std.proofs.lemmas.Bool.{lt-ltb, MatchBool-at_true, MatchBool-at_false, and_from}
-use Rattle.std.proofs.lemmas.Bool.{cases_Bool, not_from_false}
-use Rattle.std.proofs.lemmas.List.Folds.{list_all-append}
-use Rattle.pgn_text.specs.Public.Bytes.{is_byte, is_digit, is_word_byte, is_mark, is_not_line_feed}
-use Rattle.pgn_text.specs.Public.Bytes.{stops}
-use Rattle.pgn_text.specs.Public.Parts.{Part, White, Line, EscapeLine}
-use Rattle.pgn_text.specs.Public.Parts.{Word, Star, Glyph, Marks, Close, Standing}
-use Rattle.pgn_text.specs.Public.Parts.{standing_of, Stands, AllStand, spelled, spelled_part}
-use Rattle.pgn_text.specs.Public.Games.{is_result}
-use Rattle.pgn_text.specs.Private.Steps.{State, step, Leads}
-use Rattle.pgn_text.specs.Public.Stops.{IsLongestViablePrefix}
-use Rattle.pgn_text.specs.Private.ErrorPosition.{Walks}
-use Rattle.pgn_text.specs.Private.PartFronts.{Follows, IsPartFront, NoneFollows}
+use Rattle.std.proofs.Common.{Some}
+use Rattle.pgn_text.proofs.Common.{◌≡◌, ◌≢◌, ℕ, zero, suc, ◌-◌, Bool, true, false, List, [], ◌∷◌}
+use Rattle.pgn_text.proofs.Common.{◌++◌, IsTrue, refl, sym, ap, subst, ◌∙◌, inl, inr, arith}
+use Rattle.pgn_text.proofs.Common.{append_assoc, append-nil, list_all, lt-ltb, MatchBool-at_true}
+use Rattle.pgn_text.proofs.Common.{MatchBool-at_false, and_from, cases_Bool, not_from_false}
+use Rattle.pgn_text.proofs.Common.{list_all-append, is_byte, is_digit, is_word_byte, is_mark}
+use Rattle.pgn_text.proofs.Common.{is_not_line_feed, stops, Part, White, Line, EscapeLine, Word}
+use Rattle.pgn_text.proofs.Common.{Star, Glyph, Marks, Close, Standing, standing_of, Stands}
+use Rattle.pgn_text.proofs.Common.{AllStand, spelled, spelled_part, is_result, State, step, Leads}
+use Rattle.pgn_text.proofs.Common.{IsLongestViablePrefix, Walks, Follows, IsPartFront, NoneFollows}
 use Rattle.pgn_text.proofs.Halfway.{Reads, reads_more, reads_end, reads_first}
 use Rattle.pgn_text.proofs.ByteFronts.{InBytes, part_bytes}
 use Rattle.pgn_text.proofs.Lines.{cut_append}
@@ -185,11 +178,9 @@ module _ (max_depth : ℕ) (f : Bool) where
     record {
       more = k.more;
       parts = done ++ k.parts;
-      reads = subst (λ l. Reads max_depth f before l s (done ++ k.parts) [])
-          (sym (append_assoc (spelled done) (c ∷ x) k.more))
-          (walk_reads before s t done ((c ∷ x) ++ k.more) k.parts [] w
-          (all_instead f before done (c ∷ rest) ((c ∷ x)
-          ++ k.more) (instead_same c rest (x ++ k.more)) h) k.reads);
+      reads = rw (append_assoc (spelled done) (c ∷ x) k.more) (walk_reads before s t done ((c ∷ x)
+          ++ k.more) k.parts [] w (all_instead f before done (c ∷ rest) ((c ∷ x) ++ k.more)
+          (instead_same c rest (x ++ k.more)) h) k.reads);
     },
     bytes,
   )
@@ -201,8 +192,7 @@ module _ (max_depth : ℕ) (f : Bool) where
       let found = read_walks before s t done ((c ∷ x) ++ k.more) k.parts [] w
       (all_instead f before done (c ∷ rest) ((c ∷ x)
       ++ k.more) (instead_same c rest (x ++ k.more)) h)
-      (subst (λ l. Reads max_depth f before l s k.parts [])
-      (append_assoc (spelled done) (c ∷ x) k.more) k.reads) in
+      (rw (← (append_assoc (spelled done) (c ∷ x) k.more)) k.reads) in
       record { more = k.more; parts = found.0; reads = found.1 }
 
   -- ---- within a part

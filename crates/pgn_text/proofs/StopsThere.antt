@@ -1,17 +1,13 @@
 -- Bytes that are no game stop agreeing with games by themselves where they do in their block.
-use Rattle.std.proofs.Common.{◌≡◌, ℕ, ◌+◌, ◌==◌, Bool, true, false, List, [], ◌∷◌, ◌++◌, IsTrue}
-use Rattle.std.proofs.Common.{length, take, drop, refl, sym, ap, subst, ◌∙◌, arith, append_assoc}
-use Rattle.std.proofs.Common.{append-nil, take_at, drop_at}
-use Rattle.std.specs.List.{list_all}
-use Rattle.std.proofs.lemmas.Bool.{false≢true, and_parts, ne_eqb}
-use Rattle.std.proofs.lemmas.List.{take-append-drop}
-use Rattle.pgn_text.specs.Public.Bytes.{is_byte, is_not_line_feed, run_of, after_run}
-use Rattle.pgn_text.specs.Public.Parts.{Part, ByteOrderMark, White, Brace, Line, EscapeLine}
-use Rattle.pgn_text.specs.Public.Parts.{standing_of, Stands, spelled, spelled_part}
-use Rattle.pgn_text.specs.Public.Games.{is_gap_part, IsGame}
-use Rattle.pgn_text.specs.Public.Gaps.{IsGap, IsLongestGap}
-use Rattle.pgn_text.specs.Public.Pieces.{Piece, Game, Unreadable, ArePieces}
-use Rattle.pgn_text.specs.Public.Stops.{IsGameFront, IsLongestViablePrefix}
+use Rattle.std.proofs.Common.{◌==◌}
+use Rattle.pgn_text.proofs.Common.{◌≡◌, ℕ, ◌+◌, Bool, true, false, List, [], ◌∷◌, ◌++◌, IsTrue}
+use Rattle.pgn_text.proofs.Common.{length, take, drop, refl, sym, ap, subst, ◌∙◌, arith}
+use Rattle.pgn_text.proofs.Common.{append_assoc, append-nil, take_at, drop_at, list_all, false≢true}
+use Rattle.pgn_text.proofs.Common.{and_parts, ne_eqb, take-append-drop, is_byte, is_not_line_feed}
+use Rattle.pgn_text.proofs.Common.{run_of, after_run, Part, ByteOrderMark, White, Brace, Line}
+use Rattle.pgn_text.proofs.Common.{EscapeLine, standing_of, Stands, spelled, spelled_part}
+use Rattle.pgn_text.proofs.Common.{is_gap_part, IsGame, IsGap, IsLongestGap, Piece, Game}
+use Rattle.pgn_text.proofs.Common.{Unreadable, ArePieces, IsGameFront, IsLongestViablePrefix}
 use Rattle.pgn_text.proofs.ByteFronts.{bytes_after}
 use Rattle.pgn_text.proofs.Fronts.{run-append-after, list_all-run, stops-after_run}
 use Rattle.pgn_text.proofs.PartLemmas.{part_has_byte}
@@ -164,8 +160,7 @@ left_alone max_depth offset (b ∷ bs) bytes n begun l h =
     let later : ((offset + length (b ∷ bs)) == 0) ≡ false =
     ne_eqb (offset + length (b ∷ bs)) 0 (λ e. omega (arith, e)) in
     let clear = begun_clear (offset == 0) (b ∷ bs) begun (λ e. cc) in
-    subst (λ (f : Bool). IsLongestViablePrefix max_depth f [] bytes n) (sym later)
-    (stops_at_mark max_depth (offset == 0) (b ∷ bs) clear bytes n l h)
+    rw later (stops_at_mark max_depth (offset == 0) (b ∷ bs) clear bytes n l h)
 
 stops_after : (max_depth offset : ℕ) (before : List ℕ) (earlier : List Piece) (at : ℕ)
     (bytes : List ℕ) (later : List Piece) (text : List ℕ) (n : ℕ)
@@ -183,9 +178,8 @@ stops_after max_depth offset before [] at bytes later text n begun h stops =
     let rest : drop at (before ++ text) ≡ bytes =
     ap (drop at) parted ∙ drop_at there bytes at (sym h.3) in
     let begun_there = begun_more (offset == 0) before h.0 bytes begun h.2.is_gap.stand in
-    subst (λ (m : ℕ). IsLongestViablePrefix max_depth ((offset + m) == 0) [] bytes n) (sym h.3)
-    (left_alone max_depth offset there bytes n begun_there
-    (gap_spent (offset == 0) before h.0 bytes h.2) (rw (front, rest) at stops))
+    rw h.3 (left_alone max_depth offset there bytes n begun_there (gap_spent (offset == 0) before
+    h.0 bytes h.2) (rw (front, rest) at stops))
 stops_after max_depth offset before (Game place parts
     ∷ earlier) at bytes later text n begun h stops =
     let after = (before ++ spelled h.0) ++ spelled parts in

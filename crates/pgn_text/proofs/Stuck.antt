@@ -2,25 +2,19 @@
 use Rattle.std.proofs.Common.{◌≡◌, ◌≢◌, ℕ, zero, suc, Bool, true, false, List, [], ◌∷◌, ◌++◌, Some}
 use Rattle.std.proofs.Common.{IsTrue, codes, take, drop, length, refl, sym, ap, subst, ◌∙◌, ◌⊎◌}
 use Rattle.std.proofs.Common.{inl, inr, arith, append_assoc}
-use Rattle.std.specs.Prelude.{max, ◌==◌, ◌||◌, bytes_eq}
-use Rattle.std.specs.List.{list_all}
-use Rattle.std.proofs.lemmas.Bool.{and_parts, and_from, cases_Bool, or_left, or_right, eqb-true}
-use Rattle.std.proofs.lemmas.Bool.{eq-eqb, ne_eqb, cases_eq, false≢true, not_from_false}
-use Rattle.std.proofs.lemmas.List.Folds.{list_all-append}
-use Rattle.pgn_text.specs.Public.Bytes.{is_white, is_digit, is_letter, is_word_byte, is_mark}
-use Rattle.pgn_text.specs.Public.Bytes.{is_check_sign, is_not_brace, is_not_line_feed, begins}
-use Rattle.pgn_text.specs.Public.Bytes.{run_of, after_run}
-use Rattle.pgn_text.specs.Public.Parts.{Part, ByteOrderMark, White, Brace, Line, EscapeLine, Tag}
-use Rattle.pgn_text.specs.Public.Parts.{Word, Star, Dot, Glyph, Marks, Open, Close, Standing}
-use Rattle.pgn_text.specs.Public.Parts.{Stands, spelled_part}
-use Rattle.pgn_text.specs.Public.Games.{is_result, is_move_text, is_zero_castling, is_number}
-use Rattle.pgn_text.specs.Public.Games.{is_tag}
-use Rattle.pgn_text.specs.Private.Steps.{State, in_movetext, step}
+use Rattle.std.specs.Prelude.{max, ◌||◌}
+use Rattle.pgn_text.proofs.Common.{◌==◌, bytes_eq, list_all, and_parts, and_from, cases_Bool}
+use Rattle.pgn_text.proofs.Common.{or_left, or_right, eqb-true, eq-eqb, ne_eqb, cases_eq}
+use Rattle.pgn_text.proofs.Common.{false≢true, not_from_false, list_all-append, is_white, is_digit}
+use Rattle.pgn_text.proofs.Common.{is_letter, is_word_byte, is_mark, is_check_sign, is_not_brace}
+use Rattle.pgn_text.proofs.Common.{is_not_line_feed, begins, run_of, after_run, Part, ByteOrderMark}
+use Rattle.pgn_text.proofs.Common.{White, Brace, Line, EscapeLine, Tag, Word, Star, Dot, Glyph}
+use Rattle.pgn_text.proofs.Common.{Marks, Open, Close, Standing, Stands, spelled_part, is_result}
+use Rattle.pgn_text.proofs.Common.{is_move_text, is_zero_castling, is_number, is_tag, State}
+use Rattle.pgn_text.proofs.Common.{in_movetext, step, Longest, Follows, IsPartFront, NoneFollows}
+use Rattle.pgn_text.proofs.Common.{no_byte, IsFrontOf, front_length, IsMoveFront, IsResultFront}
+use Rattle.pgn_text.proofs.Common.{IsWordFront, is_glyph_front, BeforeName}
 use Rattle.pgn_text.proofs.Fronts.{run-append-after, list_all-run, stops-after_run}
-use Rattle.pgn_text.specs.Private.PartFronts.{Longest, Follows, IsPartFront, NoneFollows, no_byte}
-use Rattle.pgn_text.specs.Private.PartFronts.{IsFrontOf, front_length, IsMoveFront, IsResultFront}
-use Rattle.pgn_text.specs.Private.PartFronts.{IsWordFront, is_glyph_front}
-use Rattle.pgn_text.specs.declared.error.error_position.InTag.TheVariants.{BeforeName}
 use Rattle.pgn_text.proofs.Furthest.{longest_same, longest_take, longest_max, as_far, as_far_goes}
 use Rattle.pgn_text.proofs.Furthest.{as_far_front, greedy}
 use Rattle.pgn_text.proofs.InTag.{tag_far, tag_longest}
@@ -130,8 +124,7 @@ module _ (max_depth : ℕ) where
         | inr e ↦ and_from (is_not_brace b) (list_all is_not_brace tail)
             (not_from_false (b == 125) e)
             (go tail (front ++ b ∷ []) (all_push front b all (not_from_false (b == 125) e))
-            (subst (λ l. NoneFollows max_depth place s (123 ∷ l))
-            (sym (append_assoc front (b ∷ []) tail)) nothing))
+            (rw (append_assoc front (b ∷ []) tail) nothing))
       ]
 
   -- a tag's bracket begins nothing but a tag
@@ -350,9 +343,10 @@ module _ (max_depth : ℕ) where
       → (c ≡ 239) ⊎ (c ≢ 239) → (place.file_start ≡ true) ⊎ (place.file_start ≡ false)
       → InPart place s (c ∷ rest)
   at_other place s c rest nothing brace bracket dollar word (inl e) (inl starts) =
-      subst (λ d. InPart place s (d ∷ rest)) (sym e) (
+      rw e (
         front_length no_byte (239 ∷ 187 ∷ 191 ∷ []) (239 ∷ rest),
-        stuck_mark place s rest _ starts (as_far no_byte (239 ∷ 187 ∷ 191 ∷ []) (239 ∷ rest)),
+        stuck_mark place s rest _
+            starts (as_far no_byte (239 ∷ 187 ∷ 191 ∷ []) (239 ∷ rest)),
       )
   at_other place s c rest nothing brace bracket dollar word (inl e) (inr starts) =
       (0, stuck_other place s c rest nothing brace bracket dollar (λ _. starts) word)
@@ -363,17 +357,18 @@ module _ (max_depth : ℕ) where
       → InPart place s text
   in_part place s [] nothing = (0, stuck_end place s)
   in_part place s (c ∷ rest) nothing = elim (cases_eq c 123) [
-    | inl e ↦ subst (λ d. InPart place s (d ∷ rest)) (sym e) (
+    | inl e ↦ rw e (
       length (123 ∷ rest),
-      stuck_brace place s rest
-          (subst (λ d. NoneFollows max_depth place s (d ∷ rest)) e nothing),
+      stuck_brace place s rest (subst (λ d. NoneFollows
+          max_depth place s (d ∷ rest)) e nothing),
     )
     | inr brace ↦ elim (cases_eq c 91) [
       | inl e ↦ subst (λ d. InPart place s (d ∷ rest)) (sym e) (at_tag place s rest)
       | inr bracket ↦ elim (cases_eq c 36) [
-        | inl e ↦ subst (λ d. InPart place s (d ∷ rest)) (sym e) (
+        | inl e ↦ rw e (
           suc (greedy is_glyph_front [] rest),
-          stray_glyph max_depth place s rest _ (glyph_digits max_depth rest),
+          stray_glyph max_depth place s rest _
+              (glyph_digits max_depth rest),
         )
         | inr dollar ↦ elim (cases_Bool (is_word_byte c)) [
           | inl word ↦ at_word place s c rest word nothing

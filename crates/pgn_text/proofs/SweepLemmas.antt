@@ -1,10 +1,9 @@
 -- What the words of a sweep show.
-use Rattle.std.proofs.Common.{◌≡◌, ℕ, zero, suc, ◌+◌, ◌/◌, ◌^◌, ◌<◌, ◌≤◌, Bool, true, false, not}
-use Rattle.std.proofs.Common.{◌&&◌, ◌||◌, ◌==◌, List, length, get_or, refl, sym, ap, ap₂, ◌∙◌}
-use Rattle.std.proofs.Common.{arith, inl, inr}
-use Rattle.std.proofs.lemmas.Bool.{cases_lt}
+use Rattle.std.proofs.Common.{◌&&◌, ◌==◌}
 use Rattle.std.proofs.lemmas.List.{get_or_past}
-use Rattle.pgn_text.specs.Public.Bytes.{is_white, is_digit, is_letter, is_word_byte}
+use Rattle.pgn_text.proofs.Common.{◌≡◌, ℕ, zero, suc, ◌+◌, ◌/◌, ◌^◌, ◌<◌, ◌≤◌, Bool, true, false}
+use Rattle.pgn_text.proofs.Common.{not, ◌||◌, List, length, get_or, refl, sym, ap, ap₂, ◌∙◌, arith}
+use Rattle.pgn_text.proofs.Common.{inl, inr, cases_lt, is_white, is_digit, is_letter, is_word_byte}
 use Rattle.pgn_text.specs.Private.Masks.{has_bit, is_word_sign, AreBegins, word_begins}
 use Rattle.pgn_text.proofs.Bits.{bit-shr, bit-above, clash}
 

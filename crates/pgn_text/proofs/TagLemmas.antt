@@ -1,22 +1,15 @@
 -- The first of the tags with a name.
-use Rattle.std.proofs.Common.{◌≡◌, ℕ, Bool, true, false, cond, List, [], ◌∷◌, ◌++◌, refl, sym, ap}
-use Rattle.std.proofs.Common.{◌∙◌, subst, Bor}
 use Rattle.std.specs.Prelude.{Option, Some, None, option_map, map, is_some, bytes_eq, if◌then◌else◌}
-use Rattle.std.specs.Option.{option_or}
 use Rattle.std.specs.BTreeMap.{BTreeMap, get_by, is_at, UpdatesBy}
 use Rattle.std.specs.Map.{lookup}
-use Rattle.std.specs.Ordering.{nat_cmp, is_eq}
-use Rattle.std.specs.Cmp.Lexicographic.{slice_cmp}
 use Rattle.std.proofs.lemmas.Map.Text.{btree_map_updates_str, is_eq-slice_cmp}
 use Rattle.std.proofs.lemmas.Slice.Eq.{bytes_eq-Decides}
-use Rattle.pgn_text.specs.Public.Bytes.{is_letter, begins}
-use Rattle.pgn_text.specs.Public.Parts.{Part, Tag, Word}
-use Rattle.pgn_text.specs.Public.Games.{first_tag, is_move_text, is_number, is_result_word}
-use Rattle.pgn_text.specs.Private.Reading.{kept, kept_word, named_kept, KeptMove, KeptNumber}
-use Rattle.pgn_text.specs.Private.Reading.{KeptResult, KeptStray}
-use Rattle.pgn_text.specs.Public.Elements.{tag_of, tags_of}
+use Rattle.pgn_text.proofs.Common.{◌≡◌, ℕ, Bool, true, false, cond, List, [], ◌∷◌, ◌++◌, refl, sym}
+use Rattle.pgn_text.proofs.Common.{ap, ◌∙◌, subst, Bor, option_or, nat_cmp, is_eq, slice_cmp}
+use Rattle.pgn_text.proofs.Common.{is_letter, begins, Part, Tag, Word, first_tag, is_move_text}
+use Rattle.pgn_text.proofs.Common.{is_number, is_result_word, kept, kept_word, named_kept, KeptMove}
+use Rattle.pgn_text.proofs.Common.{KeptNumber, KeptResult, KeptStray, tag_of, tags_of, tag_in}
 use Rattle.pgn_text.specs.Private.TagOrder.{tag_at}
-use Rattle.pgn_text.specs.Public.GameTexts.{tag_in}
 
 -- equal bytes are one text
 pub bytes_eq-same : (xs ys : List ℕ) → bytes_eq xs ys ≡ true → xs ≡ ys
@@ -77,8 +70,7 @@ kept_back m n back name wanted contents first overwritten restored had =
         ≡ option_or (tag_at m wanted) (if v then Some contents.now else None)
     go true is =
         let here : tag_at m wanted ≡ Some first.now =
-        subst (λ w. tag_at m w ≡ Some first.now) (bytes_eq-same name wanted is)
-        (ap (option_map (λ c. c.now)) had) in
+        rw (← (bytes_eq-same name wanted is)) (ap (option_map (λ c. c.now)) had) in
         ap (λ o. option_or o (Some contents.now)) (sym here)
     go false is =
         ap (option_map (λ c. c.now))

@@ -1,14 +1,9 @@
 -- A tag read at places of a block.
-use Rattle.std.proofs.Common.{◌≡◌, ◌≢◌, ℕ, ◌+◌, ◌-◌, ◌≤◌, Bool, false, List, length, take, drop}
-use Rattle.std.proofs.Common.{refl, sym, ap, ◌∙◌, arith, length-drop}
-use Rattle.std.specs.Prelude.{Some, option_map}
-use Rattle.std.proofs.lemmas.Bool.{ne_eqb}
-use Rattle.std.proofs.lemmas.List.{length-take-le}
-use Rattle.pgn_text.specs.Public.Bytes.{is_white, is_name_byte, is_empty, run_of}
-use Rattle.pgn_text.specs.Public.Parts.{Tag}
-use Rattle.pgn_text.specs.Private.Reading.{KeptTag, kept_found, rest_after, tag_front, tag_name}
-use Rattle.pgn_text.specs.Private.Reading.{tag_string}
-use Rattle.pgn_text.specs.Private.Tokens.{RunTo, ContentsTo}
+use Rattle.pgn_text.proofs.Common.{◌≡◌, ◌≢◌, ℕ, ◌+◌, ◌-◌, ◌≤◌, Bool, false, List, length, take}
+use Rattle.pgn_text.proofs.Common.{drop, refl, sym, ap, ◌∙◌, arith, length-drop, Some, option_map}
+use Rattle.pgn_text.proofs.Common.{ne_eqb, length-take-le, is_white, is_name_byte, is_empty, run_of}
+use Rattle.pgn_text.proofs.Common.{Tag, KeptTag, kept_found, rest_after, tag_front, tag_name}
+use Rattle.pgn_text.proofs.Common.{tag_string, RunTo, ContentsTo}
 use Rattle.pgn_text.proofs.Runs.{is_empty_length}
 
 -- how many bytes a run has

@@ -1,15 +1,11 @@
 -- The contents of a tag that stands in a text are the contents of a string, and its name is made of
 -- the bytes of names.
-use Rattle.std.proofs.Common.{◌≡◌, ℕ, Bool, true, false, List, [], ◌∷◌, ◌++◌, refl, subst}
 use Rattle.std.proofs.lemmas.Option.{same_Some}
 use Rattle.std.specs.Prelude.{Some, bytes_eq, if◌then◌else◌, IsTrue}
-use Rattle.std.specs.List.{list_all}
-use Rattle.pgn_text.specs.Public.Bytes.{is_name_byte}
-use Rattle.pgn_text.specs.Public.Parts.{Part, ByteOrderMark, White, Brace, Line, EscapeLine, Tag}
-use Rattle.pgn_text.specs.Public.Parts.{Word, Star, Dot, Glyph, Marks, Open, Close, AllStand}
-use Rattle.pgn_text.specs.Public.Parts.{spelled_part}
-use Rattle.pgn_text.specs.Public.Games.{first_tag}
-use Rattle.pgn_text.specs.Public.Strings.{IsContents}
+use Rattle.pgn_text.proofs.Common.{◌≡◌, ℕ, Bool, true, false, List, [], ◌∷◌, ◌++◌, refl, subst}
+use Rattle.pgn_text.proofs.Common.{list_all, is_name_byte, Part, ByteOrderMark, White, Brace, Line}
+use Rattle.pgn_text.proofs.Common.{EscapeLine, Tag, Word, Star, Dot, Glyph, Marks, Open, Close}
+use Rattle.pgn_text.proofs.Common.{AllStand, spelled_part, first_tag, IsContents}
 use Rattle.pgn_text.proofs.TagLemmas.{bytes_eq-same}
 
 -- the first tag of a name, among parts that stand in a text
@@ -39,8 +35,7 @@ first_string wanted contents f before (Tag first name second own third ∷ back)
         → IsContents contents × IsTrue (list_all is_name_byte wanted)
     by true same later here = (
       subst IsContents (same_Some own contents here) stand.0.4,
-      subst (λ bytes. IsTrue (list_all is_name_byte bytes)) (bytes_eq-same name wanted same)
-          stand.0.2,
+      rw (← (bytes_eq-same name wanted same)) stand.0.2,
     )
     by false same later here = later here
 first_string wanted contents f before (Word text ∷ back) after stand is =

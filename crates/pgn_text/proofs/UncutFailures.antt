@@ -1,11 +1,8 @@
 -- A failed read and the largest offset end no block that is held whole.
-use Rattle.std.proofs.Common.{◌≢◌, ℕ, List, [], ◌++◌, sym, subst, append_assoc, append-nil, inl}
-use Rattle.std.proofs.Common.{inr, IsTrue}
-use Rattle.std.proofs.lemmas.Bool.{and_parts, false≢true}
-use Rattle.pgn_text.specs.Public.Bytes.{ends_in_line_feed}
-use Rattle.pgn_text.specs.Public.Blocks.{is_event_line, IsFirstBlock}
+use Rattle.pgn_text.proofs.Common.{◌≢◌, ℕ, List, [], ◌++◌, subst, append_assoc, append-nil}
+use Rattle.pgn_text.proofs.Common.{inl, inr, IsTrue, and_parts, false≢true, ends_in_line_feed}
+use Rattle.pgn_text.proofs.Common.{is_event_line, IsFirstBlock, IsCutShort, IsPastEnd, FailsAfter}
 use Rattle.pgn_text.specs.Public.AnswerLaws.{FailsBeforeNoEventLine}
-use Rattle.pgn_text.specs.Public.Windows.{IsCutShort, IsPastEnd, FailsAfter}
 use Rattle.pgn_text.proofs.EventLines.{line_has_byte}
 use Rattle.pgn_text.proofs.FrontText.{event_front}
 use Rattle.pgn_text.proofs.LineFronts.{begins_line}
@@ -15,8 +12,7 @@ use Rattle.pgn_text.proofs.OneList.{no_bytes}
 line_follows_byte : (before after : List ℕ) → IsTrue (is_event_line before after) → before ≢ []
 line_follows_byte before after line none =
     false≢true
-    (subst (λ l. IsTrue (ends_in_line_feed l)) none
-    (and_parts (ends_in_line_feed before) (begins_line after) line).0)
+    (rw none at (and_parts (ends_in_line_feed before) (begins_line after) line).0)
 
 -- bytes with an event line among them are no single block
 line_cuts : (block ahead more : List ℕ) → IsTrue (is_event_line block ahead)
@@ -25,8 +21,7 @@ line_cuts block ahead more line first =
     first.whole block (ahead ++ more) (append_assoc block ahead more)
     (line_follows_byte block ahead line)
     (λ none. line_has_byte block ahead line (no_bytes ahead more none))
-    (subst (λ l. IsTrue (is_event_line block l)) (sym (append-nil (ahead ++ more)))
-    (event_front block ahead more line))
+    (rw (append-nil (ahead ++ more)) (event_front block ahead more line))
 
 pub fails_before_no_event_line : FailsBeforeNoEventLine
 fails_before_no_event_line place block ahead read error line (inl e) h =

@@ -1,18 +1,14 @@
 -- The contents of a string and their value.
-use Rattle.std.proofs.Common.{◌≡◌, ℕ, ◌-◌, ◌≤◌, Bool, true, false, List, [], ◌∷◌, ◌++◌, length}
-use Rattle.std.proofs.Common.{take, drop, refl, sym, ap, ◌∙◌, subst, append-nil, arith, length-drop}
-use Rattle.std.proofs.lemmas.Bool.Decides.{nat_tests}
-use Rattle.std.specs.Prelude.{Option, Some, None, option_map, if◌then◌else◌, IsTrue, ◌==◌, ◌&&◌}
-use Rattle.std.specs.Prelude.{◌||◌, not, flat_map, ◌↔◌}
-use Rattle.std.specs.List.{list_all}
-use Rattle.std.proofs.lemmas.Bool.{and_parts, not-true, or_parts, eqb-true}
-use Rattle.pgn_text.specs.Public.Bytes.{is_plain}
-use Rattle.pgn_text.specs.Public.Strings.{Sign, Single, Escaped, spelled_sign, is_sign}
-use Rattle.pgn_text.specs.Public.Strings.{value_of_sign, IsContents, HasValue}
+use Rattle.std.specs.Prelude.{None, IsTrue, ◌||◌, not, ◌↔◌}
+use Rattle.pgn_text.proofs.Common.{◌≡◌, ℕ, ◌-◌, ◌≤◌, Bool, true, false, List, [], ◌∷◌, ◌++◌, length}
+use Rattle.pgn_text.proofs.Common.{take, drop, refl, sym, ap, ◌∙◌, subst, append-nil, arith}
+use Rattle.pgn_text.proofs.Common.{length-drop, nat_tests, Option, Some, option_map, if◌then◌else◌}
+use Rattle.pgn_text.proofs.Common.{◌==◌, ◌&&◌, flat_map, list_all, and_parts, not-true, or_parts}
+use Rattle.pgn_text.proofs.Common.{eqb-true, is_plain, Sign, Single, Escaped, spelled_sign, is_sign}
+use Rattle.pgn_text.proofs.Common.{value_of_sign, IsContents, ContentsTo, nil_from_length}
+use Rattle.pgn_text.specs.Public.Strings.{HasValue}
 use Rattle.pgn_text.specs.Shared.StringTexts.{with_byte, contents_front, value_of}
-use Rattle.pgn_text.specs.Private.Tokens.{ContentsTo}
 use Rattle.pgn_text.proofs.FoundLemmas.{IsRead, contents-sound}
-use Rattle.std.proofs.lemmas.List.{nil_from_length}
 
 -- signs are read to the end of the text
 signs-whole : (signs : List Sign) → IsTrue (list_all is_sign signs)

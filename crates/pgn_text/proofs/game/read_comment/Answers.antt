@@ -1,6 +1,4 @@
-use Rattle.std.proofs.Common.{refl}
-use Rattle.pgn_text.specs.Public.Limits.{depth_limit}
-use Rattle.pgn_text.specs.Private.Tokens.{state_of}
+use Rattle.pgn_text.proofs.Common.{refl, depth_limit, state_of}
 use Rattle.pgn_text.proofs.ReadingLemmas.{readings_of}
 use Rattle.pgn_text.proofs.game.read_comment.Goals as goal
 

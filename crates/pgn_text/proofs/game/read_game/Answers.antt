@@ -1,13 +1,8 @@
-use Rattle.std.proofs.Common.{◌≡◌, ℕ, List, map, take, drop, sym, ap, subst, ◌∙◌, refl}
-use Rattle.std.specs.List.{list_all}
-use Rattle.std.specs.Prelude.{Some, IsTrue}
-use Rattle.pgn_text.specs.Public.Bytes.{is_name_byte}
+use Rattle.std.specs.Prelude.{IsTrue}
+use Rattle.pgn_text.proofs.Common.{◌≡◌, ℕ, List, map, take, drop, sym, ap, subst, ◌∙◌, refl}
+use Rattle.pgn_text.proofs.Common.{list_all, Some, is_name_byte, item_of, tags_of, IsPaired}
+use Rattle.pgn_text.proofs.Common.{IsResult, tag_in, IsContents, GameRead, depth_limit}
 use Rattle.pgn_text.specs.Private.GameBuilders.{IsBuilderOf}
-use Rattle.pgn_text.specs.Public.Elements.{item_of, tags_of}
-use Rattle.pgn_text.specs.Public.GameTexts.{IsPaired, IsResult, tag_in}
-use Rattle.pgn_text.specs.Public.Strings.{IsContents}
-use Rattle.pgn_text.specs.Private.Walk.{GameRead}
-use Rattle.pgn_text.specs.Public.Limits.{depth_limit}
 use Rattle.pgn_text.proofs.LastResult.{game_result}
 use Rattle.pgn_text.proofs.Pairing.{tags_ascend}
 use Rattle.pgn_text.proofs.ShownGame.{bytes_of_game}

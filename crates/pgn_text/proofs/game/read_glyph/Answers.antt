@@ -1,7 +1,5 @@
-use Rattle.std.proofs.Common.{inl, refl}
-use Rattle.pgn_text.specs.Public.Limits.{depth_limit}
-use Rattle.pgn_text.specs.Private.Reading.{KeptGlyph, glyph_front}
-use Rattle.pgn_text.specs.Private.Tokens.{state_of}
+use Rattle.pgn_text.proofs.Common.{inl, refl, depth_limit, glyph_front, state_of}
+use Rattle.pgn_text.specs.Private.Reading.{KeptGlyph}
 use Rattle.pgn_text.proofs.PartsAt.{kept_after, none_further}
 use Rattle.pgn_text.proofs.ReadingLemmas.{readings_of}
 use Rattle.pgn_text.proofs.game.read_glyph.Goals as goal

@@ -1,6 +1,4 @@
-use Rattle.std.proofs.Common.{inl, arith}
-use Rattle.pgn_text.specs.Private.Tokens.{state_of}
-use Rattle.pgn_text.specs.Public.Limits.{depth_limit}
+use Rattle.pgn_text.proofs.Common.{inl, arith, state_of, depth_limit}
 use Rattle.pgn_text.proofs.PartsAt.{no_part_at_end}
 use Rattle.pgn_text.proofs.PlainLemmas.{kept_plain}
 use Rattle.pgn_text.proofs.ReadLemmas.{kept_start, kept_more, kept_after_white, kept_after_dot}

@@ -1,6 +1,4 @@
-use Rattle.std.proofs.Common.{◌-◌, length}
-use Rattle.pgn_text.specs.Private.Tokens.{state_of}
-use Rattle.pgn_text.specs.Public.Limits.{depth_limit}
+use Rattle.pgn_text.proofs.Common.{◌-◌, length, state_of, depth_limit}
 use Rattle.pgn_text.proofs.ReadLemmas.{KeptUpTo}
 use Rattle.pgn_text.proofs.game.read_parts.Given as goal
 

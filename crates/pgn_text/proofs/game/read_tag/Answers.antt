@@ -1,7 +1,4 @@
-use Rattle.std.proofs.Common.{inl, refl}
-use Rattle.pgn_text.specs.Public.Limits.{depth_limit}
-use Rattle.pgn_text.specs.Private.Reading.{KeptTag, tag_front}
-use Rattle.pgn_text.specs.Private.Tokens.{state_of}
+use Rattle.pgn_text.proofs.Common.{inl, refl, depth_limit, KeptTag, tag_front, state_of}
 use Rattle.pgn_text.proofs.PartsAt.{kept_after, none_further}
 use Rattle.pgn_text.proofs.ReadingLemmas.{readings_of}
 use Rattle.pgn_text.proofs.game.read_tag.Goals as goal

@@ -1,7 +1,6 @@
 -- Each law is a lemma.
-use Rattle.std.proofs.Common.{◌++◌, take, drop, sym, ap, ◌∙◌, subst}
-use Rattle.std.proofs.lemmas.List.{take-append-drop}
-use Rattle.pgn_text.specs.Public.Stops.{IsGameFront}
+use Rattle.pgn_text.proofs.Common.{◌++◌, take, drop, sym, ap, ◌∙◌, subst, take-append-drop}
+use Rattle.pgn_text.proofs.Common.{IsGameFront}
 use Rattle.pgn_text.proofs.EachStops.{stop_exists, front_of_front}
 use Rattle.pgn_text.proofs.GameFronts.{stops_at_game}
 use Rattle.pgn_text.proofs.Halfway.{game_reads}

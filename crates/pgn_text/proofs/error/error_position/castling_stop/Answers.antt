@@ -1,6 +1,4 @@
-use Rattle.std.proofs.Common.{sym, ◌∙◌, arith}
-use Rattle.pgn_text.specs.Public.Bytes.{is_check_sign}
-use Rattle.pgn_text.specs.Private.PartFronts.{no_byte}
+use Rattle.pgn_text.proofs.Common.{sym, ◌∙◌, arith, is_check_sign, no_byte}
 use Rattle.pgn_text.proofs.FrontLengths.{front_short, front_whole}
 use Rattle.pgn_text.proofs.Furthest.{as_far}
 use Rattle.pgn_text.proofs.error.error_position.castling_stop.Goals as goal

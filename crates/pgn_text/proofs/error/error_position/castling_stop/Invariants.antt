@@ -1,6 +1,5 @@
-use Rattle.std.proofs.Common.{length, ◌-◌, ◌≡◌, ◌+◌, ◌≤◌, [], drop}
-use Rattle.pgn_text.specs.Public.Bytes.{is_check_sign}
-use Rattle.pgn_text.specs.Private.PartFronts.{front_length}
+use Rattle.pgn_text.proofs.Common.{length, ◌-◌, ◌≡◌, ◌+◌, ◌≤◌, [], drop, is_check_sign}
+use Rattle.pgn_text.proofs.Common.{front_length}
 use Rattle.pgn_text.proofs.error.error_position.castling_stop.Given as goal
 
 abbrev pub invariant-loop-count : goal.invariant-loop-count

@@ -1,5 +1,4 @@
-use Rattle.std.proofs.Common.{length, ◌-◌, ◌≡◌, ◌+◌, ◌≤◌, drop}
-use Rattle.pgn_text.specs.Private.PartFronts.{front_length, no_byte}
+use Rattle.pgn_text.proofs.Common.{length, ◌-◌, ◌≡◌, ◌+◌, ◌≤◌, drop, front_length, no_byte}
 use Rattle.pgn_text.proofs.error.error_position.common.Given as goal
 
 abbrev pub invariant-loop-count : goal.invariant-loop-count

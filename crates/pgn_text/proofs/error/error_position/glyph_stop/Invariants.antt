@@ -1,7 +1,4 @@
-use Rattle.std.proofs.Common.{◌-◌, ◌≡◌, ◌≤◌, length, take, true}
-use Rattle.std.specs.List.{list_all}
-use Rattle.pgn_text.specs.Public.Bytes.{is_digit}
-use Rattle.pgn_text.specs.Public.Parts.{number_of}
+use Rattle.pgn_text.proofs.Common.{◌-◌, ◌≡◌, ◌≤◌, length, take, true, list_all, is_digit, number_of}
 use Rattle.pgn_text.proofs.error.error_position.glyph_stop.Given as goal
 
 abbrev pub invariant-loop-count : goal.invariant-loop-count

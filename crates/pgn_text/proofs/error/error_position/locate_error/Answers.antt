@@ -1,8 +1,5 @@
-use Rattle.std.proofs.Common.{◌≡◌, ◌+◌, ◌-◌, ◌≤◌, take, drop, length, length-drop, subst, arith}
-use Rattle.pgn_text.specs.Public.Limits.{depth_limit}
-use Rattle.pgn_text.specs.Private.PartFronts.{IsPartFront}
-use Rattle.pgn_text.specs.Public.Parts.{standing_of}
-use Rattle.pgn_text.specs.Private.Tokens.{state_of}
+use Rattle.pgn_text.proofs.Common.{◌≡◌, ◌+◌, ◌-◌, ◌≤◌, take, drop, length, length-drop}
+use Rattle.pgn_text.proofs.Common.{arith, depth_limit, IsPartFront, standing_of, state_of}
 use Rattle.pgn_text.proofs.StopContexts.{stands_within}
 use Rattle.pgn_text.proofs.StopWalk.{walk_stops}
 use Rattle.pgn_text.proofs.error.error_position.locate_error.Goals as goal
@@ -25,11 +22,7 @@ returns-in-Stuck-clause-within c =
     let same : c.part_stop.result ≡ c.in-Stuck.at + c.part_stop.result - c.in-Stuck.at =
     omega arith in
     let here =
-    subst (λ k.
-    IsPartFront depth_limit
-    (standing_of c.args.file_start (take c.in-Stuck.at c.args.block.now))
-    (state_of c.in-Stuck.progress)
-    (take k (drop c.in-Stuck.at c.args.block.now))) same c.part_stop.ensures.here in
+    rw same at c.part_stop.ensures.here in
     stands_within depth_limit c.args.file_start c.args.block.now c.args.begin c.in-Stuck.at
     (c.in-Stuck.at + c.part_stop.result)
     (state_of c.in-Stuck.progress) c.front_within.result c.in-Stuck.ensures.0 c.in-Stuck.ensures.1

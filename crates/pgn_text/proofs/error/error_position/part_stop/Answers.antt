@@ -1,14 +1,8 @@
-use Rattle.std.proofs.Common.{◌≡◌, ◌≢◌, ℕ, suc, ◌+◌, ◌-◌, ◌≤◌, false, List, [], ◌∷◌, length, take}
-use Rattle.std.proofs.Common.{drop, refl, sym, ap, subst, ◌∙◌, inl, inr, arith, IsTrue, ◌<◌}
-use Rattle.std.proofs.lemmas.Bool.{ne_eqb}
-use Rattle.std.proofs.lemmas.List.{take_rest, length-take-le}
-use Rattle.pgn_text.specs.Public.Bytes.{is_empty}
-use Rattle.pgn_text.specs.Public.Limits.{depth_limit}
-use Rattle.pgn_text.specs.Private.PartFronts.{Longest, IsPartFront, IsFrontOf, IsWordFront}
-use Rattle.pgn_text.specs.Private.PartFronts.{NoneFollows, front_length, no_byte}
-use Rattle.pgn_text.specs.Public.Parts.{Standing, standing_of}
-use Rattle.pgn_text.specs.Private.Steps.{State}
-use Rattle.pgn_text.specs.Private.Tokens.{state_of}
+use Rattle.pgn_text.proofs.Common.{◌≡◌, ◌≢◌, ℕ, suc, ◌+◌, ◌-◌, ◌≤◌, false, List, [], ◌∷◌, length}
+use Rattle.pgn_text.proofs.Common.{take, drop, refl, sym, ap, subst, ◌∙◌, inl, inr, arith, IsTrue}
+use Rattle.pgn_text.proofs.Common.{◌<◌, ne_eqb, take_rest, length-take-le, is_empty, depth_limit}
+use Rattle.pgn_text.proofs.Common.{Longest, IsPartFront, IsFrontOf, IsWordFront, NoneFollows}
+use Rattle.pgn_text.proofs.Common.{front_length, no_byte, Standing, standing_of, State, state_of}
 use Rattle.pgn_text.proofs.Furthest.{as_far}
 use Rattle.pgn_text.proofs.InPart.{open_tag, stray_glyph}
 use Rattle.pgn_text.proofs.Stuck.{stuck_brace, stuck_bracket, stuck_word, stuck_mark, stuck_other}
@@ -41,14 +35,12 @@ instead : (place : Standing) (s : State) (text : List ℕ) (byte : ℕ) (rest : 
     → Longest (IsPartFront depth_limit place s) (byte ∷ rest) n)
     → Longest (IsPartFront depth_limit place s) text n
 instead place s text byte rest n e nothing found =
-    subst (λ t. Longest (IsPartFront depth_limit place s) t n) (sym e)
-    (found (subst (NoneFollows depth_limit place s) e nothing))
+    rw e (found (subst (NoneFollows depth_limit place s) e nothing))
 
 pub returns-in_default : goal.returns-in_default
 returns-in_default c =
     let place = standing_of c.args.file_start (take c.args.at c.args.block.now) in
-    subst (λ t. Longest (IsPartFront depth_limit place (state_of c.args.progress)) t 0)
-    (sym (sym (take_rest c.args.block.now c.args.at) ∙ nothing _ c.in_default.ensures.cases))
+    rw (sym (take_rest c.args.block.now c.args.at) ∙ nothing _ c.in_default.ensures.cases)
     (stuck_end depth_limit place (state_of c.args.progress))
 
 pub returns-in-123 : goal.returns-in-123
@@ -157,8 +149,7 @@ returns-in_default-first c =
     stuck_word depth_limit place (state_of c.args.progress) c.is_closed.result
     c.in-Some.first.now c.in-Some.rest.now c.word_stop.result
     (sym c.is_in.ensures ∙ c.if-is_in.true) none c.is_closed.ensures.0 c.is_closed.ensures.1
-    (subst (λ t. Longest (IsWordFront c.is_closed.result) t c.word_stop.result)
-    c.in-Some.ensures.cases.0 c.word_stop.ensures))
+    (rw (← c.in-Some.ensures.cases.0) c.word_stop.ensures))
 
 pub returns-in_default-2 : goal.returns-in_default-2
 returns-in_default-2 c =

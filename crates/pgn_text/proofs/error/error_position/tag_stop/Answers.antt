@@ -1,6 +1,4 @@
-use Rattle.std.proofs.Common.{◌≡◌, subst, sym, arith}
-use Rattle.pgn_text.specs.Private.PartFronts.{Longest, IsTagFront}
-use Rattle.pgn_text.specs.declared.error.error_position.InTag.TheVariants.{BeforeName}
+use Rattle.pgn_text.proofs.Common.{◌≡◌, subst, sym, arith, Longest, IsTagFront, BeforeName}
 use Rattle.pgn_text.proofs.InTag.{tag_far, tag_longest, tag_stuck, tag_over}
 use Rattle.pgn_text.proofs.error.error_position.tag_stop.Goals as goal
 

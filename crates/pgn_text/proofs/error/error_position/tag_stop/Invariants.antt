@@ -1,5 +1,4 @@
-use Rattle.std.proofs.Common.{◌-◌, ◌≡◌, ◌+◌, ◌≤◌, length, drop}
-use Rattle.pgn_text.specs.declared.error.error_position.InTag.TheVariants.{BeforeName}
+use Rattle.pgn_text.proofs.Common.{◌-◌, ◌≡◌, ◌+◌, ◌≤◌, length, drop, BeforeName}
 use Rattle.pgn_text.proofs.InTag.{tag_far}
 use Rattle.pgn_text.proofs.error.error_position.tag_stop.Given as goal
 

@@ -1,7 +1,4 @@
-use Rattle.std.proofs.Common.{sym, ◌∙◌}
-use Rattle.std.proofs.lemmas.Bool.{false≢true}
-use Rattle.pgn_text.specs.Public.Limits.{depth_limit}
-use Rattle.pgn_text.specs.Private.Tokens.{state_of, token_of}
+use Rattle.pgn_text.proofs.Common.{sym, ◌∙◌, false≢true, depth_limit, state_of, token_of}
 use Rattle.pgn_text.proofs.StopContexts.{after_game}
 use Rattle.pgn_text.proofs.StopWalk.{walk_game, walk_more, walk_stuck}
 use Rattle.pgn_text.proofs.error.error_position.walk.Goals as goal

@@ -1,7 +1,4 @@
-use Rattle.std.proofs.Common.{◌-◌, length}
-use Rattle.pgn_text.specs.Private.ErrorPosition.{WalkedTo}
-use Rattle.pgn_text.specs.Public.Limits.{depth_limit}
-use Rattle.pgn_text.specs.Private.Tokens.{state_of}
+use Rattle.pgn_text.proofs.Common.{◌-◌, length, WalkedTo, depth_limit, state_of}
 use Rattle.pgn_text.proofs.error.error_position.walk.Given as goal
 
 abbrev pub invariant-loop-token : goal.invariant-loop-token

@@ -1,5 +1,4 @@
-use Rattle.std.proofs.Common.{◌≡◌, false, true, refl}
-use Rattle.pgn_text.specs.Public.Bytes.{is_digit}
+use Rattle.pgn_text.proofs.Common.{◌≡◌, false, true, refl, is_digit}
 use Rattle.pgn_text.proofs.FrontLengths.{run_front}
 use Rattle.pgn_text.proofs.Stuck.{move_most, word_most, word_longest}
 use Rattle.pgn_text.proofs.error.error_position.word_stop.Goals as goal

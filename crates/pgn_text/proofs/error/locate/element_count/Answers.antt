@@ -1,6 +1,4 @@
-use Rattle.std.proofs.Common.{length, sym, ap, ◌∙◌}
-use Rattle.pgn_text.specs.Private.Reading.{items_of_kept}
-use Rattle.pgn_text.specs.Private.Tokens.{token_of}
+use Rattle.pgn_text.proofs.Common.{length, sym, ap, ◌∙◌, items_of_kept, token_of}
 use Rattle.pgn_text.specs.declared.lex.token.Token.{Token}
 use Rattle.pgn_text.proofs.Located.{glyph_count}
 use Rattle.pgn_text.proofs.error.locate.element_count.Goals as goal

@@ -1,5 +1,4 @@
-use Rattle.std.proofs.Common.{◌++◌, ◌∷◌, [], arith}
-use Rattle.pgn_text.specs.Private.Tokens.{token_of}
+use Rattle.pgn_text.proofs.Common.{◌++◌, ◌∷◌, [], arith, token_of}
 use Rattle.pgn_text.proofs.Located.{passed_start, passed_more, element_here, element_more}
 use Rattle.pgn_text.proofs.Located.{no_element}
 use Rattle.pgn_text.proofs.error.locate.element_place.Goals as goal

@@ -1,6 +1,4 @@
-use Rattle.std.proofs.Common.{◌≡◌, ◌+◌, ◌-◌, length, List}
-use Rattle.pgn_text.specs.Public.Games.{items_of}
-use Rattle.pgn_text.specs.Public.Parts.{Part}
+use Rattle.pgn_text.proofs.Common.{◌≡◌, ◌+◌, ◌-◌, length, List, items_of, Part}
 use Rattle.pgn_text.proofs.Located.{PassedTo}
 use Rattle.pgn_text.proofs.error.locate.element_place.Given as goal
 

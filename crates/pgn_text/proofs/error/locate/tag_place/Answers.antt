@@ -1,5 +1,4 @@
-use Rattle.std.proofs.Common.{◌++◌, ◌∷◌, [], refl, sym, ◌∙◌}
-use Rattle.pgn_text.specs.Private.Tokens.{token_of}
+use Rattle.pgn_text.proofs.Common.{◌++◌, ◌∷◌, [], refl, sym, ◌∙◌, token_of}
 use Rattle.pgn_text.proofs.Located.{passed_start, passed_more, tag_here, tag_more, no_tag}
 use Rattle.pgn_text.proofs.error.locate.tag_place.Goals as goal
 

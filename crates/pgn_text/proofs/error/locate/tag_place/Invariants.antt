@@ -1,6 +1,4 @@
-use Rattle.std.proofs.Common.{◌≡◌, ◌-◌, None, length, List}
-use Rattle.pgn_text.specs.Public.Games.{first_tag}
-use Rattle.pgn_text.specs.Public.Parts.{Part}
+use Rattle.pgn_text.proofs.Common.{◌≡◌, ◌-◌, None, length, List, first_tag, Part}
 use Rattle.pgn_text.proofs.Located.{PassedTo}
 use Rattle.pgn_text.proofs.error.locate.tag_place.Given as goal
 

@@ -1,6 +1,4 @@
-use Rattle.std.proofs.Common.{◌≡◌, ◌++◌, map, length}
-use Rattle.pgn_text.specs.Public.Elements.{item_of}
-use Rattle.pgn_text.specs.Public.Games.{glyphs_of_marks}
+use Rattle.pgn_text.proofs.Common.{◌≡◌, ◌++◌, map, length, item_of, glyphs_of_marks}
 use Rattle.pgn_text.proofs.game.game_builder.push_marks.Given as goal
 
 abbrev pub invariant-loop-rest : goal.invariant-loop-rest

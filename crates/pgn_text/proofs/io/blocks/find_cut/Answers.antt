@@ -1,5 +1,4 @@
-use Rattle.std.proofs.Common.{◌-◌}
-use Rattle.std.proofs.lemmas.List.{take_rest}
+use Rattle.pgn_text.proofs.Common.{◌-◌, take_rest}
 use Rattle.pgn_text.proofs.BlockCuts.{no_cut, first_cut}
 use Rattle.pgn_text.proofs.io.blocks.find_cut.Goals as goal
 

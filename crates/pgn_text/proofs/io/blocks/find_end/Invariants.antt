@@ -1,5 +1,4 @@
-use Rattle.std.proofs.Common.{◌+◌, ◌-◌, length, take, drop}
-use Rattle.pgn_text.specs.Public.Limits.{largest_offset}
+use Rattle.pgn_text.proofs.Common.{◌+◌, ◌-◌, length, take, drop, largest_offset}
 use Rattle.pgn_text.proofs.EndSearch.{Searched}
 use Rattle.pgn_text.proofs.io.blocks.find_end.Given as goal
 

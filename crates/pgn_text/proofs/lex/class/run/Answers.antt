@@ -1,5 +1,4 @@
-use Rattle.std.proofs.Common.{take, ap, ◌∙◌, arith}
-use Rattle.std.proofs.lemmas.List.{take_rest}
+use Rattle.pgn_text.proofs.Common.{take, ap, ◌∙◌, arith, take_rest}
 use Rattle.pgn_text.proofs.lex.class.run.Goals as goal
 
 pub returns-clause-front : goal.returns-clause-front

@@ -1,5 +1,4 @@
-use Rattle.std.proofs.Common.{sym, ◌∙◌, ◌+◌, arith}
-use Rattle.pgn_text.specs.Private.Tokens.{test_of}
+use Rattle.pgn_text.proofs.Common.{sym, ◌∙◌, ◌+◌, arith, test_of}
 use Rattle.pgn_text.proofs.RunsTo.{one_more, passed_to}
 use Rattle.pgn_text.proofs.lex.class.run_end.Goals as goal
 

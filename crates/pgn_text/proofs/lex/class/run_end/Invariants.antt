@@ -1,5 +1,4 @@
-use Rattle.std.proofs.Common.{◌-◌, length}
-use Rattle.pgn_text.specs.Private.Tokens.{test_of}
+use Rattle.pgn_text.proofs.Common.{◌-◌, length, test_of}
 use Rattle.pgn_text.proofs.RunsTo.{AllPass}
 use Rattle.pgn_text.proofs.lex.class.run_end.Given as goal
 

@@ -1,6 +1,4 @@
-use Rattle.std.proofs.lemmas.Simd.{zip2_splat}
-use Rattle.std.proofs.Common.{arith}
-use Rattle.pgn_text.specs.Public.Bytes.{is_digit}
+use Rattle.pgn_text.proofs.Common.{zip2_splat, arith, is_digit}
 use Rattle.pgn_text.proofs.Lanes.{below, less, then_splat, classified}
 use Rattle.pgn_text.proofs.lex.movetext.digits.Goals as goal
 

@@ -1,7 +1,4 @@
-use lib.Bits.{bit_or}
-use Rattle.std.proofs.lemmas.Simd.{zip2_splat}
-use Rattle.std.proofs.Common.{arith}
-use Rattle.pgn_text.specs.Public.Bytes.{is_letter}
+use Rattle.pgn_text.proofs.Common.{bit_or, zip2_splat, arith, is_letter}
 use Rattle.pgn_text.proofs.Lanes.{below, less, then_splat, classified}
 use Rattle.pgn_text.proofs.lex.movetext.letters.Goals as goal
 

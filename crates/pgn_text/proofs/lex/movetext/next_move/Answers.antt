@@ -1,5 +1,4 @@
-use Rattle.std.proofs.Common.{◌<◌, ◌≤◌, not, sym, ap, ◌∙◌, arith, inl, inr}
-use Rattle.std.proofs.lemmas.Bool.{cases_lt}
+use Rattle.pgn_text.proofs.Common.{◌<◌, ◌≤◌, not, sym, ap, ◌∙◌, arith, inl, inr, cases_lt}
 use Rattle.pgn_text.proofs.Bits.{bit-flip, clash, not_false, not_true}
 use Rattle.pgn_text.proofs.lex.movetext.next_move.Goals as goal
 

@@ -1,6 +1,4 @@
-use Rattle.std.proofs.Common.{◌-◌, List, length}
-use Rattle.pgn_text.specs.Public.Games.{Item}
-use Rattle.pgn_text.specs.Private.Movetext.{PlainTo}
+use Rattle.pgn_text.proofs.Common.{◌-◌, List, length, Item, PlainTo}
 use Rattle.pgn_text.proofs.lex.movetext.plain_end.Given as goal
 
 abbrev pub invariant-loop-at : goal.invariant-loop-at

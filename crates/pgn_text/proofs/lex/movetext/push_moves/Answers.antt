@@ -1,8 +1,5 @@
-use Rattle.std.proofs.Common.{◌+◌, ◌++◌, [], ◌∷◌, map, sym, ap, ◌∙◌, arith, append-nil}
-use Rattle.std.proofs.Common.{append_assoc, take, drop, ◌-◌}
-use Rattle.pgn_text.specs.Public.Games.{MoveText}
-use Rattle.std.proofs.lemmas.List.{map-append}
-use Rattle.pgn_text.specs.Public.Elements.{item_of}
+use Rattle.pgn_text.proofs.Common.{◌+◌, ◌++◌, [], ◌∷◌, map, sym, ap, ◌∙◌, arith, append-nil}
+use Rattle.pgn_text.proofs.Common.{append_assoc, take, drop, ◌-◌, MoveText, map-append, item_of}
 use Rattle.pgn_text.proofs.PlainWalk.{at_first, have_ends, over_move, over_rest, with_none}
 use Rattle.pgn_text.proofs.lex.movetext.push_moves.Goals as goal
 

@@ -1,7 +1,4 @@
-use Rattle.std.proofs.Common.{◌≡◌, ◌-◌, ◌≤◌, ◌++◌, ℕ, List, map}
-use Rattle.pgn_text.specs.Public.Elements.{item_of}
-use Rattle.pgn_text.specs.Public.Games.{Item}
-use Rattle.pgn_text.specs.Private.Masks.{Sweeps}
+use Rattle.pgn_text.proofs.Common.{◌≡◌, ◌-◌, ◌≤◌, ◌++◌, ℕ, List, map, item_of, Item, Sweeps}
 use Rattle.pgn_text.proofs.PlainWalk.{Quiet}
 use Rattle.pgn_text.proofs.lex.movetext.push_moves.Given as goal
 

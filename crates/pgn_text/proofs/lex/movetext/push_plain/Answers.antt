@@ -1,5 +1,4 @@
-use Rattle.std.proofs.Common.{◌++◌, [], map, sym, ap, ◌∙◌, append-nil, append_assoc}
-use Rattle.pgn_text.specs.Public.Elements.{item_of}
+use Rattle.pgn_text.proofs.Common.{◌++◌, [], map, sym, ap, ◌∙◌, append-nil, append_assoc, item_of}
 use Rattle.pgn_text.proofs.PlainWalk.{with_none, with_both}
 use Rattle.pgn_text.proofs.lex.movetext.push_plain.Goals as goal
 

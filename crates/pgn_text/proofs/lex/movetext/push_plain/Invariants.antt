@@ -1,7 +1,4 @@
-use Rattle.std.proofs.Common.{◌≡◌, ◌-◌, ◌++◌, List, length, map}
-use Rattle.pgn_text.specs.Public.Elements.{item_of}
-use Rattle.pgn_text.specs.Public.Games.{Item}
-use Rattle.pgn_text.specs.Private.Movetext.{PlainTo}
+use Rattle.pgn_text.proofs.Common.{◌≡◌, ◌-◌, ◌++◌, List, length, map, item_of, Item, PlainTo}
 use Rattle.pgn_text.proofs.lex.movetext.push_plain.Given as goal
 
 abbrev pub invariant-loop-at : goal.invariant-loop-at

@@ -1,7 +1,4 @@
-use Rattle.std.proofs.Common.{arith}
-use Rattle.std.proofs.lemmas.Simd.{zip2_splat}
-use lib.Bits.{bit_or}
-use Rattle.pgn_text.specs.Private.Masks.{is_word_sign}
+use Rattle.pgn_text.proofs.Common.{arith, zip2_splat, bit_or, is_word_sign}
 use Rattle.pgn_text.proofs.Lanes.{hit, then_splat, either, classified}
 use Rattle.pgn_text.proofs.lex.movetext.signs.Goals as goal
 

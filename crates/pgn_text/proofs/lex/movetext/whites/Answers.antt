@@ -1,6 +1,4 @@
-use Rattle.std.proofs.lemmas.Simd.{zip2_splat}
-use Rattle.std.proofs.Common.{arith}
-use Rattle.pgn_text.specs.Public.Bytes.{is_white}
+use Rattle.pgn_text.proofs.Common.{zip2_splat, arith, is_white}
 use Rattle.pgn_text.proofs.Lanes.{hit, below, less, then_splat, either, classified}
 use Rattle.pgn_text.proofs.lex.movetext.whites.Goals as goal
 

@@ -1,5 +1,4 @@
-use Rattle.std.proofs.Common.{◌+◌}
-use Rattle.std.proofs.lemmas.List.{take_rest}
+use Rattle.pgn_text.proofs.Common.{◌+◌, take_rest}
 use Rattle.pgn_text.proofs.PartsAt.{kept_brace, no_brace}
 use Rattle.pgn_text.proofs.lex.place.comment_at.Goals as goal
 

@@ -1,5 +1,4 @@
-use Rattle.std.proofs.Common.{◌-◌, length}
-use Rattle.pgn_text.specs.Private.Walk.{GapTo}
+use Rattle.pgn_text.proofs.Common.{◌-◌, length, GapTo}
 use Rattle.pgn_text.proofs.lex.place.gap_end.Given as goal
 
 abbrev pub invariant-loop-end : goal.invariant-loop-end

@@ -1,7 +1,5 @@
-use Rattle.std.proofs.Common.{◌-◌, length, take, drop, sym, ◌∙◌, arith}
-use Rattle.std.proofs.lemmas.List.{take_rest}
-use Rattle.pgn_text.specs.Private.Reading.{gap_front}
-use Rattle.pgn_text.specs.Private.Tokens.{standing_view, token_of}
+use Rattle.pgn_text.proofs.Common.{◌-◌, length, take, drop, sym, ◌∙◌, arith, take_rest, gap_front}
+use Rattle.pgn_text.proofs.Common.{standing_view, token_of}
 use Rattle.pgn_text.proofs.Places.{no_gap_at, gap_part_is, rest_within}
 use Rattle.pgn_text.proofs.FoundLemmas.{gap-found}
 use Rattle.pgn_text.proofs.PartsAt.{gap_white}

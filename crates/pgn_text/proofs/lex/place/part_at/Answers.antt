@@ -1,7 +1,5 @@
-use Rattle.std.proofs.Common.{◌-◌, length, take, drop}
-use Rattle.std.proofs.lemmas.List.{take_rest}
-use Rattle.pgn_text.specs.Private.Reading.{part_front}
-use Rattle.pgn_text.specs.Private.Tokens.{standing_view, token_of}
+use Rattle.pgn_text.proofs.Common.{◌-◌, length, take, drop, take_rest, part_front, standing_view}
+use Rattle.pgn_text.proofs.Common.{token_of}
 use Rattle.pgn_text.proofs.Places.{nothing_at, kept_at, rest_within}
 use Rattle.pgn_text.proofs.FoundLemmas.{part-found}
 use Rattle.pgn_text.proofs.lex.place.part_at.Goals as goal

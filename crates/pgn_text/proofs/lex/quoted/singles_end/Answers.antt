@@ -1,5 +1,4 @@
-use Rattle.std.proofs.Common.{◌+◌, ◌<◌, sym, ap, ◌∙◌, arith}
-use Rattle.pgn_text.specs.Private.Reading.{is_single}
+use Rattle.pgn_text.proofs.Common.{◌+◌, ◌<◌, sym, ap, ◌∙◌, arith, is_single}
 use Rattle.pgn_text.proofs.Bits.{not_false, not_true}
 use Rattle.pgn_text.proofs.RunsTo.{AllPass, run_to, runs_on}
 use Rattle.pgn_text.proofs.lex.quoted.singles_end.Goals as goal

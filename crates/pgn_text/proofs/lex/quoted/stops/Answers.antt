@@ -1,6 +1,4 @@
-use Rattle.std.proofs.Common.{ℕ, not, arith}
-use Rattle.std.proofs.lemmas.Simd.{zip2_splat}
-use Rattle.pgn_text.specs.Private.Reading.{is_single}
+use Rattle.pgn_text.proofs.Common.{ℕ, not, arith, zip2_splat, is_single}
 use Rattle.pgn_text.proofs.Lanes.{hit, below, less, then_splat, either, classified}
 use Rattle.pgn_text.proofs.lex.quoted.stops.Goals as goal
 

@@ -1,6 +1,5 @@
-use Rattle.std.proofs.Common.{refl, ap, take, ◌+◌, Some}
-use Rattle.std.proofs.lemmas.List.{take_rest}
-use Rattle.pgn_text.specs.Private.Reading.{KeptComment}
+use Rattle.std.proofs.Common.{Some}
+use Rattle.pgn_text.proofs.Common.{refl, ap, take, ◌+◌, take_rest, KeptComment}
 use Rattle.pgn_text.proofs.Braces.{brace_found, brace_none}
 use Rattle.pgn_text.proofs.lex.scan.brace_comment.Goals as goal
 

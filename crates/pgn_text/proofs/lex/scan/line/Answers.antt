@@ -1,6 +1,4 @@
-use Rattle.std.proofs.Common.{◌∙◌}
-use Rattle.std.proofs.lemmas.List.{take_rest}
-use Rattle.pgn_text.specs.Public.Bytes.{is_not_line_feed}
+use Rattle.pgn_text.proofs.Common.{◌∙◌, take_rest, is_not_line_feed}
 use Rattle.pgn_text.proofs.Runs.{take_run, drop_run}
 use Rattle.pgn_text.proofs.lex.scan.line.Goals as goal
 

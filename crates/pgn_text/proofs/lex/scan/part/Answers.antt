@@ -1,6 +1,4 @@
-use Rattle.std.proofs.Common.{refl}
-use Rattle.pgn_text.specs.Private.Reading.{gap_front, game_front}
-use Rattle.pgn_text.specs.Private.Tokens.{standing_view}
+use Rattle.pgn_text.proofs.Common.{refl, gap_front, game_front, standing_view}
 use Rattle.pgn_text.proofs.PartLemmas.{kept-or}
 use Rattle.pgn_text.proofs.lex.scan.part.Goals as goal
 

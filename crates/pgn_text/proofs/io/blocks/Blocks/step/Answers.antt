@@ -1,5 +1,4 @@
-use Rattle.std.proofs.Common.{ap, refl, ◌∙◌}
-use Rattle.pgn_text.specs.Public.Windows.{Window}
+use Rattle.pgn_text.proofs.Common.{ap, refl, ◌∙◌, Window}
 use Rattle.pgn_text.proofs.CutOff.{cut_off, none_held}
 use Rattle.pgn_text.proofs.io.blocks.Blocks.step.Goals as goal
 
