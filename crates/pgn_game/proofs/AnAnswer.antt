@@ -1,33 +1,19 @@
 -- A game has a replay or a fault, where its FEN tag has the contents of a string.
-use Rattle.std.proofs.Common.{◌≡◌, ◌⊎◌, ℕ, ◌+◌, ◌-◌, Bool, true, false, ◌&&◌, List, [], ◌∷◌, ◌++◌}
-use Rattle.std.proofs.Common.{Option, Some, None, IfSome, flat_map, refl, sym, ap, ◌∙◌, subst, inl}
-use Rattle.std.proofs.Common.{inr}
-use Rattle.chess.specs.Public.Placements.{AreOnBoard}
-use Rattle.chess.specs.Public.Positions.{State}
-use Rattle.chess.specs.Public.Start.{initial}
-use Rattle.chess.specs.Public.Moves.{after}
-use Rattle.chess.specs.declared.moves.Move.{Move}
+use Rattle.std.proofs.Common.{IfSome, flat_map}
+use Rattle.pgn_game.proofs.Common.{◌≡◌, ◌⊎◌, ℕ, ◌+◌, ◌-◌, Bool, true, false, ◌&&◌, List, [], ◌∷◌}
+use Rattle.pgn_game.proofs.Common.{◌++◌, Option, Some, None, refl, sym, ap, ◌∙◌, subst, inl, inr}
+use Rattle.pgn_game.proofs.Common.{AreOnBoard, State, initial, after, Move, initial_kept}
+use Rattle.pgn_game.proofs.Common.{settled_check, IsPaired, Item, IsContents, value_of_sign}
+use Rattle.pgn_game.proofs.Common.{main_words, IsMainLine, IsValueOf, IsStart, IsBadStart, Line}
+use Rattle.pgn_game.proofs.Common.{LineEnd, ThenMove, ThenGlyph, ThenComment, ThenVariation}
+use Rattle.pgn_game.proofs.Common.{is_pass, SaysTurn, after_turn, IsPlayed, ArePlayed, own_words}
+use Rattle.pgn_game.proofs.Common.{Fault, BadStart, IllegalMove, AmbiguousMove, IsMoveFault}
+use Rattle.pgn_game.proofs.Common.{RefusesTurn, IsLineFault, HasLineFault, AreTurns, IsSoundGame}
+use Rattle.pgn_game.proofs.Common.{Lines, Main, All, LineMove, Played, Passed}
 use Rattle.chess.proofs.FenSettled.{fen_answer}
 use Rattle.chess.proofs.NamedSettled.{each_text_names}
 use Rattle.chess.proofs.OnBoard.{spelled_men_on_board, men_stay_on_board}
-use Rattle.chess.proofs.StartFacts.{initial_kept}
-use Rattle.chess.proofs.LegalSettled.{settled_check}
-use Rattle.pgn_text.specs.Public.GameTexts.{IsPaired}
-use Rattle.pgn_text.specs.Public.Games.{Item}
-use Rattle.pgn_text.specs.Public.Strings.{IsContents, value_of_sign}
 use Rattle.pgn_game.specs.Public.Laws.{GameHasAnAnswer}
-use Rattle.pgn_game.specs.Public.MainLines.{main_words, IsMainLine}
-use Rattle.pgn_game.specs.Public.Starts.{IsValueOf, IsStart, IsBadStart}
-use Rattle.pgn_game.specs.Public.AllLines.{Line, LineEnd, ThenMove, ThenGlyph, ThenComment}
-use Rattle.pgn_game.specs.Public.AllLines.{ThenVariation, is_pass, SaysTurn, after_turn, IsPlayed}
-use Rattle.pgn_game.specs.Public.AllLines.{ArePlayed, own_words}
-use Rattle.pgn_game.specs.Public.Faults.{Fault, BadStart, IllegalMove, AmbiguousMove, IsMoveFault}
-use Rattle.pgn_game.specs.Public.Faults.{RefusesTurn, IsLineFault, HasLineFault}
-use Rattle.pgn_game.specs.Public.Replays.{AreTurns, IsSoundGame}
-use Rattle.pgn_game.specs.declared.replays.replayer.Lines.{Lines}
-use Rattle.pgn_game.specs.declared.replays.replayer.Lines.TheVariants.{Main, All}
-use Rattle.pgn_game.specs.declared.turns.line_move.LineMove.{LineMove}
-use Rattle.pgn_game.specs.declared.turns.line_move.LineMove.TheVariants.{Played, Passed}
 use Rattle.pgn_game.proofs.OneLine.{main_of_all, main_words_of}
 use Rattle.pgn_game.proofs.Spelling.{one_spelt}
 
@@ -81,8 +67,7 @@ HasFault inside before now plies line =
     (fault : Fault) × IsLineFault inside before now plies line fault
 
 all_answer : (line : Line) (inside : Bool) (before now : State) (plies : ℕ) → AreOnBoard before.men
-    → AreOnBoard now.men
-    → HasTurns inside before now line ⊎ HasFault inside before now plies line
+    → AreOnBoard now.men → HasTurns inside before now line ⊎ HasFault inside before now plies line
 all_answer LineEnd inside before now plies last on_board = inl ([], refl)
 all_answer (ThenMove word line) inside before now plies last on_board =
     elim (turn_answer (inside && is_pass word) now plies word on_board) [

@@ -3,23 +3,14 @@ use Rattle.std.proofs.Common.{◌≡◌, ℕ, zero, suc, ◌+◌, ◌*◌, ◌<�
 use Rattle.std.proofs.Common.{cond, List, [], ◌∷◌, ◌++◌, length, drop, get_or, Option, Some, None}
 use Rattle.std.proofs.Common.{refl, sym, ap, ◌∙◌, subst, append_assoc, append-nil, length-append}
 use Rattle.std.proofs.Common.{inl, inr, arith}
-use Rattle.std.specs.List.{slice_get, flat_map, AllByRecursion}
-use Rattle.std.proofs.Math.ListN.{drop_of_length-le}
-use Rattle.std.proofs.lemmas.Option.{same_Some, none-some}
-use Rattle.chess.specs.Public.Placements.{man_at}
-use Rattle.chess.specs.Public.Positions.{State}
-use Rattle.chess.specs.Public.Moves.{after, arriving, is_pawn, Goes, IsPseudoLegal, IsLegal}
-use Rattle.chess.specs.Public.Moves.{IsPromotionKind, IsPromotion}
-use Rattle.chess.specs.declared.board.man.Man.{Man}
-use Rattle.chess.specs.declared.board.man.Side.{Side}
-use Rattle.chess.specs.declared.board.man.Kind.{Kind}
-use Rattle.chess.specs.declared.board.man.Kind.TheVariants.{King, Pawn}
-use Rattle.chess.specs.declared.moves.Move.{Move}
-use Rattle.pgn_game.specs.Public.CodeLines.{AreLegalMoves, positions_from, IsCodedLine}
-use Rattle.pgn_game.specs.Public.CodeLines.{IsCodedReplay}
-use Rattle.pgn_game.specs.Private.CodeWords.{promoted, told_move, HasReplayed}
-use Rattle.pgn_game.specs.Public.MainLines.{IsMainLine}
-use Rattle.pgn_game.specs.Public.PlyCodes.{PlyCode, FitsCode, IsCode, AreCodes, code_bytes, code_of}
+use Rattle.pgn_game.proofs.Common.{slice_get, flat_map, AllByRecursion, drop_of_length-le}
+use Rattle.pgn_game.proofs.Common.{same_Some, none-some, man_at, State, after, arriving, Goes}
+use Rattle.pgn_game.proofs.Common.{IsPseudoLegal, IsLegal, Man, Side, Kind, King, Pawn, Move}
+use Rattle.pgn_game.proofs.Common.{AreLegalMoves, positions_from, HasReplayed, IsMainLine, PlyCode}
+use Rattle.pgn_game.proofs.Common.{FitsCode, IsCode, AreCodes, code_bytes, code_of}
+use Rattle.chess.specs.Public.Moves.{is_pawn, IsPromotionKind, IsPromotion}
+use Rattle.pgn_game.specs.Public.CodeLines.{IsCodedLine, IsCodedReplay}
+use Rattle.pgn_game.specs.Private.CodeWords.{promoted, told_move}
 use Rattle.pgn_game.proofs.PlyCodeFacts.{code_again, code_of_a_move_fits}
 use Rattle.pgn_game.proofs.RecordFacts.{plies_size}
 use Rattle.pgn_game.proofs.Cells.{no_cell, same_first, same_rest}
@@ -29,8 +20,7 @@ use Rattle.pgn_game.proofs.Cells.{no_cell, same_first, same_rest}
 -- the code of a ply is that of its three bytes
 pub code_there : (cs : List PlyCode) (k : ℕ) (first second third : ℕ) → first ≡ 3 * k
     → second ≡ 3 * k + 1 → third ≡ 3 * k + 2 → k < length cs → AllByRecursion FitsCode cs
-    → drop k cs
-    ≡ code_of (get_or (flat_map code_bytes cs) first 0)
+    → drop k cs ≡ code_of (get_or (flat_map code_bytes cs) first 0)
     (get_or (flat_map code_bytes cs) second 0) (get_or (flat_map code_bytes cs) third 0)
     ∷ drop (k + 1) cs
 code_there [] k first second third at next last within fits = absurd (omega arith)
@@ -98,15 +88,13 @@ becomes : (P : State) (m : Move) (own : Man) (promote : Option Kind) (comes : Ma
     → m.promote ≡ promote → man_at P.men m.from ≡ Some own → Goes P m own.kind
     → arriving P promote m.from ≡ Some comes → promote ≡ promoted (Some own) comes
 becomes P m own None comes is here goes arrives =
-    subst (λ (man : Man). None ≡ promoted (Some own) man)
-    (sym (same_Some comes own (sym arrives ∙ here))) (unlike (is_pawn (Some own)) own.kind)
+    rw (same_Some comes own (sym arrives ∙ here)) (unlike (is_pawn (Some own)) own.kind)
 becomes P m own (Some to) comes is here goes arrives =
     let man : comes ≡ record { side = P.turn; kind = to } =
     same_Some comes (record { side = P.turn; kind = to }) (sym arrives) in
     let pawn = pawn_becomes P m own.kind to is goes in
-    subst (λ (x : Man). Some to ≡ promoted (Some own) x) (sym man)
-    (becomes_kind (is_pawn (Some own)) (is_pawn (Some (record { side = P.turn; kind = to }))) to to
-    (is_pawn_of own pawn.0) (no_pawn P.turn to pawn.1) refl)
+    rw man (becomes_kind (is_pawn (Some own)) (is_pawn (Some (record { side = P.turn; kind = to })))
+    to to (is_pawn_of own pawn.0) (no_pawn P.turn to pawn.1) refl)
 
 -- a code is that of one pseudo-legal move at most, which it tells
 pub told : (P : State) (m : Move) (c : PlyCode) → IsPseudoLegal P m → IsCode P m c
@@ -210,8 +198,7 @@ module _ {start : State} {bytes : List ℕ} {ply : ℕ} {before : List State} {h
           parts = one.parts ∙ ap (λ (n : Move). played ++ n ∷ one.rest) same
               ∙ sym (append_assoc played (m ∷ []) one.rest);
           legal = subst (λ (n : Move). AreLegalMoves (after here n) one.rest) same one.later;
-          are = subst (λ (n : Move). AreCodes (after here n) one.rest (drop (ply + 1) line.codes))
-              same one.are;
+          are = rw (← same) one.are;
         };
   }
 
@@ -227,8 +214,7 @@ module _ {start : State} {bytes : List ℕ} {ply : ℕ} {before : List State} {h
   none_left (m ∷ rest) (c, more, is, code, are) = absurd (no_cell c more is)
 
   -- all plies
-  pub replayed_all : length bytes ≤ 3 * ply
-      → IsCodedReplay start bytes
+  pub replayed_all : length bytes ≤ 3 * ply → IsCodedReplay start bytes
       (record { positions = before ++ here ∷ []; played = played; turns = [] })
   replayed_all past = record {
     line = record {
@@ -297,7 +283,6 @@ pub legal_along : (P : State) (moves : List Move) → AreLegalMoves P moves
     → slice_get moves i ≡ Some m → IsLegal now m
 legal_along P [] legal i now m at is = absurd (no_move m is)
 legal_along P (first ∷ moves) legal zero now m at is =
-    subst (λ (Q : State). IsLegal Q m) (same_Some P now at)
-    (subst (IsLegal P) (same_Some first m is) legal.0)
+    rw (← (same_Some P now at)) (subst (IsLegal P) (same_Some first m is) legal.0)
 legal_along P (first ∷ moves) legal (suc i) now m at is =
     legal_along (after P first) moves legal.1 i now m at is

@@ -1,16 +1,13 @@
 -- Commands of comments: how their words are one token.
-use Rattle.std.proofs.Common.{◌≡◌, ℕ, ◌<◌, ◌≤◌, Bool, true, false, List, [], ◌∷◌, ◌++◌, length, map}
-use Rattle.std.proofs.Common.{refl, sym, ap, ◌∙◌, append_assoc, append-nil, arith}
-use Rattle.std.specs.Prelude.{if◌then◌else◌, ◌==◌, ◌&&◌, ◌||◌, not, Option, Some, None, is_some}
-use Rattle.std.specs.Prelude.{IfSome}
-use Rattle.std.proofs.lemmas.Bool.Decides.{nat_tests}
-use Rattle.pgn_text.specs.Public.Bytes.{is_white, is_empty, begins}
-use Rattle.pgn_game.specs.Public.Comments.{in_first, words_in, has_bracket, leaves_open, in_command}
-use Rattle.pgn_game.specs.Public.Comments.{cut_at_white, later_word, begins_command, comment_tokens}
-use Rattle.pgn_game.specs.Public.Comments.{unbraced, closed, braced, closes, ties, in_front, tied}
-use Rattle.pgn_game.specs.Public.TextLines.{joined}
-use Rattle.pgn_game.specs.Private.CommentWords.{word_front, after_front, found_words, found_size}
-use Rattle.pgn_game.specs.Private.CommentWords.{closing, tied_words}
+use Rattle.std.specs.Prelude.{◌&&◌, Option, Some, None}
+use Rattle.pgn_game.proofs.Common.{◌≡◌, ℕ, ◌<◌, ◌≤◌, Bool, true, false, List, [], ◌∷◌, ◌++◌, length}
+use Rattle.pgn_game.proofs.Common.{map, refl, sym, ap, ◌∙◌, append_assoc, append-nil, arith}
+use Rattle.pgn_game.proofs.Common.{if◌then◌else◌, ◌==◌, ◌||◌, not, is_some, IfSome, nat_tests}
+use Rattle.pgn_game.proofs.Common.{is_white, is_empty, begins, in_first, words_in, has_bracket}
+use Rattle.pgn_game.proofs.Common.{leaves_open, in_command, cut_at_white, later_word}
+use Rattle.pgn_game.proofs.Common.{begins_command, comment_tokens, unbraced, closed, braced, closes}
+use Rattle.pgn_game.proofs.Common.{ties, in_front, tied, joined, word_front, after_front}
+use Rattle.pgn_game.proofs.Common.{found_words, found_size, closing, tied_words}
 use Rattle.pgn_game.specs.declared.exports.comment.Found.{Found}
 use Rattle.pgn_game.proofs.CommentFacts.{words_of_front, full_ones}
 
@@ -127,8 +124,7 @@ tied_all inside is_last word next words all last found is =
 pub words_left : (word front bare : List ℕ) (words : List (List ℕ)) (inside : Bool)
     (all : List (List ℕ)) → inside ≡ in_command false word (joined words)
     → later_word word ≡ front ++ bare
-    → in_front inside (front ++ bare ++ closing (is_empty words)) (tied_words inside words)
-    ≡ all
+    → in_front inside (front ++ bare ++ closing (is_empty words)) (tied_words inside words) ≡ all
     → tied_words false (word ∷ words) ≡ all
 words_left word front bare words inside all is later first =
     ap (λ t. tied (t ∷ ties t words) (closed (later_word word ∷ map later_word words))) (sym is)
@@ -140,13 +136,11 @@ pub whole_comment : (text word : List ℕ) (words : List (List ℕ)) (inside : B
     (all : List (List ℕ)) → word ∷ words ≡ words_in text
     → inside ≡ in_command false word (joined words)
     → in_front inside ((123 ∷ []) ++ unbraced word
-    ++ closing (is_empty words)) (tied_words inside words) ≡ all
-    → comment_tokens true text ≡ all
+    ++ closing (is_empty words)) (tied_words inside words) ≡ all → comment_tokens true text ≡ all
 whole_comment text word words inside all found is first =
     ap (λ ws. tied (ties false ws) (braced ws)) (sym found)
     ∙ ap (λ t. tied (t ∷ ties t words) (closed ((123 ∷ unbraced word) ∷ map later_word words)))
-    (sym is)
-    ∙ tied_head (123 ∷ unbraced word) inside words ∙ first
+    (sym is) ∙ tied_head (123 ∷ unbraced word) inside words ∙ first
 
 -- ---- where a command is closed
 

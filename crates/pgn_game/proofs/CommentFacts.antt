@@ -1,16 +1,13 @@
 -- Where a comment is cut at white space.
-use Rattle.std.proofs.Common.{◌≡◌, ℕ, ◌+◌, ◌-◌, ◌<◌, ◌≤◌, true, false, List, [], ◌∷◌, ◌++◌, length}
-use Rattle.std.proofs.Common.{take, drop, get_or, refl, sym, ap, subst, ◌∙◌, arith}
-use Rattle.std.proofs.Common.{append_assoc, length-append}
-use Rattle.std.specs.Prelude.{if◌then◌else◌, ◌==◌, not, filter}
-use Rattle.std.proofs.Math.Seq.{take-append_seam}
 use Rattle.std.proofs.lemmas.Bool.{ne_eqb, both_ways}
-use Rattle.std.proofs.lemmas.Bool.Decides.{nat_tests}
-use Rattle.pgn_text.specs.Public.Bytes.{is_white, is_empty}
-use Rattle.pgn_game.specs.Public.Comments.{in_first, cut_at_white, words_in, unbraced, later_word}
+use Rattle.pgn_game.proofs.Common.{◌≡◌, ℕ, ◌+◌, ◌-◌, ◌<◌, ◌≤◌, true, false, List, [], ◌∷◌, ◌++◌}
+use Rattle.pgn_game.proofs.Common.{length, take, drop, get_or, refl, sym, ap, subst, ◌∙◌, arith}
+use Rattle.pgn_game.proofs.Common.{append_assoc, length-append, if◌then◌else◌, ◌==◌, not, filter}
+use Rattle.pgn_game.proofs.Common.{take-append_seam, nat_tests, is_white, is_empty, in_first}
+use Rattle.pgn_game.proofs.Common.{cut_at_white, words_in, unbraced, later_word, word_front}
+use Rattle.pgn_game.proofs.Common.{after_front, after_white, IsAfterBare}
 use Rattle.chess.specs.Shared.SetFacts.{false_of}
-use Rattle.pgn_game.specs.Private.CommentWords.{word_front, after_front, after_white, IsBare}
-use Rattle.pgn_game.specs.Private.CommentWords.{IsAfterBare, IsAfterKept}
+use Rattle.pgn_game.specs.Private.CommentWords.{IsBare, IsAfterKept}
 
 -- a text is its first run and what follows it
 pub front_whole : (text : List ℕ) → word_front text ++ after_front text ≡ text
@@ -177,8 +174,7 @@ words_at (b ∷ text) full =
     (false_of (is_white b) (λ white. full (ap (λ t. if t then [] else b ∷ word_front text) white)))
 
 pub kept_word : (text word rest : List ℕ) → word ≡ word_front text → rest ≡ after_front text
-    → (word ≡ [] → ⊥) → IsBare word → later_word word ≡ unbraced word
-    → IsAfterKept text rest
+    → (word ≡ [] → ⊥) → IsBare word → later_word word ≡ unbraced word → IsAfterKept text rest
 kept_word text word rest front after full bare later = record {
   word = word;
   whole = sym (front_whole text) ∙ ap (λ w. w ++ after_front text) (sym front)

@@ -1,37 +1,26 @@
 -- Worked rows of exports: tags, comments, tokens in lines, and games on a line; and what these
 -- definitions refuse.
-use Rattle.std.proofs.Common.{◌≡◌, ◌≢◌, ◌<◌, ◌+◌, ◌-◌, ◌∙◌, ℕ, decimal, flat_map, Bool, true, false}
-use Rattle.std.proofs.Common.{List, [], ◌∷◌, ◌++◌, length, codes, Option, None, Some, ap, refl, sym}
-use Rattle.std.proofs.Common.{arith}
-use Rattle.chess.specs.Public.Positions.{State, IsCheck}
-use Rattle.chess.specs.Public.Start.{initial}
-use Rattle.chess.specs.declared.board.man.Kind.TheVariants.{Knight}
-use Rattle.chess.specs.declared.board.man.Side.TheVariants.{White, Black}
-use Rattle.chess.specs.declared.moves.Move.{Move}
-use Rattle.pgn_text.specs.Public.Games.{Item, MoveText, CommentText, VariationOpen, VariationClose}
-use Rattle.pgn_text.specs.Public.Strings.{Sign, Single, Escaped, spelled_sign, value_of_sign}
-use Rattle.pgn_game.specs.Public.AllLines.{LineEnd, ThenGlyph, SaysTurn}
-use Rattle.pgn_game.specs.Public.Comments.{in_first, cut_at_white, words_in, closed, braced}
-use Rattle.pgn_game.specs.Public.Comments.{begins_command, has_bracket, closes, leaves_open}
-use Rattle.pgn_game.specs.Public.Comments.{in_command, ties, in_front, tied, comment_tokens}
-use Rattle.pgn_game.specs.Public.Exports.{number_tokens, IsTurnText, kept, AreTokens}
-use Rattle.pgn_game.specs.Public.GameLines.{unspaced, IsStartText, promotion_letter, uci_text}
-use Rattle.pgn_game.specs.Public.GameLines.{IsMoveText, AreMoveTexts}
+use Rattle.std.proofs.Common.{decimal, flat_map, codes}
+use Rattle.pgn_game.proofs.Common.{◌≡◌, ◌≢◌, ◌<◌, ◌+◌, ◌-◌, ◌∙◌, ℕ, Bool, true, false, List, []}
+use Rattle.pgn_game.proofs.Common.{◌∷◌, ◌++◌, length, Option, None, Some, ap, refl, sym, arith}
+use Rattle.pgn_game.proofs.Common.{State, IsCheck, initial, Knight, White, Black, Move, Item}
+use Rattle.pgn_game.proofs.Common.{MoveText, CommentText, VariationOpen, VariationClose, Sign}
+use Rattle.pgn_game.proofs.Common.{Single, Escaped, value_of_sign, LineEnd, ThenGlyph, SaysTurn}
+use Rattle.pgn_game.proofs.Common.{in_first, cut_at_white, words_in, closed, braced, begins_command}
+use Rattle.pgn_game.proofs.Common.{has_bracket, closes, leaves_open, in_command, ties, in_front}
+use Rattle.pgn_game.proofs.Common.{tied, comment_tokens, number_tokens, IsTurnText, kept, AreTokens}
+use Rattle.pgn_game.proofs.Common.{unspaced, IsStartText, promotion_letter, uci_text, IsMoveText}
+use Rattle.pgn_game.proofs.Common.{AreMoveTexts, IsBeginning, played_items, after_move}
+use Rattle.pgn_game.proofs.Common.{in_its_place, is_variation, LeadTo, IsPlayedThere, Replay}
+use Rattle.pgn_game.proofs.Common.{roster, missing_text, escaped, IsTagText, tag_line, IsLineOf}
+use Rattle.pgn_game.proofs.Common.{AreLinesOf, joined, tokens_of, text_of, IsLine, IsFull, AreLines}
+use Rattle.pgn_game.proofs.Common.{Notation, Uci, Style, Main, All, LineMove, Played, Passed}
+use Rattle.pgn_text.specs.Public.Strings.{spelled_sign}
 use Rattle.pgn_game.specs.Public.GameLines.IsStartText.{as_initial, as_fen}
-use Rattle.pgn_game.specs.Public.Openings.{IsBeginning}
+use Rattle.pgn_game.specs.Public.Refusals.{PlayedLine}
+use Rattle.pgn_game.specs.Public.Replays.{IsMainReplay}
+use Rattle.pgn_game.specs.Public.TagLines.{IsValueText}
 use Rattle.pgn_game.specs.Public.PlayedLines as played
-use Rattle.pgn_game.specs.Public.Refusals.{PlayedLine, played_items, after_move, in_its_place}
-use Rattle.pgn_game.specs.Public.Refusals.{is_variation, LeadTo, IsPlayedThere}
-use Rattle.pgn_game.specs.Public.Replays.{Replay, IsMainReplay}
-use Rattle.pgn_game.specs.Public.TagLines.{roster, missing_text, escaped, IsValueText, IsTagText}
-use Rattle.pgn_game.specs.Public.TagLines.{tag_line, IsLineOf, AreLinesOf}
-use Rattle.pgn_game.specs.Public.TextLines.{joined, tokens_of, text_of, IsLine, IsFull, AreLines}
-use Rattle.pgn_game.specs.declared.exports.notation.Notation.{Notation}
-use Rattle.pgn_game.specs.declared.exports.notation.Notation.TheVariants.{Uci}
-use Rattle.pgn_game.specs.declared.exports.style.Style.{Style}
-use Rattle.pgn_game.specs.declared.replays.replayer.Lines.TheVariants.{Main, All}
-use Rattle.pgn_game.specs.declared.turns.line_move.LineMove.{LineMove}
-use Rattle.pgn_game.specs.declared.turns.line_move.LineMove.TheVariants.{Played, Passed}
 
 -- Lines that are played.
 
@@ -129,8 +118,7 @@ no_value_of_no_contents : IsValueText [] (codes "x") → ⊥
 no_value_of_no_contents (value, (signs, is), text) = none signs is.spells is.gives text
   where
     none : (signs : List Sign) → [] ≡ flat_map spelled_sign signs → value
-        ≡ flat_map value_of_sign signs
-        → codes "x" ≡ flat_map escaped value → ⊥
+        ≡ flat_map value_of_sign signs → codes "x" ≡ flat_map escaped value → ⊥
     none [] spells gives text = let same = ap (flat_map escaped) gives in cc
     none (Single b ∷ more) spells gives text = cc
     none (Escaped b ∷ more) spells gives text = cc
@@ -227,13 +215,11 @@ one_in_another : comment_tokens true (codes "[%a b [%c d] [%e f") ≡ codes "{[%
 one_in_another = refl
 
 no_command_without_its_end : comment_tokens true (codes "[%clk 0:01:00")
-    ≡ codes "{[%clk 0:01:00}" ∷ []
-    → ⊥
+    ≡ codes "{[%clk 0:01:00}" ∷ [] → ⊥
 no_command_without_its_end whole = cc
 
 no_command_without_its_sign : comment_tokens true (codes "[clk 0:01:00]")
-    ≡ codes "{[clk 0:01:00]}" ∷ []
-    → ⊥
+    ≡ codes "{[clk 0:01:00]}" ∷ [] → ⊥
 no_command_without_its_sign whole = cc
 
 -- Tokens in lines.

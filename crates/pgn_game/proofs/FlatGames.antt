@@ -1,18 +1,9 @@
 -- A game without variations: all its lines are its main line.
-use Rattle.std.proofs.Common.{◌≡◌, ◌∙◌, ℕ, false, List, [], ◌∷◌, Option, refl, ap, subst}
-use Rattle.chess.specs.Public.Positions.{State}
-use Rattle.chess.specs.Public.Moves.{after}
-use Rattle.chess.specs.declared.moves.Move.{Move}
-use Rattle.pgn_text.specs.Public.Games.{Item}
-use Rattle.pgn_text.specs.Public.GameTexts.{IsPaired}
-use Rattle.pgn_game.specs.Public.AllLines.{Line, LineEnd, ThenMove, ThenGlyph, ThenComment}
-use Rattle.pgn_game.specs.Public.AllLines.{ThenVariation, IsPlayed, own_words, spelled}
-use Rattle.pgn_game.specs.Private.LineWalks.{IsFlat}
-use Rattle.pgn_game.specs.Public.MainLines.{main_words, IsMainLine}
-use Rattle.pgn_game.specs.Public.Replays.{IsSoundGame}
-use Rattle.pgn_game.specs.declared.replays.replayer.Lines.TheVariants.{Main, All}
-use Rattle.pgn_game.specs.declared.turns.line_move.LineMove.{LineMove}
-use Rattle.pgn_game.specs.declared.turns.line_move.LineMove.TheVariants.{Played}
+use Rattle.pgn_game.proofs.Common.{◌≡◌, ◌∙◌, ℕ, false, List, [], ◌∷◌, Option, refl, ap, subst}
+use Rattle.pgn_game.proofs.Common.{State, after, Move, Item, IsPaired, Line, LineEnd, ThenMove}
+use Rattle.pgn_game.proofs.Common.{ThenGlyph, ThenComment, ThenVariation, IsPlayed, own_words}
+use Rattle.pgn_game.proofs.Common.{spelled, IsFlat, main_words, IsMainLine, IsSoundGame, Main, All}
+use Rattle.pgn_game.proofs.Common.{LineMove, Played}
 use Rattle.pgn_game.proofs.AnAnswer.{played_sound}
 use Rattle.pgn_game.proofs.OneLine.{main_words_of}
 use Rattle.pgn_game.proofs.Spelling.{one_spelt}

@@ -1,21 +1,13 @@
 -- A sound game has one line in each notation, and no other game has it.
-use Rattle.std.proofs.Common.{◌≡◌, ℕ, ◌+◌, List, [], ◌∷◌, ◌++◌, refl, sym, ap, ◌∙◌, subst, inr}
-use Rattle.std.proofs.Common.{append_assoc, append-nil}
 use Rattle.std.specs.Prelude.{Option}
-use Rattle.chess.specs.Public.Placements.{AreOnBoard}
-use Rattle.chess.specs.Public.Positions.{State, IsSound}
-use Rattle.chess.specs.Public.Moves.{after}
-use Rattle.chess.specs.declared.moves.Move.{Move}
-use Rattle.chess.proofs.OnBoard.{men_stay_on_board}
+use Rattle.pgn_game.proofs.Common.{◌≡◌, ℕ, ◌+◌, List, [], ◌∷◌, ◌++◌, refl, sym, ap, ◌∙◌, subst, inr}
+use Rattle.pgn_game.proofs.Common.{append_assoc, append-nil, AreOnBoard, State, IsSound, after}
+use Rattle.pgn_game.proofs.Common.{Move, men_stay_on_board, Item, MoveText, IsMoveFault}
+use Rattle.pgn_game.proofs.Common.{IsStartText, AreMoveTexts, IsGameLine, AreWritten, HasPutSome}
+use Rattle.pgn_game.proofs.Common.{PutsElement, IsMainLine, main_words, MainWalk, Notation}
 use Rattle.chess.proofs.SoundFacts.{after_sound}
-use Rattle.pgn_text.specs.Public.Games.{Item, MoveText}
-use Rattle.pgn_game.specs.Public.Faults.{IsMoveFault}
-use Rattle.pgn_game.specs.Public.GameLines.{IsStartText, AreMoveTexts, IsGameLine}
 use Rattle.pgn_game.specs.Public.GameLines.{SoundGameHasALine, GameHasOneLine, LineIsTheGame}
-use Rattle.pgn_game.specs.Private.LineTexts.{AreWritten, HasPutSome, PutsElement, PutsMove}
-use Rattle.pgn_game.specs.Public.MainLines.{IsMainLine, main_words}
-use Rattle.pgn_game.specs.declared.replays.main_line.MainWalk.{MainWalk}
-use Rattle.pgn_game.specs.declared.exports.notation.Notation.{Notation}
+use Rattle.pgn_game.specs.Private.LineTexts.{PutsMove}
 use Rattle.pgn_game.proofs.MoveTexts.{some_move_text, one_move_text, move_unspaced, same_by_text}
 use Rattle.pgn_game.proofs.OneReplay.{one_line, one_start}
 use Rattle.pgn_game.proofs.WalkFacts.{main_word}
@@ -44,13 +36,7 @@ some_move_texts notation now (word ∷ words) positions played stands (
     some_move_texts notation (after now m) words later more
     (men_stay_on_board now m stands named.named.legal) rest in (
       32 ∷ own.0 ++ others.0,
-      subst (λ ms. AreMoveTexts notation now ms (32 ∷ own.0 ++ others.0)) (sym played_is) (
-        own.0,
-        others.0,
-        refl,
-        own.1,
-        others.1,
-      ),
+      rw played_is (own.0, others.0, refl, own.1, others.1),
     )
 
 one_move_texts : (notation : Notation) (now : State) (played : List Move) (x y : List ℕ)
@@ -121,8 +107,7 @@ moves_end notation now (m ∷ more) x (own, rest, parted, spells, others) =
 
 same_played : (notation : Notation) (now : State) → IsSound now
     → (words others : List (List ℕ)) (positions states : List State) (played moves : List Move)
-    (x : List ℕ)
-    → IsMainLine now words positions played → IsMainLine now others states moves
+    (x : List ℕ) → IsMainLine now words positions played → IsMainLine now others states moves
     → AreMoveTexts notation now played x → AreMoveTexts notation now moves x → played ≡ moves
 same_played notation now sound [] [] positions states played moves x line other a b =
     line.1 ∙ sym other.1
@@ -225,8 +210,7 @@ line_is_the_game notation fen tag items others x y first second =
         (start_read_back tag second.start second.is_start) (rw parts.0 at first.begins)
         second.begins in
         let line : IsMainLine first.start (main_words others 0) second.positions second.played =
-        subst (λ s. IsMainLine s (main_words others 0) second.positions second.played)
-        (sym start) second.line in
+        rw start second.line in
         let texts : AreMoveTexts notation first.start second.played second.moves =
         subst (λ s. AreMoveTexts notation s second.played second.moves) (sym start)
         second.are_moves in (
@@ -241,8 +225,7 @@ one_game_line notation fen items x y first second =
     let start : first.start ≡ second.start =
     one_start fen first.start second.start first.is_start second.is_start in
     let line : IsMainLine first.start (main_words items 0) second.positions second.played =
-    subst (λ s. IsMainLine s (main_words items 0) second.positions second.played) (sym start)
-    second.line in
+    rw start second.line in
     lines_same notation fen fen items items x y first second start
     (one_line first.start (main_words items 0) first.positions second.positions first.played
     second.played first.line line).1
@@ -300,8 +283,7 @@ put_more {notation} {start} {words} {before = before} {items = items} some puts 
 }
 
 pub put_ends : {notation : Notation} {start : State} {words : List (List ℕ)} {walk : MainWalk}
-    {before after : List ℕ}
-    → HasPutSome notation start words walk before after []
+    {before after : List ℕ} → HasPutSome notation start words walk before after []
     → (text : List ℕ) × AreWritten notation start words text × (after ≡ before ++ text)
 put_ends {notation} {start} {words} some = (
   some.own,
@@ -317,8 +299,7 @@ puts_move {notation} {old} {new} word outside puts = record {
   own = 32 ∷ puts.own;
   put = puts.put;
   completes =
-      λ items rest are. subst (λ ws.
-      AreWritten notation old.position ws (32 ∷ puts.own ++ rest)) (sym (words items)) (
+      λ items rest are. rw (words items) (
         puts.m,
         puts.own,
         rest,
@@ -327,15 +308,12 @@ puts_move {notation} {old} {new} word outside puts = record {
         puts.spells,
         subst (λ s. AreWritten notation s (main_words items new.depth) rest) puts.position are,
       );
-  faults = λ items fault met. subst (λ ws.
-      IsMoveFault old.position old.plies ws fault) (sym (words items))
-      (inr (
-        puts.m,
-        puts.named,
-        subst (λ s. IsMoveFault s (old.plies + 1) (main_words items new.depth) fault) puts.position
-            (subst (λ n. IsMoveFault new.position n (main_words items new.depth) fault) puts.plies
-            met),
-      ));
+  faults = λ items fault met. rw (words items) (inr (
+    puts.m,
+    puts.named,
+    rw (← puts.position) (rw
+        (← puts.plies) met),
+  ));
 }
   where
     words : (items : List Item) → main_words (MoveText word ∷ items) old.depth

@@ -2,12 +2,8 @@
 use Rattle.std.proofs.Common.{◌≡◌, ℕ, zero, suc, ◌+◌, ◌*◌, ◌/◌, ◌%◌, ◌^◌, ◌<◌, ◌==◌, Bool, true}
 use Rattle.std.proofs.Common.{false, List, ◌++◌, length, Option, Some, None, Ok, refl, sym, ap}
 use Rattle.std.proofs.Common.{subst, ◌∙◌, arith, inl, inr}
-use Rattle.std.specs.Prelude.{IfSome, is_some}
-use Rattle.pgn_text.specs.Public.GameTexts.{IsResult}
-use Rattle.pgn_game.specs.Public.PlyCodes.{marks_number}
-use Rattle.pgn_game.specs.Public.PackedGames.{head_of, name_bytes, named_number, result_number}
-use Rattle.pgn_game.specs.Public.PackedGames.{numbered_result}
-use Rattle.pgn_game.specs.Public.PackReading.{text_at, name_at}
+use Rattle.pgn_game.proofs.Common.{IfSome, is_some, IsResult, marks_number, head_of, name_bytes}
+use Rattle.pgn_game.proofs.Common.{named_number, result_number, numbered_result, text_at, name_at}
 use Rattle.pgn_game.specs.Public.Laws.{HeadIsReadBack}
 use Rattle.pgn_game.proofs.PlyCodeFacts.{first_mark, second_mark}
 use Rattle.pgn_game.proofs.RecordFields.{IsBytes, Takes, bind_ok, ok_is, text_takes, text_again}
@@ -117,8 +113,7 @@ parts t n r m h name result mark is =
       count = omega arith;
       named = omega arith;
       result = omega arith;
-      check =
-          omega arith;
+      check = omega arith;
       stuck = omega arith;
     }
 

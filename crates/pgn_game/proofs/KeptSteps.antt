@@ -1,21 +1,13 @@
 -- What is kept of the steps of a walk: the main line, and all turns.
-use Rattle.std.proofs.Common.{◌≡◌, ℕ, Bool, false, List, [], ◌∷◌, ◌++◌, length, refl, sym, ap, ◌∙◌}
-use Rattle.std.proofs.Common.{subst, append_assoc, append-nil, arith}
-use Rattle.std.proofs.lemmas.Bool.Decides.{nat_tests}
-use Rattle.std.specs.Prelude.{◌==◌, if◌then◌else◌}
-use Rattle.chess.specs.Public.Positions.{State}
-use Rattle.chess.specs.declared.moves.Move.{Move}
-use Rattle.pgn_text.specs.Public.Games.{Item, MoveText, GlyphNumber, CommentText, VariationOpen}
-use Rattle.pgn_text.specs.Public.Games.{VariationClose}
-use Rattle.pgn_game.specs.Public.AllLines.{IsTurn, after_turn}
+use Rattle.pgn_game.proofs.Common.{◌≡◌, ℕ, Bool, false, List, [], ◌∷◌, ◌++◌, length, refl, sym, ap}
+use Rattle.pgn_game.proofs.Common.{◌∙◌, subst, append_assoc, append-nil, arith, nat_tests, ◌==◌}
+use Rattle.pgn_game.proofs.Common.{if◌then◌else◌, State, Move, Item, MoveText, GlyphNumber}
+use Rattle.pgn_game.proofs.Common.{CommentText, VariationOpen, VariationClose, IsTurn, after_turn}
+use Rattle.pgn_game.proofs.Common.{main_words, IsMainLine, Step, Turned, Visits, Walks, WalksOn}
+use Rattle.pgn_game.proofs.Common.{around, LineMove, Played, Passed, LineStack, Level}
 use Rattle.pgn_game.specs.Private.LineWalks.{is_inside, gone_on, begun, first_level, main_now, Runs}
-use Rattle.pgn_game.specs.Public.MainLines.{main_words, IsMainLine}
-use Rattle.pgn_game.specs.Private.Steps.{Step, Turned, Visits, Walks, WalksOn, KeepsStep, around}
+use Rattle.pgn_game.specs.Private.Steps.{KeepsStep}
 use Rattle.pgn_game.specs.declared.replays.all_lines.ReplayKeeper.{ReplayKeeper}
-use Rattle.pgn_game.specs.declared.turns.line_move.LineMove.{LineMove}
-use Rattle.pgn_game.specs.declared.turns.line_move.LineMove.TheVariants.{Played, Passed}
-use Rattle.pgn_game.specs.declared.replays.line_stack.LineStack.{LineStack}
-use Rattle.pgn_game.specs.declared.replays.walk.Level.{Level}
 use Rattle.pgn_game.proofs.StepFacts.{turns_of, walks_run}
 
 -- what was kept from here on is the rest of the main line, and the turns of the steps
@@ -42,16 +34,12 @@ passed rest items l line o outer more steps old mid new same turns now words kep
   played = kept.played ∙ ap (λ (k : ReplayKeeper). k.played.items ++ kept.more) same;
   turns = kept.turns ∙ ap (λ (k : ReplayKeeper). k.turns.items ++ turns_of more) same
       ∙ ap (λ ts. old.turns.items ++ ts) turns;
-  is_line =
-      subst (λ s. IsMainLine s (main_words items (length outer)) (s ∷ kept.later) kept.more) now
-      (subst (λ ws. IsMainLine (main_now l o) ws (main_now l o ∷ kept.later) kept.more) words
-      kept.is_line);
+  is_line = rw (← now) (rw (← words) kept.is_line);
 }
 
 -- a turn, by the lines around it
 turned : (outer : List Level) (line : Level) (word : List ℕ) (turn : LineMove) (items : List Item)
-    (more : List Step) (old mid new : ReplayKeeper)
-    → IsTurn (is_inside outer) line.now word turn
+    (more : List Step) (old mid new : ReplayKeeper) → IsTurn (is_inside outer) line.now word turn
     → KeepsStep old (Turned (is_inside outer) line.now turn) mid
     → KeptRest items (gone_on line turn) outer more mid new
     → KeptRest (MoveText word ∷ items) line outer (Turned (is_inside outer) line.now turn
@@ -82,10 +70,7 @@ turned (out ∷ outer) line word turn items more old mid new says keeps kept =
       played = kept.played ∙ ap (λ ms. ms ++ kept.more) keeps.1.1;
       turns = kept.turns ∙ ap (λ ts. ts ++ turns_of more) keeps.0
           ∙ append_assoc old.turns.items (turn ∷ []) (turns_of more);
-      is_line =
-          subst (λ ws.
-          IsMainLine (main_now line (out ∷ outer)) ws (main_now line (out ∷ outer)
-          ∷ kept.later) kept.more) (sym words) kept.is_line;
+      is_line = rw words kept.is_line;
     }
 
 pub kept_rest : (items : List Item) (line : Level) (outer : List Level) (steps : List Step)
@@ -105,9 +90,8 @@ kept_rest [] line outer steps old new none visits =
     }
 kept_rest (MoveText word ∷ items) line outer steps old new (turn, more, is, says, walks) visits =
     let first = subst (λ ss. Visits KeepsStep old ss new) is visits in
-    subst (λ ss. KeptRest (MoveText word ∷ items) line outer ss old new) (sym is)
-    (turned outer line word turn items more old first.0 new says first.1
-    (kept_rest items (gone_on line turn) outer more first.0 new walks first.2))
+    rw is (turned outer line word turn items more old first.0 new says first.1 (kept_rest items
+    (gone_on line turn) outer more first.0 new walks first.2))
 kept_rest (GlyphNumber number ∷ items) line outer steps old new (more, is, walks) visits =
     let first = subst (λ ss. Visits KeepsStep old ss new) is visits in
     passed items (GlyphNumber number
@@ -148,9 +132,7 @@ pub kept_all : (start : State) (items : List Item) (stack : LineStack Level) (st
     → old.positions.items ≡ start ∷ [] → old.played.items ≡ [] → old.turns.items ≡ []
     → WalksOn stack items steps → Visits KeepsStep old steps new → KeptAll start items new
 kept_all start items stack steps old new outside line positions played turns on visits =
-    let walks =
-    subst (λ level. Walks items level [] steps) line
-    (subst (λ outer. Walks items stack.line outer steps) outside on) in
+    let walks = rw line at (subst (λ outer. Walks items stack.line outer steps) outside on) in
     let kept = kept_rest items (first_level start) [] steps old new walks visits in
     let all_positions : new.positions.items ≡ start ∷ kept.later =
     kept.positions ∙ ap (λ ps. ps ++ kept.later) positions in
@@ -159,11 +141,6 @@ kept_all start items stack steps old new outside line positions played turns on 
     let all_turns : new.turns.items ≡ turns_of steps =
     kept.turns ∙ ap (λ ts. ts ++ turns_of steps) turns in
     record {
-      is_line =
-          subst (λ ps. IsMainLine start (main_words items 0) ps new.played.items)
-          (sym all_positions)
-          (subst (λ ms. IsMainLine start (main_words items 0) (start ∷ kept.later) ms)
-          (sym all_played) kept.is_line);
-      runs = subst (λ ts. Runs items (first_level start) [] ts) (sym all_turns)
-          (walks_run items (first_level start) [] steps walks);
+      is_line = rw (← all_positions) at (rw (← all_played) at kept.is_line);
+      runs = rw (← all_turns) at (walks_run items (first_level start) [] steps walks);
     }

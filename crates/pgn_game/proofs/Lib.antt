@@ -1,3 +1,4 @@
+pub mod Common
 pub mod OneReplay
 pub mod Openings
 pub mod Tags

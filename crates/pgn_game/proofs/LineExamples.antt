@@ -1,23 +1,14 @@
 -- What the definitions refuse: of a main line that is played ply by ply, of the moves of a replay,
 -- and of an export.
-use Rattle.std.proofs.Common.{◌≡◌, ◌∙◌, ℕ, List, [], ◌∷◌, ◌++◌, Option, Some, codes, ap, inr, refl}
-use Rattle.std.proofs.Common.{sym, subst, arith}
-use Rattle.std.proofs.lemmas.Option.{same_Some}
-use Rattle.std.specs.List.{slice_get}
-use Rattle.chess.specs.Public.Positions.{State}
-use Rattle.chess.specs.Public.San.{IsNamed}
-use Rattle.chess.specs.declared.moves.Move.{Move}
-use Rattle.pgn_text.specs.Public.Blocks.{event_line}
-use Rattle.pgn_text.specs.Public.Games.{Item}
-use Rattle.pgn_game.specs.Public.Laws.{EachMoveIsNamed, IsReadAsOne}
-use Rattle.pgn_game.specs.Public.MainLines.{main_words}
-use Rattle.pgn_game.specs.Public.PlayedLines.{PlayedLine, HasEnded}
-use Rattle.pgn_game.specs.Public.Replays.{Replay, IsReplay}
-use Rattle.pgn_game.specs.declared.replays.replayer.Lines.{Lines}
+use Rattle.std.proofs.Common.{codes}
+use Rattle.pgn_game.proofs.Common.{◌≡◌, ◌∙◌, ℕ, List, [], ◌∷◌, ◌++◌, Option, Some, ap, inr, refl}
+use Rattle.pgn_game.proofs.Common.{sym, subst, arith, same_Some, slice_get, State, IsNamed, Move}
+use Rattle.pgn_game.proofs.Common.{event_line, Item, IsReadAsOne, main_words, PlayedLine, HasEnded}
+use Rattle.pgn_game.proofs.Common.{Replay, IsReplay, Lines}
+use Rattle.pgn_game.specs.Public.Laws.{EachMoveIsNamed}
 
 -- a line that is at its end goes on by no ply, and has no word left
-no_ply_at_the_end : (now : State)
-    → HasEnded (record { position = now; plies = 1; words = [] })
+no_ply_at_the_end : (now : State) → HasEnded (record { position = now; plies = 1; words = [] })
     (record { position = now; plies = 2; words = [] }) → ⊥
 no_ply_at_the_end now ended = let same : 2 ≡ 1 = ap (λ line. line.plies) ended.same in
     absurd (omega (arith, same))

@@ -1,11 +1,9 @@
 -- Tokens that a wrapper wrote one after another.
-use Rattle.std.proofs.Common.{◌≡◌, ◌+◌, ◌≤◌, ℕ, true, List, [], ◌∷◌, ◌++◌, length, sym, ap, subst}
-use Rattle.std.proofs.Common.{◌∙◌, arith, append_assoc, length-append}
 use Rattle.std.specs.Prelude.{nat_le}
-use Rattle.std.proofs.lemmas.Bool.Decides.{nat_tests}
-use Rattle.pgn_game.specs.Private.LineWrappers.{HasPut, added, parted, column_after, after_tokens}
-use Rattle.pgn_game.specs.Public.TextLines.{joined}
-use Rattle.pgn_game.specs.declared.exports.line_wrapper.LineWrapper.{LineWrapper}
+use Rattle.pgn_game.proofs.Common.{◌≡◌, ◌+◌, ◌≤◌, ℕ, true, List, [], ◌∷◌, ◌++◌, length, sym, ap}
+use Rattle.pgn_game.proofs.Common.{subst, ◌∙◌, arith, append_assoc, length-append, nat_tests}
+use Rattle.pgn_game.proofs.Common.{HasPut, added, parted, column_after, after_tokens, joined}
+use Rattle.pgn_game.proofs.Common.{LineWrapper}
 
 -- what was written in two goes is written in one
 pub put_both : (old middle new : LineWrapper) (before between after : List ℕ)
@@ -39,8 +37,7 @@ in_one_line width column first (next ∷ rest) more fits =
     ≡ column + 1 + length (first ++ (32 ∷ after)) = omega arith in
     ap (λ t. parted t first
     ++ added width (column_after t column (length first)) (next ∷ (rest ++ more)))
-    (within (column + 1 + length first) width fits_first)
-    ∙ ap (λ x. 32 ∷ (first ++ x))
+    (within (column + 1 + length first) width fits_first) ∙ ap (λ x. 32 ∷ (first ++ x))
     (in_one_line width (column + 1 + length first) next rest more fits_rest)
     ∙ ap (λ x. 32
     ∷ x) (sym (append_assoc first (32
@@ -48,15 +45,13 @@ in_one_line width column first (next ∷ rest) more fits =
     ∙ ap (λ n. 32 ∷ ((first ++ (32 ∷ after)) ++ added width n more)) end
 
 put_joined : (old new : LineWrapper) (before after : List ℕ) (first : List ℕ) (rest : List (List ℕ))
-    → old.begun ≡ true
-    → old.column + 1 + length (joined (first ∷ rest)) ≤ old.width
+    → old.begun ≡ true → old.column + 1 + length (joined (first ∷ rest)) ≤ old.width
     → HasPut old new before after (joined (first ∷ rest) ∷ [])
     → HasPut old new before after (first ∷ rest)
 put_joined old new before after first rest begun fits put more =
     put more
     ∙ ap (λ b. before ++ after_tokens old.width b old.column (joined (first ∷ rest) ∷ more))
-    begun
-    ∙ ap (λ x. before ++ x)
+    begun ∙ ap (λ x. before ++ x)
     (in_one_line old.width old.column (joined (first ∷ rest)) [] more fits
     ∙ sym (in_one_line old.width old.column first rest more fits))
     ∙ sym (ap (λ b. before ++ after_tokens old.width b old.column (first ∷ (rest ++ more))) begun)

@@ -1,29 +1,19 @@
 -- The text of a move in a notation: each legal move has one, which holds no space, and no other
 -- legal move has it.
-use Rattle.std.proofs.Common.{◌≡◌, ℕ, ◌+◌, ◌≤◌, List, [], ◌∷◌, refl, sym, ap, ◌∙◌, subst, arith}
-use Rattle.std.proofs.lemmas.Option.{same_Some}
-use Rattle.std.specs.Prelude.{Option, Some, None, ◌==◌, if◌then◌else◌}
-use Rattle.chess.specs.Public.Squares.{Place, gap}
-use Rattle.chess.specs.Public.Placements.{AreOnBoard, man_at}
-use Rattle.chess.specs.Public.Positions.{State, IsSound, king_from, king_to}
-use Rattle.chess.specs.Public.Moves.{Castles, Goes, IsKingMove, IsLegal}
+use Rattle.std.specs.Prelude.{Option, Some, None}
+use Rattle.pgn_game.proofs.Common.{◌≡◌, ℕ, ◌+◌, ◌≤◌, List, [], ◌∷◌, refl, sym, ap, ◌∙◌, subst}
+use Rattle.pgn_game.proofs.Common.{arith, same_Some, ◌==◌, if◌then◌else◌, Place, AreOnBoard, man_at}
+use Rattle.pgn_game.proofs.Common.{State, IsSound, Goes, IsLegal, kind_letter, Man, Kind, King}
+use Rattle.pgn_game.proofs.Common.{Queen, Rook, Bishop, Knight, Pawn, Side, Wing, KingSide}
+use Rattle.pgn_game.proofs.Common.{QueenSide, Move, one_san, some_san, IsMoveText, promotion_letter}
+use Rattle.pgn_game.proofs.Common.{uci_text, Notation, Uci, Played}
+use Rattle.chess.specs.Public.Squares.{gap}
+use Rattle.chess.specs.Public.Positions.{king_from, king_to}
+use Rattle.chess.specs.Public.Moves.{Castles, IsKingMove}
 use Rattle.chess.specs.Public.Attacks.{IsNear}
-use Rattle.chess.specs.Public.Letters.{kind_letter}
-use Rattle.chess.specs.declared.board.man.Man.{Man}
-use Rattle.chess.specs.declared.board.man.Kind.{Kind}
-use Rattle.chess.specs.declared.board.man.Kind.TheVariants.{King, Queen, Rook, Bishop, Knight, Pawn}
-use Rattle.chess.specs.declared.board.man.Side.{Side}
-use Rattle.chess.specs.declared.board.man.Wing.{Wing}
-use Rattle.chess.specs.declared.board.man.Wing.TheVariants.{KingSide, QueenSide}
-use Rattle.chess.specs.declared.moves.Move.{Move}
 use Rattle.chess.proofs.SanNamesFacts.{san_names}
-use Rattle.chess.proofs.SanOnce.{one_san}
-use Rattle.chess.proofs.SanSettled.{some_san}
 use Rattle.chess.proofs.PlaceFacts.{place_of}
-use Rattle.pgn_game.specs.Public.GameLines.{IsMoveText, promotion_letter, uci_text}
-use Rattle.pgn_game.specs.declared.exports.notation.Notation.{Notation}
-use Rattle.pgn_game.specs.declared.exports.notation.Notation.TheVariants.{San, Uci}
-use Rattle.pgn_game.specs.declared.turns.line_move.LineMove.TheVariants.{Played}
+use Rattle.pgn_game.specs.declared.exports.notation.Notation.TheVariants.{San}
 use Rattle.pgn_game.proofs.PlainTokens.{IsSolid, kind_high, turn_may}
 use Rattle.pgn_game.proofs.StartTexts.{IsUnspaced}
 
@@ -129,8 +119,7 @@ module _ (P : State) (m n : Move) (legal : IsLegal P m) (also : IsLegal P n) (fr
         from = from i;
         to = to i;
         promote = promote i;
-        castle =
-            same_castle m.castle n.castle refl refl i;
+        castle = same_castle m.castle n.castle refl refl i;
       }
 
 -- a letter is that of one kind
@@ -166,8 +155,7 @@ same_uci P m n legal also same =
     (same_promotion m.promote n.promote rest)
 
 pub same_by_text : (notation : Notation) (P : State) (m n : Move) (x : List ℕ) → IsSound P
-    → IsLegal P m → IsLegal P n
-    → IsMoveText notation P m x → IsMoveText notation P n x → m ≡ n
+    → IsLegal P m → IsLegal P n → IsMoveText notation P m x → IsMoveText notation P n x → m ≡ n
 same_by_text San P m n x sound legal also a b =
     (san_names P n x sound also b).only m (san_names P m x sound legal a).named
 same_by_text Uci P m n x sound legal also a b = same_uci P m n legal also (sym a ∙ b)

@@ -1,9 +1,6 @@
 -- What a wrapper writes.
-use Rattle.std.proofs.Common.{◌≡◌, ℕ, false, List, [], ◌∷◌, ◌++◌, refl, ap, ◌∙◌, append_assoc}
-use Rattle.std.proofs.Common.{append-nil}
-use Rattle.pgn_game.specs.Private.LineWrappers.{HasPut, after_tokens}
-use Rattle.pgn_game.specs.Public.TextLines.{IsLaid}
-use Rattle.pgn_game.specs.declared.exports.line_wrapper.LineWrapper.{LineWrapper}
+use Rattle.pgn_game.proofs.Common.{◌≡◌, ℕ, false, List, [], ◌∷◌, ◌++◌, refl, ap, ◌∙◌, append_assoc}
+use Rattle.pgn_game.proofs.Common.{append-nil, HasPut, after_tokens, IsLaid, LineWrapper}
 use Rattle.pgn_game.proofs.LaidFacts.{added_is_laid}
 
 -- what grew twice grew

@@ -1,41 +1,22 @@
 -- What is written of a line, by the line that its elements spell.
-use Rattle.std.proofs.Common.{◌≡◌, ℕ, ◌+◌, ◌-◌, ◌<◌, Bool, true, false, List, [], ◌∷◌, ◌++◌, refl}
-use Rattle.std.proofs.Common.{sym, ap, ◌∙◌, subst, append_assoc, append-nil, inl, inr, arith}
 use Rattle.std.proofs.Math.Bool.{or_comm}
-use Rattle.std.proofs.lemmas.Bool.Decides.{nat_tests}
-use Rattle.std.proofs.lemmas.Option.{same_Some}
-use Rattle.std.specs.List.{slice_get}
 use Rattle.std.specs.Prelude.{◌==◌, ◌||◌, if◌then◌else◌, Option, Some, None, IfSome, codes, decimal}
-use Rattle.chess.specs.Public.Positions.{State}
-use Rattle.chess.specs.Public.Moves.{after}
-use Rattle.chess.specs.Public.San.{IsOnlyNamed}
-use Rattle.chess.specs.declared.moves.Move.{Move}
-use Rattle.pgn_text.specs.Public.GameTexts.{IsPaired}
-use Rattle.pgn_text.specs.Public.Games.{Item, MoveText, GlyphNumber, CommentText, VariationOpen}
-use Rattle.pgn_text.specs.Public.Games.{VariationClose}
-use Rattle.pgn_game.specs.Public.AllLines.{Line, LineEnd, ThenMove, ThenGlyph, ThenComment}
-use Rattle.pgn_game.specs.Public.AllLines.{ThenVariation, spelled, own_words, SaysTurn, after_turn}
-use Rattle.pgn_game.specs.Public.AllLines.{IsPlayed}
-use Rattle.pgn_game.specs.Public.Comments.{comment_tokens}
-use Rattle.pgn_game.specs.Public.Exports.{number_tokens, kept, lines_with, AreMovetextTokens}
-use Rattle.pgn_game.specs.Public.Exports.{AreTokens, IsReplayFor}
-use Rattle.pgn_game.specs.Public.Faults.{Fault, HasLineFault, IsMoveFault}
-use Rattle.pgn_game.specs.Private.LineWalks.{Stops, begun, first_level, gone_on, is_inside}
-use Rattle.pgn_game.specs.Public.MainLines.{main_words, IsMainLine}
+use Rattle.pgn_game.proofs.Common.{◌≡◌, ℕ, ◌+◌, ◌-◌, ◌<◌, Bool, true, false, List, [], ◌∷◌, ◌++◌}
+use Rattle.pgn_game.proofs.Common.{refl, sym, ap, ◌∙◌, subst, append_assoc, append-nil, inl, inr}
+use Rattle.pgn_game.proofs.Common.{arith, nat_tests, same_Some, slice_get, State, after}
+use Rattle.pgn_game.proofs.Common.{IsOnlyNamed, Move, IsPaired, Item, MoveText, GlyphNumber}
+use Rattle.pgn_game.proofs.Common.{CommentText, VariationOpen, VariationClose, Line, LineEnd}
+use Rattle.pgn_game.proofs.Common.{ThenMove, ThenGlyph, ThenComment, ThenVariation, spelled}
+use Rattle.pgn_game.proofs.Common.{own_words, SaysTurn, after_turn, IsPlayed, comment_tokens}
+use Rattle.pgn_game.proofs.Common.{number_tokens, kept, lines_with, AreMovetextTokens, AreTokens}
+use Rattle.pgn_game.proofs.Common.{Fault, HasLineFault, IsMoveFault, Stops, begun, first_level}
+use Rattle.pgn_game.proofs.Common.{gone_on, is_inside, main_words, IsMainLine, HasPut, Step, Visits}
+use Rattle.pgn_game.proofs.Common.{Walks, WalksOn, around, shown_items, Replay, AreTurns, IsReplay}
+use Rattle.pgn_game.proofs.Common.{IsSoundGame, fault_of, IsStart, Level, GameFault, LineStack}
+use Rattle.pgn_game.proofs.Common.{MovetextWriter, All, Style, LineMove, Played, Passed}
+use Rattle.pgn_game.specs.Public.Exports.{IsReplayFor}
 use Rattle.pgn_game.specs.Private.MovetextWalks.{WritesStep}
-use Rattle.pgn_game.specs.Private.LineWrappers.{HasPut}
-use Rattle.pgn_game.specs.Private.Steps.{Step, Visits, Walks, WalksOn, around, outside, shown_if}
-use Rattle.pgn_game.specs.Private.Steps.{shown_items}
-use Rattle.pgn_game.specs.Public.Replays.{Replay, AreTurns, IsReplay, IsSoundGame, fault_of}
-use Rattle.pgn_game.specs.Public.Starts.{IsStart}
-use Rattle.pgn_game.specs.declared.replays.walk.Level.{Level}
-use Rattle.pgn_game.specs.declared.turns.fault.GameFault.{GameFault}
-use Rattle.pgn_game.specs.declared.replays.line_stack.LineStack.{LineStack}
-use Rattle.pgn_game.specs.declared.exports.movetext.MovetextWriter.{MovetextWriter}
-use Rattle.pgn_game.specs.declared.replays.replayer.Lines.TheVariants.{All}
-use Rattle.pgn_game.specs.declared.exports.style.Style.{Style}
-use Rattle.pgn_game.specs.declared.turns.line_move.LineMove.{LineMove}
-use Rattle.pgn_game.specs.declared.turns.line_move.LineMove.TheVariants.{Played, Passed}
+use Rattle.pgn_game.specs.Private.Steps.{outside, shown_if}
 use Rattle.pgn_game.proofs.OneLine.{main_words_of}
 use Rattle.pgn_game.proofs.OneReplay.{line_head, no_fault}
 use Rattle.pgn_game.proofs.LineWrapperFacts.{put_both}
@@ -93,8 +74,7 @@ main_stops (VariationClose ∷ items) depth level fault stops =
 
 -- the fault of the lines that are written
 pub written_fault : (variations : Bool) (start : State) (items : List Item) (fault : Fault)
-    → IsPaired 0 items
-    → Stops (shown_items variations 0 items) (first_level start) [] fault
+    → IsPaired 0 items → Stops (shown_items variations 0 items) (first_level start) [] fault
     → HasLineFault (lines_with variations) start items fault
 written_fault true start items fault paired stops = stops_faulty start items fault paired stops
 written_fault false start items fault paired stops =
@@ -107,8 +87,7 @@ pub starts_there : (style : Style) (fen : Option (List ℕ)) (items : List Item)
     → slice_get replay.positions 0 ≡ Some now → is.2.start ≡ now
 starts_there style fen items replay now (lines, all, is) here =
     same_Some is.start now
-    (sym (line_head is.start (main_words items 0) replay.positions replay.played is.line)
-    ∙ here)
+    (sym (line_head is.start (main_words items 0) replay.positions replay.played is.line) ∙ here)
 
 -- ---- the tokens of all lines
 
@@ -157,9 +136,7 @@ module _ (style : Style) where
       let number = number_tokens at.now.turn at.now.fullmove_number apart in
       let put : HasPut old.wrapper first.0.wrapper old.out.items first.0.out.items (number
       ++ text ∷ []) =
-      subst (λ a.
-      HasPut old.wrapper first.0.wrapper old.out.items first.0.out.items
-      (number_tokens at.now.turn at.now.fullmove_number a ++ text ∷ [])) stands puts.put in
+      rw (← stands) puts.put in
       record {
         own = number ++ text ∷ there.own;
         mid = there.mid;
@@ -186,9 +163,7 @@ module _ (style : Style) where
       ∙ same) (puts.stands ∙ stands) walks first.2 in
       let glyph = kept style.glyphs ((36 ∷ decimal number) ∷ []) in
       let put : HasPut old.wrapper first.0.wrapper old.out.items first.0.out.items glyph =
-      subst (λ (s : Style).
-      HasPut old.wrapper first.0.wrapper old.out.items first.0.out.items
-      (kept s.glyphs ((36 ∷ decimal number) ∷ []))) same puts.put in
+      rw (← same) puts.put in
       record {
         own = glyph ++ there.own;
         mid = there.mid;
@@ -215,9 +190,7 @@ module _ (style : Style) where
       ∙ ap (λ (s : Style). apart || s.comments) same) walks first.2 in
       let remark = kept style.comments (comment_tokens style.commands text) in
       let put : HasPut old.wrapper first.0.wrapper old.out.items first.0.out.items remark =
-      subst (λ (s : Style).
-      HasPut old.wrapper first.0.wrapper old.out.items first.0.out.items
-      (kept s.comments (comment_tokens s.commands text))) same puts.put in
+      rw (← same) puts.put in
       record {
         own = remark ++ there.own;
         mid = there.mid;
@@ -240,8 +213,7 @@ module _ (style : Style) where
       let inside =
       line_written inner (VariationClose ∷ (spelled line ++ rest)) true (begun at) (at
       ∷ outer) more first.0 new shown (opens.same ∙ same) opens.stands
-      (subst (λ items. Walks items (begun at) (at ∷ outer) more)
-      (append_assoc (spelled inner) (VariationClose ∷ spelled line) rest) walks) first.2 in
+      (rw (← (append_assoc (spelled inner) (VariationClose ∷ spelled line) rest)) walks) first.2 in
       let second = subst (λ ss. Visits WritesStep inside.mid ss new) inside.walks.1 inside.visits in
       let closes = second.1 in
       let there =
@@ -314,11 +286,8 @@ module _ (style : Style) where
       let last : new ≡ old = subst (λ ss. Visits WritesStep old ss new) none visits in
       record {
         own = [];
-        put =
-            subst (λ (w : MovetextWriter).
-            HasPut old.wrapper w.wrapper old.out.items w.out.items []) (sym last) (λ more. refl);
-        tokens =
-            refl;
+        put = rw last (λ more. refl);
+        tokens = refl;
       }
   main_written (ThenMove word line) apart at steps old new hidden same stands (
     turn,
@@ -336,9 +305,7 @@ module _ (style : Style) where
       let number = number_tokens at.now.turn at.now.fullmove_number apart in
       let put : HasPut old.wrapper first.0.wrapper old.out.items first.0.out.items (number
       ++ text ∷ []) =
-      subst (λ a.
-      HasPut old.wrapper first.0.wrapper old.out.items first.0.out.items
-      (number_tokens at.now.turn at.now.fullmove_number a ++ text ∷ [])) stands puts.put in
+      rw (← stands) puts.put in
       record {
         own = number ++ text ∷ there.own;
         put = subst (HasPut old.wrapper new.wrapper old.out.items new.out.items)
@@ -360,9 +327,7 @@ module _ (style : Style) where
       ∙ stands) walks first.2 in
       let glyph = kept style.glyphs ((36 ∷ decimal number) ∷ []) in
       let put : HasPut old.wrapper first.0.wrapper old.out.items first.0.out.items glyph =
-      subst (λ (s : Style).
-      HasPut old.wrapper first.0.wrapper old.out.items first.0.out.items
-      (kept s.glyphs ((36 ∷ decimal number) ∷ []))) same puts.put in
+      rw (← same) puts.put in
       record {
         own = glyph ++ there.own;
         put = put_both old.wrapper first.0.wrapper new.wrapper old.out.items
@@ -383,9 +348,7 @@ module _ (style : Style) where
       ∙ ap (λ (s : Style). apart || s.comments) same) walks first.2 in
       let remark = kept style.comments (comment_tokens style.commands text) in
       let put : HasPut old.wrapper first.0.wrapper old.out.items first.0.out.items remark =
-      subst (λ (s : Style).
-      HasPut old.wrapper first.0.wrapper old.out.items first.0.out.items
-      (kept s.comments (comment_tokens s.commands text))) same puts.put in
+      rw (← same) puts.put in
       record {
         own = remark ++ there.own;
         put = put_both old.wrapper first.0.wrapper new.wrapper old.out.items
@@ -395,8 +358,7 @@ module _ (style : Style) where
       }
   main_written (ThenVariation inner line) apart at steps old new hidden same stands walks visits =
       let there = main_written line apart at steps old new hidden same stands
-      (subst (λ items. Walks items at [] steps)
-      (skipped inner (VariationClose ∷ spelled line) 1 (omega arith)) walks) visits in
+      (rw (← (skipped inner (VariationClose ∷ spelled line) 1 (omega arith))) walks) visits in
       record {
         own = there.own;
         put = there.put;
@@ -425,16 +387,10 @@ pub written_tokens : (start : State) (items : List Item) (stack : LineStack Leve
     (steps : List Step) (old new : MovetextWriter) → IsPaired 0 items
     → around stack ≡ [] → stack.line ≡ first_level start → old.apart ≡ true
     → WalksOn stack (shown_items old.style.variations 0 items) steps
-    → Visits WritesStep old steps new
-    → WrittenTokens old.style start items old new
+    → Visits WritesStep old steps new → WrittenTokens old.style start items old new
 written_tokens start items stack steps old new paired none begins stands on visits =
     let spelt = one_spelt items paired in
-    let walks =
-    subst (λ xs. Walks (shown_items old.style.variations 0 xs) (first_level start) [] steps)
-    spelt.1
-    (subst (λ level. Walks (shown_items old.style.variations 0 items) level [] steps) begins
-    (subst (λ outer. Walks (shown_items old.style.variations 0 items) stack.line outer steps) none
-    on)) in
+    let walks = rw spelt.1 at (rw begins at (rw none at on)) in
     by old.style.variations refl spelt.0 spelt.1 walks
   where
     by : (variations : Bool) → old.style.variations ≡ variations → (line : Line)
@@ -445,8 +401,7 @@ written_tokens start items stack steps old new paired none begins stands on visi
         let there =
         line_written old.style line [] true (first_level start) [] steps old new shown refl
         stands
-        (subst (λ xs. Walks xs (first_level start) [] steps) (sym (append-nil (spelled line)))
-        walks) visits in
+        (rw (← (append-nil (spelled line))) at walks) visits in
         let last : new ≡ there.mid =
         subst (λ ss. Visits WritesStep there.mid ss new) there.walks there.visits in
         record {
@@ -454,9 +409,7 @@ written_tokens start items stack steps old new paired none begins stands on visi
           own = there.own;
           spells = spells;
           tokens = there.tokens;
-          put = subst (λ (w : MovetextWriter).
-              HasPut old.wrapper w.wrapper old.out.items w.out.items there.own)
-              (sym last) there.put;
+          put = rw (← last) at there.put;
         }
     by false hidden line spells walks =
         let there =
@@ -467,8 +420,7 @@ written_tokens start items stack steps old new paired none begins stands on visi
           own = there.own;
           spells = spells;
           tokens = there.tokens;
-          put =
-              there.put;
+          put = there.put;
         }
 
 -- ---- what is written is played
@@ -551,8 +503,7 @@ written_sound style fen start items result tokens is_start (line, own, spells, d
       record {
         start = start;
         is_start = is_start;
-        line =
-            subst (λ ws. IsMainLine start ws main.0 main.1) words main.2;
+        line = subst (λ ws. IsMainLine start ws main.0 main.1) words main.2;
         turns = turns.1;
       },
     )
@@ -565,8 +516,7 @@ written_sound style fen start items result tokens is_start (line, own, spells, d
 
 -- a game that is replayed has no fault of the lines that are written
 pub none_of_sound : (style : Style) (fen : Option (List ℕ)) (items : List Item) (replay : Replay)
-    (start : State) (answer : GameFault)
-    → IsReplayFor style fen items replay → IsStart fen start
+    (start : State) (answer : GameFault) → IsReplayFor style fen items replay → IsStart fen start
     → IfSome (fault_of answer) (HasLineFault (lines_with style.variations) start items)
     → fault_of answer ≡ None
 none_of_sound style fen items replay start answer (lines, every, is) is_start reports =

@@ -1,6 +1,4 @@
 -- The legal moves that a word names, square by square.
-use Rattle.std.proofs.Common.{◌≡◌, ◌↔◌, ℕ, ◌+◌, ◌<◌, List, [], ◌∷◌, ◌++◌, length, length-append}
-use Rattle.std.proofs.Common.{map, get_or, sym, ap, subst, ◌∙◌, inl, inr, arith}
 use Rattle.std.specs.List.{Contains, slice_index}
 use Rattle.std.specs.List.Sorted.{IsStrictlyIncreasing}
 use Rattle.std.proofs.Math.ListN.{get_or-append}
@@ -9,13 +7,10 @@ use Rattle.std.proofs.lemmas.Bool.{cases_eq}
 use Rattle.std.proofs.lemmas.List.{map-append, length-map, get_or-map}
 use Rattle.std.proofs.lemmas.List.Elements.{Contains-get_or, Contains-push, Contains-push_cases}
 use Rattle.std.proofs.lemmas.List.Elements.{Contains-append_left}
-use Rattle.chess.specs.Public.Positions.{State}
-use Rattle.chess.specs.Public.San.{IsNamed}
-use Rattle.chess.specs.Shared.SetFacts.{square_at-index_of, index_of-below}
-use Rattle.chess.specs.Shared.SquareFacts.{index_of-square_at}
-use Rattle.chess.specs.Public.Squares.{Place, square_at, index_of}
-use Rattle.chess.specs.declared.moves.Move.{Move}
-use Rattle.pgn_game.specs.Public.Refusals.{AreNamed}
+use Rattle.pgn_game.proofs.Common.{◌≡◌, ◌↔◌, ℕ, ◌+◌, ◌<◌, List, [], ◌∷◌, ◌++◌, length}
+use Rattle.pgn_game.proofs.Common.{length-append, map, get_or, sym, ap, subst, ◌∙◌, inl, inr, arith}
+use Rattle.pgn_game.proofs.Common.{State, IsNamed, square_at-index_of, index_of-below}
+use Rattle.pgn_game.proofs.Common.{index_of-square_at, Place, square_at, index_of, Move, AreNamed}
 use Rattle.pgn_game.specs.Private.RefusalWalks.{AddsFrom}
 
 -- a number above the last of numbers that ascend
@@ -87,9 +82,7 @@ named_more now word n s old new low at has (inl (same, none)) = record {
         (λ here. let named = (has.each m).1 here in
             (named.0, (let below = named.1 in omega arith))),
       );
-  ascending =
-      subst (λ (ms : List Move). IsStrictlyIncreasing (map (λ m. index_of m.from) ms)) (sym same)
-      has.ascending;
+  ascending = rw same has.ascending;
 }
 named_more now word n s old new low at has (inr (own, is, from, named, only)) =
     let place : index_of own.from ≡ n = ap index_of (from ∙ at) ∙ index_of-square_at n low in

@@ -1,14 +1,8 @@
 -- In each position of a main line men stand on the board alone, and the move that is played in it
 -- is legal.
-use Rattle.std.proofs.Common.{◌≡◌, ℕ, zero, suc, List, [], ◌∷◌, Some, None, sym, ap, ◌∙◌, subst}
-use Rattle.std.proofs.lemmas.Option.{same_Some}
-use Rattle.std.specs.List.{slice_get}
-use Rattle.chess.specs.Public.Placements.{AreOnBoard}
-use Rattle.chess.specs.Public.Positions.{State}
-use Rattle.chess.specs.Public.Moves.{after, IsLegal}
-use Rattle.chess.specs.declared.moves.Move.{Move}
-use Rattle.chess.proofs.OnBoard.{men_stay_on_board}
-use Rattle.pgn_game.specs.Public.MainLines.{IsMainLine}
+use Rattle.pgn_game.proofs.Common.{◌≡◌, ℕ, zero, suc, List, [], ◌∷◌, Some, None, sym, ap, ◌∙◌}
+use Rattle.pgn_game.proofs.Common.{subst, same_Some, slice_get, AreOnBoard, State, after, IsLegal}
+use Rattle.pgn_game.proofs.Common.{Move, men_stay_on_board, IsMainLine}
 use Rattle.pgn_game.proofs.OneReplay.{move_at}
 
 -- each position
@@ -52,5 +46,4 @@ pub line_legal : (words : List (List ℕ)) (start : State) (positions : List Sta
     → IsLegal P m
 line_legal words start positions played line i P m here at =
     let found = move_at start words positions played line i m at in
-    subst (λ (Q : State). IsLegal Q m) (same_Some found.1 P (sym found.3 ∙ here))
-    found.4.named.legal
+    rw (← (same_Some found.1 P (sym found.3 ∙ here))) found.4.named.legal

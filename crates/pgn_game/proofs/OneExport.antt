@@ -1,12 +1,8 @@
 -- In a style a game has one export at most.
-use Rattle.std.proofs.Common.{◌≡◌, ℕ, List, [], ◌∷◌, ◌++◌, sym, ap, ◌∙◌, subst}
 use Rattle.std.specs.Prelude.{Option, Some, None, flat_map}
-use Rattle.pgn_text.specs.Public.GameTexts.{tag_in}
-use Rattle.pgn_game.specs.Public.Starts.{fen_tag}
-use Rattle.pgn_game.specs.Public.TagLines.{missing_text, escaped, IsTagText, tag_line, AreLinesOf}
-use Rattle.pgn_game.specs.Public.TagLines.{written_names}
-use Rattle.pgn_game.specs.Public.TextLines.{IsLaid}
-use Rattle.pgn_game.specs.Public.Exports.{AreMovetextTokens}
+use Rattle.pgn_game.proofs.Common.{◌≡◌, ℕ, List, [], ◌∷◌, ◌++◌, sym, ap, ◌∙◌, subst, tag_in}
+use Rattle.pgn_game.proofs.Common.{fen_tag, missing_text, escaped, IsTagText, tag_line, AreLinesOf}
+use Rattle.pgn_game.proofs.Common.{written_names, IsLaid, AreMovetextTokens}
 use Rattle.pgn_game.specs.Public.Laws.{GameHasOneExport}
 use Rattle.pgn_game.proofs.LaidOnce.{one_text}
 use Rattle.pgn_game.proofs.OneMovetext.{one_movetext}
@@ -44,8 +40,7 @@ one_export style game text other is is2 =
     one_start (tag_in fen_tag game.tags) is2.start is.start is2.is_start is.is_start in
     let tokens : is2.tokens ≡ is.tokens =
     one_movetext style is.start game.elements game.result is2.tokens is.tokens
-    (subst (λ start. AreMovetextTokens style start game.elements game.result is2.tokens) starts
-    is2.are_tokens) is.are_tokens in
+    (rw (← starts) is2.are_tokens) is.are_tokens in
     let movetexts : is.movetext ≡ is2.movetext =
     one_text style.width is.tokens is.movetext is2.movetext is.laid
     (subst (λ ts. IsLaid style.width ts is2.movetext) tokens is2.laid) in

@@ -1,19 +1,11 @@
 -- All lines are played in one way at most, or have a fault.
-use Rattle.std.proofs.Common.{◌≡◌, ℕ, ◌+◌, ◌-◌, ◌<◌, Bool, true, false, ◌&&◌, List, [], ◌∷◌, ◌++◌}
-use Rattle.std.proofs.Common.{refl, sym, ap, ◌∙◌, subst, inl, inr, append_assoc, append-nil, arith}
-use Rattle.std.proofs.lemmas.Bool.Decides.{nat_tests}
-use Rattle.std.specs.Prelude.{◌==◌, if◌then◌else◌}
-use Rattle.chess.specs.Public.Positions.{State}
-use Rattle.chess.specs.Public.Moves.{after}
-use Rattle.chess.specs.declared.moves.Move.{Move}
-use Rattle.pgn_text.specs.Public.Games.{Item, VariationClose}
-use Rattle.pgn_game.specs.Public.MainLines.{main_words, IsMainLine}
-use Rattle.pgn_game.specs.Public.Faults.{Fault, RefusesTurn, IsLineFault}
-use Rattle.pgn_game.specs.Public.AllLines.{Line, LineEnd, ThenMove, ThenGlyph, ThenComment}
-use Rattle.pgn_game.specs.Public.AllLines.{ThenVariation, spelled, own_words, is_pass, SaysTurn}
-use Rattle.pgn_game.specs.Public.AllLines.{after_turn, IsPlayed}
-use Rattle.pgn_game.specs.declared.turns.line_move.LineMove.{LineMove}
-use Rattle.pgn_game.specs.declared.turns.line_move.LineMove.TheVariants.{Played, Passed}
+use Rattle.pgn_game.proofs.Common.{◌≡◌, ℕ, ◌+◌, ◌-◌, ◌<◌, Bool, true, false, ◌&&◌, List, [], ◌∷◌}
+use Rattle.pgn_game.proofs.Common.{◌++◌, refl, sym, ap, ◌∙◌, subst, inl, inr, append_assoc}
+use Rattle.pgn_game.proofs.Common.{append-nil, arith, nat_tests, ◌==◌, if◌then◌else◌, State, after}
+use Rattle.pgn_game.proofs.Common.{Move, Item, VariationClose, main_words, IsMainLine, Fault}
+use Rattle.pgn_game.proofs.Common.{RefusesTurn, IsLineFault, Line, LineEnd, ThenMove, ThenGlyph}
+use Rattle.pgn_game.proofs.Common.{ThenComment, ThenVariation, spelled, own_words, is_pass}
+use Rattle.pgn_game.proofs.Common.{SaysTurn, after_turn, IsPlayed, LineMove, Played, Passed}
 use Rattle.pgn_game.proofs.OneWord.{named_or_refused, one_refused}
 
 pub one_turn : (passes : Bool) (now : State) (word : List ℕ) (turn other : LineMove)
@@ -79,8 +71,7 @@ played_or_faulty (ThenMove word line) inside before now plies turns fault (
   is,
   says,
   rest,
-) (inl refused) =
-    said_or_refused (inside && is_pass word) now plies word turn fault says refused
+) (inl refused) = said_or_refused (inside && is_pass word) now plies word turn fault says refused
 played_or_faulty (ThenMove word line) inside before now plies turns fault (
   turn,
   more,
@@ -89,8 +80,7 @@ played_or_faulty (ThenMove word line) inside before now plies turns fault (
   rest,
 ) (inr (other, says2, met)) =
     played_or_faulty line inside now (after_turn now turn) (plies + 1) more fault rest
-    (subst (λ t. IsLineFault inside now (after_turn now t) (plies + 1) line fault)
-    (one_turn (inside && is_pass word) now word other turn says2 says) met)
+    (rw (← (one_turn (inside && is_pass word) now word other turn says2 says)) met)
 played_or_faulty (ThenGlyph number line) inside before now plies turns fault a met =
     played_or_faulty line inside before now plies turns fault a met
 played_or_faulty (ThenComment text line) inside before now plies turns fault a met =
@@ -101,20 +91,17 @@ played_or_faulty (ThenVariation inner line) inside before now plies turns fault 
   is,
   within,
   rest,
-) (inl met) =
-    played_or_faulty inner true before before (plies - 1) own fault within met
+) (inl met) = played_or_faulty inner true before before (plies - 1) own fault within met
 played_or_faulty (ThenVariation inner line) inside before now plies turns fault (
   own,
   more,
   is,
   within,
   rest,
-) (inr (own2, within2, met)) =
-    played_or_faulty line inside before now plies more fault rest met
+) (inr (own2, within2, met)) = played_or_faulty line inside before now plies more fault rest met
 
 pub one_fault_of : (line : Line) (inside : Bool) (before now : State) (plies : ℕ)
-    (fault other : Fault)
-    → IsLineFault inside before now plies line fault
+    (fault other : Fault) → IsLineFault inside before now plies line fault
     → IsLineFault inside before now plies line other → fault ≡ other
 one_fault_of LineEnd inside before now plies fault other a b = absurd a
 one_fault_of (ThenMove word line) inside before now plies fault other (inl a) (inl b) =
@@ -123,13 +110,11 @@ one_fault_of (ThenMove word line) inside before now plies fault other (inl a)
     (inr (turn, says, b)) =
     absurd (said_or_refused (inside && is_pass word) now plies word turn fault says a)
 one_fault_of (ThenMove word line) inside before now plies fault other (inr (turn, says, a))
-    (inl b) =
-    absurd (said_or_refused (inside && is_pass word) now plies word turn other says b)
+    (inl b) = absurd (said_or_refused (inside && is_pass word) now plies word turn other says b)
 one_fault_of (ThenMove word line) inside before now plies fault other (inr (turn, says, a))
     (inr (turn2, says2, b)) =
     one_fault_of line inside now (after_turn now turn) (plies + 1) fault other a
-    (subst (λ t. IsLineFault inside now (after_turn now t) (plies + 1) line other)
-    (one_turn (inside && is_pass word) now word turn2 turn says2 says) b)
+    (rw (← (one_turn (inside && is_pass word) now word turn2 turn says2 says)) b)
 one_fault_of (ThenGlyph number line) inside before now plies fault other a b =
     one_fault_of line inside before now plies fault other a b
 one_fault_of (ThenComment text line) inside before now plies fault other a b =
@@ -140,15 +125,12 @@ one_fault_of (ThenVariation inner line) inside before now plies fault other (inl
     (inr (own, played, b)) =
     absurd (played_or_faulty inner true before before (plies - 1) own fault played a)
 one_fault_of (ThenVariation inner line) inside before now plies fault other (inr (own, played, a))
-    (inl b) =
-    absurd (played_or_faulty inner true before before (plies - 1) own other played b)
+    (inl b) = absurd (played_or_faulty inner true before before (plies - 1) own other played b)
 one_fault_of (ThenVariation inner line) inside before now plies fault other (inr (own, played, a))
-    (inr (own2, played2, b)) =
-    one_fault_of line inside before now plies fault other a b
+    (inr (own2, played2, b)) = one_fault_of line inside before now plies fault other a b
 
 pub main_of_all : (line : Line) (before now : State) (turns : List LineMove)
-    → IsPlayed false before now line turns
-    → (positions : List State) × (played : List Move)
+    → IsPlayed false before now line turns → (positions : List State) × (played : List Move)
     × IsMainLine now (own_words line) positions played
 main_of_all LineEnd before now turns a = (now ∷ [], [], (refl, refl))
 main_of_all (ThenMove word line) before now turns (Played m, more, is, says, rest) =

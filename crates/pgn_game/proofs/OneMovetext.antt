@@ -1,17 +1,11 @@
 -- The lines of a game have one list of tokens at most.
-use Rattle.std.proofs.Common.{◌≡◌, ℕ, Bool, true, false, ◌&&◌, ◌||◌, List, [], ◌∷◌, ◌++◌, refl, sym}
-use Rattle.std.proofs.Common.{ap, ◌∙◌, subst}
-use Rattle.std.specs.Prelude.{codes, decimal}
-use Rattle.chess.specs.Public.Positions.{State}
-use Rattle.chess.proofs.SanOnce.{one_san}
-use Rattle.pgn_game.specs.Public.AllLines.{Line, LineEnd, ThenMove, ThenGlyph, ThenComment}
-use Rattle.pgn_game.specs.Public.AllLines.{ThenVariation, is_pass, after_turn}
-use Rattle.pgn_game.specs.Public.Comments.{comment_tokens}
-use Rattle.pgn_game.specs.Public.Exports.{number_tokens, IsTurnText, kept, AreTokens}
+use Rattle.std.proofs.Common.{◌||◌}
+use Rattle.pgn_game.proofs.Common.{◌≡◌, ℕ, Bool, true, false, ◌&&◌, List, [], ◌∷◌, ◌++◌, refl, sym}
+use Rattle.pgn_game.proofs.Common.{ap, ◌∙◌, subst, codes, decimal, State, one_san, Line, LineEnd}
+use Rattle.pgn_game.proofs.Common.{ThenMove, ThenGlyph, ThenComment, ThenVariation, is_pass}
+use Rattle.pgn_game.proofs.Common.{after_turn, comment_tokens, number_tokens, IsTurnText, kept}
+use Rattle.pgn_game.proofs.Common.{AreTokens, Style, LineMove, Played, Passed}
 use Rattle.pgn_game.specs.Public.Exports.{MovetextHasOneList}
-use Rattle.pgn_game.specs.declared.exports.style.Style.{Style}
-use Rattle.pgn_game.specs.declared.turns.line_move.LineMove.{LineMove}
-use Rattle.pgn_game.specs.declared.turns.line_move.LineMove.TheVariants.{Played, Passed}
 use Rattle.pgn_game.proofs.OneLine.{one_turn}
 use Rattle.pgn_game.proofs.Spelling.{one_tree}
 
@@ -28,8 +22,7 @@ same_kept true own others same = ap (λ ts. codes "(" ∷ ts ++ codes ")" ∷ []
 same_kept false own others same = refl
 
 one_list : (line : Line) (style : Style) (inside : Bool) (before now : State) (apart : Bool)
-    (tokens others : List (List ℕ))
-    → AreTokens style inside before now apart line tokens
+    (tokens others : List (List ℕ)) → AreTokens style inside before now apart line tokens
     → AreTokens style inside before now apart line others → tokens ≡ others
 one_list LineEnd style inside before now apart tokens others a b = a ∙ sym b
 one_list (ThenMove word line) style inside before now apart tokens others (
@@ -77,8 +70,7 @@ one_list (ThenVariation inner line) style inside before now apart tokens others 
     one_list inner style true before before true own own2 (within shown) (within2 shown)))
     ∙ ap (λ ts. kept style.variations (codes "(" ∷ own2 ++ codes ")" ∷ [])
     ++ ts) (one_list line style inside before now (apart
-    || style.variations) more more2 rest rest2)
-    ∙ sym is2
+    || style.variations) more more2 rest rest2) ∙ sym is2
 
 pub one_movetext : MovetextHasOneList
 one_movetext style start items result tokens others (line, own, is, are, all) (

@@ -1,27 +1,15 @@
 -- A game is replayed in one way at most, has one fault at most, and not both.
-use Rattle.std.proofs.Common.{◌≡◌, ℕ, ◌+◌, zero, suc, List, [], ◌∷◌, length, refl, sym, ap, ◌∙◌}
-use Rattle.std.proofs.Common.{subst, false, inl, inr, arith}
-use Rattle.std.proofs.lemmas.Option.{same_Some}
 use Rattle.std.specs.Prelude.{Option, Some, None}
-use Rattle.std.specs.List.{slice_get}
-use Rattle.chess.specs.Public.Positions.{State}
-use Rattle.chess.specs.Public.Moves.{after}
+use Rattle.pgn_game.proofs.Common.{◌≡◌, ℕ, ◌+◌, zero, suc, List, [], ◌∷◌, length, refl, sym, ap}
+use Rattle.pgn_game.proofs.Common.{◌∙◌, subst, false, inl, inr, arith, same_Some, slice_get, State}
+use Rattle.pgn_game.proofs.Common.{after, IsOnlyNamed, Move, one_spelling, Item, main_words}
+use Rattle.pgn_game.proofs.Common.{IsMainLine, IsValueOf, IsStart, IsBadStart, IsPlayed, ArePlayed}
+use Rattle.pgn_game.proofs.Common.{Fault, IsMoveFault, IsLineFault, HaveFault, HasLineFault}
+use Rattle.pgn_game.proofs.Common.{IsFault, Replay, AreTurns, IsReplay, Lines, Main, All, LineMove}
 use Rattle.chess.specs.Public.Fen.{SpellsPosition, IsRefused}
-use Rattle.chess.specs.Public.San.{IsOnlyNamed}
-use Rattle.chess.specs.declared.moves.Move.{Move}
-use Rattle.chess.proofs.FenOnce.{one_spelling, read_or_refused}
+use Rattle.chess.proofs.FenOnce.{read_or_refused}
 use Rattle.pgn_text.proofs.Values.{one_value}
-use Rattle.pgn_text.specs.Public.Games.{Item}
-use Rattle.pgn_game.specs.Public.MainLines.{main_words, IsMainLine}
-use Rattle.pgn_game.specs.Public.Starts.{IsValueOf, IsStart, IsBadStart}
-use Rattle.pgn_game.specs.Public.AllLines.{IsPlayed, ArePlayed}
-use Rattle.pgn_game.specs.Public.Faults.{Fault, IsMoveFault, IsLineFault, HaveFault, HasLineFault}
-use Rattle.pgn_game.specs.Public.Faults.{IsFault}
 use Rattle.pgn_game.specs.Public.Laws.{GameHasOneReplay, GameHasOneFault, SoundGameHasNoFault}
-use Rattle.pgn_game.specs.Public.Replays.{Replay, AreTurns, IsReplay}
-use Rattle.pgn_game.specs.declared.replays.replayer.Lines.{Lines}
-use Rattle.pgn_game.specs.declared.replays.replayer.Lines.TheVariants.{Main, All}
-use Rattle.pgn_game.specs.declared.turns.line_move.LineMove.{LineMove}
 use Rattle.pgn_game.proofs.OneLine.{one_playing, one_fault_of, played_or_faulty}
 use Rattle.pgn_game.proofs.OneWord.{named_or_refused, one_refused}
 use Rattle.pgn_game.proofs.Spelling.{one_tree}
@@ -64,13 +52,14 @@ move_at start (word ∷ words) positions played (
   rest,
 ) zero m at =
     let same : own ≡ m = same_Some own m (sym (ap (λ ms. slice_get ms 0) played_is) ∙ at) in
-    subst (λ n. IsMoveAt (word ∷ words) positions 0 n) same (
+    rw (← same) (
       word,
       start,
       refl,
       ap (λ ps. slice_get ps 0) positions_is,
       named,
-      ap (λ ps. slice_get ps 1) positions_is ∙ line_head (after start own) words later more rest,
+      ap (λ ps.
+          slice_get ps 1) positions_is ∙ line_head (after start own) words later more rest,
     )
 move_at start (word ∷ words) positions played (
   own,
@@ -155,8 +144,7 @@ pub one_start : (fen : Option (List ℕ)) (start other : State) → IsStart fen 
 one_start None start other is is2 = is ∙ sym is2
 one_start (Some contents) start other (value, given, reads) (value2, given2, reads2) =
     one_spelling value start other reads.spells
-    (subst (λ x. SpellsPosition x other) (same_value contents value2 value given2 given)
-    reads2.spells)
+    (rw (← (same_value contents value2 value given2 given)) reads2.spells)
 
 pub start_or_bad : (fen : Option (List ℕ)) (start : State) → IsStart fen start → IsBadStart fen → ⊥
 start_or_bad None start is bad = bad
@@ -178,8 +166,7 @@ one_move_fault now plies (word ∷ words) fault other (inr (m, named, rest)) (in
 one_move_fault now plies (word
     ∷ words) fault other (inr (m, named, rest)) (inr (n, named2, rest2)) =
     one_move_fault (after now m) (plies + 1) words fault other rest
-    (subst (λ k. IsMoveFault (after now k) (plies + 1) words other)
-    (one_move now word n m named2 named) rest2)
+    (rw (← (one_move now word n m named2 named)) rest2)
 
 one_line_fault : (lines : Lines) (start : State) (items : List Item) (fault other : Fault)
     → HasLineFault lines start items fault → HasLineFault lines start items other → fault ≡ other
@@ -198,8 +185,7 @@ one_fault lines fen items fault other (inr (start, is_start, met)) (inl (bad, is
     absurd (start_or_bad fen start is_start bad)
 one_fault lines fen items fault other (inr (start, is_start, met)) (inr (start2, is_start2, met2)) =
     one_line_fault lines start items fault other met
-    (subst (λ s. HasLineFault lines s items other) (one_start fen start2 start is_start2 is_start)
-    met2)
+    (rw (← (one_start fen start2 start is_start2 is_start)) met2)
 
 -- ---- and a game with a replay has none
 
@@ -215,8 +201,7 @@ line_or_fault now plies (word ∷ words) positions played fault (
   played_is,
   named,
   rest,
-) (inl refused) =
-    named_or_refused now plies word m fault named refused
+) (inl refused) = named_or_refused now plies word m fault named refused
 line_or_fault now plies (word ∷ words) positions played fault (
   m,
   later,
@@ -227,8 +212,7 @@ line_or_fault now plies (word ∷ words) positions played fault (
   rest,
 ) (inr (n, named2, met)) =
     line_or_fault (after now m) (plies + 1) words later more fault rest
-    (subst (λ k. IsMoveFault (after now k) (plies + 1) words fault)
-    (one_move now word n m named2 named) met)
+    (rw (← (one_move now word n m named2 named)) met)
 
 pub all_or_fault : (start : State) (items : List Item) (turns : List LineMove) (fault : Fault)
     → ArePlayed start items turns → HaveFault start items fault → ⊥
@@ -253,8 +237,7 @@ replay_or_fault lines fen items replay fault is (inl (bad, reports)) =
 replay_or_fault lines fen items replay fault is (inr (start, is_start, met)) =
     lines_or_fault lines is.start items replay.positions replay.played replay.turns fault is.line
     is.turns
-    (subst (λ s. HasLineFault lines s items fault)
-    (one_start fen start is.start is_start is.is_start) met)
+    (rw (← (one_start fen start is.start is_start is.is_start)) met)
 
 -- ---- one replay
 

@@ -1,10 +1,7 @@
 -- A word names one legal move alone, or is refused, and is refused in one way.
-use Rattle.std.proofs.Common.{◌≡◌, ℕ, ◌+◌, List, sym, ap, ◌∙◌}
-use Rattle.chess.specs.Public.Positions.{State}
-use Rattle.chess.specs.Public.San.{IsOnlyNamed}
-use Rattle.chess.specs.declared.moves.Move.{Move}
-use Rattle.pgn_game.specs.Public.Faults.{Fault, BadStart, IllegalMove, AmbiguousMove, NamesSeveral}
-use Rattle.pgn_game.specs.Public.Faults.{IsRefusedWord}
+use Rattle.pgn_game.proofs.Common.{◌≡◌, ℕ, ◌+◌, List, sym, ap, ◌∙◌, State, IsOnlyNamed, Move, Fault}
+use Rattle.pgn_game.proofs.Common.{BadStart, IllegalMove, AmbiguousMove, NamesSeveral}
+use Rattle.pgn_game.proofs.Common.{IsRefusedWord}
 
 -- a word that names one legal move alone is not refused
 pub named_or_refused : (now : State) (plies : ℕ) (word : List ℕ) (m : Move) (fault : Fault)

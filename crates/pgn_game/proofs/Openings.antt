@@ -1,16 +1,10 @@
 -- The first plies of a main line are those of each replay.
-use Rattle.std.proofs.Common.{◌≡◌, ℕ, ◌<◌, ◌≤◌, zero, suc, List, [], ◌∷◌, ◌++◌, length, sym, ap}
-use Rattle.std.proofs.Common.{◌∙◌, subst, inl, inr, arith}
 use Rattle.std.specs.Prelude.{◌⊎◌, Option, Some, None}
-use Rattle.std.specs.List.{slice_get}
-use Rattle.chess.specs.Public.Positions.{State}
-use Rattle.chess.specs.Public.Moves.{after, IsLegal}
-use Rattle.chess.specs.Public.San.{IsOnlyNamed}
-use Rattle.chess.specs.declared.moves.Move.{Move}
-use Rattle.pgn_text.specs.Public.Games.{Item}
-use Rattle.pgn_game.specs.Public.MainLines.{main_words, IsMainLine}
+use Rattle.pgn_game.proofs.Common.{◌≡◌, ℕ, ◌<◌, ◌≤◌, zero, suc, List, [], ◌∷◌, ◌++◌, length, sym}
+use Rattle.pgn_game.proofs.Common.{ap, ◌∙◌, subst, inl, inr, arith, slice_get, State, after}
+use Rattle.pgn_game.proofs.Common.{IsLegal, IsOnlyNamed, Move, Item, main_words, IsMainLine, Replay}
 use Rattle.pgn_game.specs.Public.Openings.{IsOpening}
-use Rattle.pgn_game.specs.Public.Replays.{Replay, IsSomeReplay}
+use Rattle.pgn_game.specs.Public.Replays.{IsSomeReplay}
 use Rattle.pgn_game.specs.Public.Laws.{GameHasOneOpening}
 use Rattle.pgn_game.proofs.OneReplay.{line_head, one_move, one_start, move_at, same_replay}
 
@@ -21,8 +15,7 @@ pub joined : (now here : State) (first more : List (List ℕ)) (before later : L
     → IsMainLine now (first ++ more) (before ++ later) (played ++ moves)
 joined now here [] more [] later played moves line rest =
     let same : here ≡ now = cc (line.0) in
-    subst (λ ms. IsMainLine now more later (ms ++ moves)) (sym line.1)
-    (subst (λ s. IsMainLine s more later moves) same rest)
+    rw line.1 (subst (λ s. IsMainLine s more later moves) same rest)
 joined now here [] more (b ∷ before) later played moves line rest =
     let long : length ((b ∷ before) ++ here ∷ []) ≡ 1 = ap length line.0 in
     absurd (two_or_more before here long)
@@ -72,8 +65,7 @@ AgreeAt positions played others moves i =
 agree : (now : State) (first rest : List (List ℕ)) (positions others : List State)
     (played moves : List Move) (most i : ℕ)
     → IsMainLine now first positions played → IsMainLine now (first ++ rest) others moves
-    → (rest ≡ []) ⊎ (most ≤ length played) → i < most
-    → AgreeAt positions played others moves i
+    → (rest ≡ []) ⊎ (most ≤ length played) → i < most → AgreeAt positions played others moves i
 agree now [] rest positions others played moves most i line whole (inl none) less =
     let own : IsMainLine now [] others moves =
     subst (λ ws. IsMainLine now ws others moves) none whole in

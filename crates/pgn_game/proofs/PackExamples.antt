@@ -1,17 +1,11 @@
 -- Codes of plies and a record, worked out by hand.
-use Rattle.std.proofs.Common.{◌≡◌, ℕ, ◌+◌, ◌*◌, true, false, List, [], ◌∷◌, ◌++◌, Some, None, Ok}
-use Rattle.std.proofs.Common.{Err, codes, refl}
-use Rattle.chess.specs.Public.Squares.{Place}
-use Rattle.chess.specs.Public.Positions.{king_of, pawn_of}
-use Rattle.chess.specs.declared.board.man.Side.TheVariants.{White, Black}
-use Rattle.chess.specs.declared.board.man.Kind.TheVariants.{Queen}
-use Rattle.chess.specs.declared.board.man.Wing.TheVariants.{KingSide, QueenSide}
-use Rattle.pgn_game.specs.Public.PlyCodes.{PlyCode, code_bytes, code_of}
-use Rattle.pgn_game.specs.Public.PackedGames.{PackedGame, record_bytes, pack_bytes, body_size}
-use Rattle.pgn_game.specs.Public.PackedGames.{result_number}
-use Rattle.pgn_game.specs.Public.PackReading.{raw_of, text_at, after_tags, body_at, record_at}
-use Rattle.pgn_game.specs.declared.pack.error.RecordError.TheVariants.{CutShort, TooLarge}
-use Rattle.pgn_game.specs.declared.pack.error.RecordError.TheVariants.{PartOfPly}
+use Rattle.std.proofs.Common.{codes}
+use Rattle.pgn_game.proofs.Common.{◌≡◌, ℕ, ◌+◌, ◌*◌, true, false, List, [], ◌∷◌, ◌++◌, Some, None}
+use Rattle.pgn_game.proofs.Common.{Ok, Err, refl, Place, king_of, pawn_of, White, Black, Queen}
+use Rattle.pgn_game.proofs.Common.{KingSide, QueenSide, PlyCode, code_bytes, code_of, PackedGame}
+use Rattle.pgn_game.proofs.Common.{record_bytes, pack_bytes, body_size, result_number, raw_of}
+use Rattle.pgn_game.proofs.Common.{CutShort, TooLarge, PartOfPly}
+use Rattle.pgn_game.specs.Public.PackReading.{text_at, after_tags, body_at, record_at}
 
 abbrev pub square : ℕ → ℕ → Place
 square file rank = record { file = file; rank = rank }
@@ -23,8 +17,7 @@ e2_e4 = record {
   from = square 5 2;
   to = square 5 4;
   taken = square 5 4;
-  man =
-      pawn_of White;
+  man = pawn_of White;
   castle = None;
   check = false;
   stuck = false;
@@ -43,8 +36,7 @@ white_castles : code_bytes
       to = square 7 1;
       taken = square 7 1;
       man = king_of White;
-      castle =
-          Some KingSide;
+      castle = Some KingSide;
       check = false;
       stuck = false;
     }) ≡ 4 ∷ 6 ∷ (6 + 64 * 3) ∷ []
@@ -57,8 +49,7 @@ black_castles : code_bytes
       to = square 3 8;
       taken = square 3 8;
       man = king_of Black;
-      castle =
-          Some QueenSide;
+      castle = Some QueenSide;
       check = false;
       stuck = false;
     }) ≡ 60 ∷ (58 + 64 * 3) ∷ (58 + 64 * 3) ∷ []
@@ -71,8 +62,7 @@ pawn_takes_in_passing : code_bytes
       to = square 4 6;
       taken = square 4 5;
       man = pawn_of White;
-      castle =
-          None;
+      castle = None;
       check = false;
       stuck = false;
     }) ≡ 36 ∷ (43 + 64) ∷ (35 + 64) ∷ []
@@ -89,8 +79,7 @@ queen_mates : code_bytes
       castle = None;
       check = true;
       stuck = true;
-    })
-    ≡ (49 + 64 * 3) ∷ (57 + 64) ∷ 57 ∷ []
+    }) ≡ (49 + 64 * 3) ∷ (57 + 64) ∷ 57 ∷ []
 queen_mates = refl
 
 -- the second game, from byte 300 on, with one tag and one ply: 38 bytes after its size
@@ -99,13 +88,11 @@ one_ply = record {
   number = 2;
   offset = 300;
   name = None;
-  tags =
-      (codes "Result", codes "*") ∷ [];
+  tags = (codes "Result", codes "*") ∷ [];
   result = codes "*";
   check = false;
   stuck = false;
-  plies =
-      e2_e4 ∷ [];
+  plies = e2_e4 ∷ [];
 }
 
 abbrev pub one_ply_bytes : List ℕ
@@ -129,8 +116,7 @@ mated = record {
   offset = 0;
   name = Some (codes "a");
   tags = [];
-  result =
-      codes "1-0";
+  result = codes "1-0";
   check = true;
   stuck = true;
   plies = [];

@@ -1,13 +1,10 @@
 -- Bytes are the pack of one list of games at most.
 use Rattle.std.proofs.Common.{◌≡◌, ℕ, ◌/◌, ◌%◌, ◌^◌, ◌<◌, ◌==◌, List, [], ◌∷◌, ◌++◌, length, refl}
 use Rattle.std.proofs.Common.{sym, ap, ◌∙◌, append_assoc, arith}
-use Rattle.std.specs.List.{flat_map, AllByRecursion}
-use Rattle.std.proofs.lemmas.List.Concat.{flat_map-cons}
-use Rattle.pgn_game.specs.Public.PlyCodes.{PlyCode, FitsCode, code_bytes, code_of}
-use Rattle.pgn_game.specs.Public.PackedGames.{PackedGame, Tag, FitsTag, FitsRecord, with_length}
-use Rattle.pgn_game.specs.Public.PackedGames.{tag_bytes, head_of, numbered_result, record_bytes}
-use Rattle.pgn_game.specs.Public.PackedGames.{pack_bytes}
-use Rattle.pgn_game.specs.Public.PackReading.{RawRecord, raw_of, text_at, record_at}
+use Rattle.pgn_game.proofs.Common.{flat_map, AllByRecursion, flat_map-cons, PlyCode, FitsCode}
+use Rattle.pgn_game.proofs.Common.{code_bytes, code_of, PackedGame, Tag, FitsTag, FitsRecord}
+use Rattle.pgn_game.proofs.Common.{with_length, tag_bytes, head_of, numbered_result, record_bytes}
+use Rattle.pgn_game.proofs.Common.{pack_bytes, RawRecord, raw_of, text_at, record_at}
 use Rattle.pgn_game.specs.Public.Laws.{CodeIsReadBack, RecordHasOneReading, PackHasOneReading}
 use Rattle.pgn_game.proofs.PlyCodeFacts.{code_again}
 use Rattle.pgn_game.proofs.HeadFacts.{head_shows}
@@ -105,8 +102,7 @@ raw_same game other own fits e =
       offset = offset i;
       name = name i;
       tags = tags i;
-      result =
-          result i;
+      result = result i;
       check = check i;
       stuck = stuck i;
       plies = plies i;

@@ -2,40 +2,29 @@
 -- bytes of a text, and a ply likewise.
 use Rattle.std.proofs.Common.{◌≡◌, ℕ, ◌+◌, ◌*◌, ◌≤◌, ◌∷◌, Some, None, refl, sym, ap, ◌∙◌, inl, inr}
 use Rattle.std.proofs.Common.{◌==◌, Bool, true, false, List, [], ◌++◌, length, Option, subst, arith}
-use Rattle.std.specs.Prelude.{IfSome, bytes_eq, if◌then◌else◌}
 use Rattle.std.specs.FinMap.{FinMap, empty, entries, entries_sorted, get, insert, get-empty}
 use Rattle.std.specs.FinMap.{get-entries, get-insert, entries-insert, len-empty, len-entries}
 use Rattle.std.specs.FinMap.Entries.{by_order, put}
-use Rattle.std.specs.Cmp.Lexicographic.{slice_cmp}
-use Rattle.std.specs.List.Sorted.{IsStrictlySortedBy}
-use Rattle.std.specs.Ordering.{nat_cmp}
-use Rattle.std.specs.declared.cmp.Ordering.TheVariants.{Less, Equal, Greater}
 use Rattle.std.proofs.lemmas.Cmp.{nat_list_cmp_total, nat_list_eq_equiv}
 use Rattle.std.proofs.lemmas.List.{length-append}
-use Rattle.std.proofs.lemmas.List.Concat.{flat_map-cons}
 use Rattle.std.proofs.lemmas.Map.Text.{is_eq-slice_cmp}
-use Rattle.std.proofs.lemmas.Option.{same_Some}
-use Rattle.chess.specs.Public.Letters.{square_text}
-use Rattle.chess.specs.Public.Moves.{after}
-use Rattle.chess.specs.Public.Positions.{State}
-use Rattle.chess.specs.Public.San.{IsNamed, Spells, Said, IsCastlingText, letter_text, file_text}
-use Rattle.chess.specs.Public.San.{rank_text, promotion_text}
-use Rattle.chess.specs.declared.board.man.Wing.{Wing}
-use Rattle.chess.specs.declared.board.man.Wing.TheVariants.{KingSide, QueenSide}
-use Rattle.chess.specs.declared.moves.Move.{Move}
+use Rattle.pgn_game.proofs.Common.{IfSome, bytes_eq, if◌then◌else◌, slice_cmp, IsStrictlySortedBy}
+use Rattle.pgn_game.proofs.Common.{nat_cmp, Less, Equal, Greater, flat_map-cons, same_Some}
+use Rattle.pgn_game.proofs.Common.{square_text, after, State, IsNamed, IsCastlingText}
+use Rattle.pgn_game.proofs.Common.{promotion_text, Wing, KingSide, QueenSide, Move, Item, MoveText}
+use Rattle.pgn_game.proofs.Common.{GlyphNumber, CommentText, VariationOpen, VariationClose}
+use Rattle.pgn_game.proofs.Common.{main_words, IsMainLine, name_size, tags_size, AreCodes}
+use Rattle.chess.specs.Public.San.{Spells, Said, letter_text, file_text, rank_text}
 use Rattle.pgn_text.specs.Public.GameTexts.{GameText, IsGameText, IsResult, ShowsGame, tag_names}
-use Rattle.pgn_text.specs.Public.Games.{Item, MoveText, GlyphNumber, CommentText, VariationOpen}
-use Rattle.pgn_text.specs.Public.Games.{VariationClose, is_move_text, glyphs_of_marks, items_of}
-use Rattle.pgn_text.specs.Public.Games.{items_of_part, first_tag}
+use Rattle.pgn_text.specs.Public.Games.{is_move_text, glyphs_of_marks, items_of, items_of_part}
+use Rattle.pgn_text.specs.Public.Games.{first_tag}
 use Rattle.pgn_text.specs.Public.Parts.{Part, ByteOrderMark, White, Brace, Line, EscapeLine, Tag}
 use Rattle.pgn_text.specs.Public.Parts.{Word, Star, Dot, Glyph, Marks, Open, Close, spelled}
 use Rattle.pgn_text.specs.Public.Parts.{spelled_part}
 use Rattle.pgn_text.proofs.ShownOnce.{same_tags}
 use Rattle.pgn_text.proofs.SortedTags.{name_cmp, names_of_sorted, find-tag_in}
 use Rattle.pgn_game.specs.Public.Laws.{GameOfABlockFits}
-use Rattle.pgn_game.specs.Public.MainLines.{main_words, IsMainLine}
-use Rattle.pgn_game.specs.Public.PackedGames.{Tag as NamedTag, longest_name, name_size, tags_size}
-use Rattle.pgn_game.specs.Public.PlyCodes.{AreCodes}
+use Rattle.pgn_game.specs.Public.PackedGames.{Tag as NamedTag, longest_name}
 use Rattle.pgn_game.proofs.OneReplay.{line_head}
 use Rattle.pgn_game.proofs.RecordWriting.{codes_count, record_fits}
 
@@ -117,8 +106,7 @@ named_long P x m named =
 
 -- so three bytes for each ply are at most twice the words
 line_within : (start : State) (words : List (List ℕ)) (positions : List State) (played : List Move)
-    → IsMainLine start words positions played
-    → 3 * length played ≤ 2 * words_size words
+    → IsMainLine start words positions played → 3 * length played ≤ 2 * words_size words
 line_within start [] positions played line = omega (arith, ap length line.1)
 line_within start (word ∷ words) positions played (
   m,
@@ -191,8 +179,7 @@ word_within : (text : List ℕ) (moves : Bool)
 word_within text true = omega arith
 word_within text false = omega arith
 
-tag_long : (first name second contents third : List ℕ)
-    → 4 + length name + length contents
+tag_long : (first name second contents third : List ℕ) → 4 + length name + length contents
     ≤ length (spelled_part (Tag first name second contents third))
 tag_long first name second contents third =
     omega (
@@ -212,8 +199,7 @@ room [] =
     record {
       tags = empty;
       found = λ wanted. get-empty name_cmp wanted;
-      within =
-          omega (arith, none);
+      within = omega (arith, none);
     }
 room (Tag first name second contents third ∷ more) =
     let later = room more in record {
@@ -298,6 +284,5 @@ game_fits name number offset game parts replay packed is shows small replays is_
       codes_count replays.start replay.played packed.plies codes,
       game_room game parts replays.start replay.positions replay.played is shows replays.line,
     ))
-    (subst (λ (tags : List NamedTag).
-    IsStrictlySortedBy (slice_cmp nat_cmp) (tag_names tags)) (sym is_packed.tags) is.ordered)
+    (rw is_packed.tags is.ordered)
     (rw (is_packed.number, is_packed.offset, is_packed.name) origin)

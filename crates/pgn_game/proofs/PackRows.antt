@@ -1,32 +1,21 @@
 -- Worked rows of the parts of codes and of records; and what these definitions refuse.
 use Rattle.std.proofs.Common.{◌≡◌, ◌≤◌, ◌+◌, ◌^◌, ◌∙◌, ℕ, true, false, List, [], ◌∷◌, ◌++◌, length}
-use Rattle.std.proofs.Common.{codes, Option, None, Some, Ok, Err, ap, refl, sym, subst, arith}
+use Rattle.std.proofs.Common.{codes, Option, None, Some, Ok, Err, ap, refl, sym, arith}
 use Rattle.std.proofs.lemmas.List.{append-nil, length-append}
-use Rattle.std.specs.Cmp.Lexicographic.{slice_cmp}
-use Rattle.std.specs.Int.{w32}
 use Rattle.std.specs.List.Sorted.{IsStrictlySortedBy}
-use Rattle.std.specs.Ordering.{nat_cmp}
-use Rattle.std.specs.declared.cmp.Ordering.TheVariants.{Less}
-use Rattle.chess.specs.Public.Moves.{IsLegal, after}
-use Rattle.chess.specs.Public.Positions.{State, king_of, pawn_of}
-use Rattle.chess.specs.declared.board.man.Kind.TheVariants.{King, Queen, Rook, Bishop, Knight, Pawn}
-use Rattle.chess.specs.declared.board.man.Side.TheVariants.{White, Black}
-use Rattle.chess.specs.declared.board.man.Wing.TheVariants.{KingSide, QueenSide}
-use Rattle.chess.specs.declared.moves.Move.{Move}
-use Rattle.pgn_text.specs.Public.GameTexts.{tag_names}
-use Rattle.pgn_text.specs.Public.Limits.{largest_offset}
-use Rattle.pgn_game.specs.Public.CodeLines.{AreLegalMoves, positions_from}
-use Rattle.pgn_game.specs.Public.PackReading.{and_then, number_at, text_at, name_at, tag_at}
-use Rattle.pgn_game.specs.Public.PackReading.{follows, next_tag, after_tags, body_at}
+use Rattle.pgn_game.proofs.Common.{slice_cmp, w32, nat_cmp, Less, IsLegal, after, State, king_of}
+use Rattle.pgn_game.proofs.Common.{pawn_of, King, Queen, Rook, Bishop, Knight, Pawn, White, Black}
+use Rattle.pgn_game.proofs.Common.{KingSide, QueenSide, Move, tag_names, largest_offset}
+use Rattle.pgn_game.proofs.Common.{AreLegalMoves, positions_from, and_then, number_at, name_at}
+use Rattle.pgn_game.proofs.Common.{tag_at, follows, next_tag, Tag, PackedGame, FitsRecord, FitsTag}
+use Rattle.pgn_game.proofs.Common.{record_bytes, with_length, tag_bytes, named_number, name_bytes}
+use Rattle.pgn_game.proofs.Common.{tail_bytes, body_bytes, name_size, tags_size, is_origin}
+use Rattle.pgn_game.proofs.Common.{is_shown, PlyCode, AreCodes, bit, marks_number, man_number}
+use Rattle.pgn_game.proofs.Common.{numbered_kind, CutShort, TagOrder, PartOfPly, NoOrigin}
+use Rattle.pgn_game.specs.Public.PackReading.{text_at, after_tags, body_at}
 use Rattle.pgn_game.specs.Public.PackStreams.{Window, HasNoRecord, PassesOn, BreaksOff, IsPastEnd}
-use Rattle.pgn_game.specs.Public.PackedGames.{Tag, PackedGame, FitsRecord, FitsTag, record_bytes}
-use Rattle.pgn_game.specs.Public.PackedGames.{with_length, tag_bytes, named_number, name_bytes}
-use Rattle.pgn_game.specs.Public.PackedGames.{tail_bytes, body_bytes, name_size, tags_size}
-use Rattle.pgn_game.specs.Public.PackedGames.{is_origin, begins_control, is_shown, is_shown_name}
-use Rattle.pgn_game.specs.Public.PlyCodes.{PlyCode, AreCodes, bit, marks_number, kind_number}
-use Rattle.pgn_game.specs.Public.PlyCodes.{side_number, castle_number, man_number, numbered_kind}
-use Rattle.pgn_game.specs.declared.pack.error.RecordError.TheVariants.{CutShort, TagOrder}
-use Rattle.pgn_game.specs.declared.pack.error.RecordError.TheVariants.{PartOfPly, NoOrigin}
+use Rattle.pgn_game.specs.Public.PackedGames.{begins_control, is_shown_name}
+use Rattle.pgn_game.specs.Public.PlyCodes.{kind_number, side_number, castle_number}
 
 -- Codes.
 
@@ -192,8 +181,7 @@ control_characters :
     begins_control (0 ∷ []) ∷ begins_control (codes "\n") ∷ begins_control (27 ∷ 91 ∷ [])
     ∷ begins_control (127 ∷ []) ∷ begins_control (194 ∷ 155 ∷ [])
     ∷ begins_control (194 ∷ 160 ∷ []) ∷ begins_control (195 ∷ 155 ∷ []) ∷ begins_control (codes " ")
-    ∷ begins_control [] ∷ []
-    ≡ true ∷ true ∷ true ∷ true ∷ true ∷ false ∷ false ∷ false ∷ false ∷ []
+    ∷ begins_control [] ∷ [] ≡ true ∷ true ∷ true ∷ true ∷ true ∷ false ∷ false ∷ false ∷ false ∷ []
 control_characters = refl
 
 names_that_are_shown :
@@ -216,9 +204,7 @@ no_record_with_a_tag_twice : (game : PackedGame) → game.tags ≡ one_tag ∷ o
     → FitsRecord game → ⊥
 unfolding IsStrictlySortedBy
 no_record_with_a_tag_twice game twice fits =
-    let sorted =
-    subst (λ (tags : List Tag). IsStrictlySortedBy (slice_cmp nat_cmp) (tag_names tags))
-    twice fits.ordered in
+    let sorted = rw twice at fits.ordered in
     let below : slice_cmp nat_cmp (codes "A") (codes "A") ≡ Less = sorted.0.0 in
     cc
 
@@ -250,8 +236,7 @@ no_record_left_out : (game : PackedGame) → FitsRecord game → HasNoRecord (re
 no_record_left_out game fits none = none game [] fits (sym (append-nil (record_bytes game)))
 
 no_byte_lost : (old new : Window) (left left' : Option (List ℕ)) → old.ahead ≡ codes "a"
-    → new.current ≡ []
-    → new.ahead ≡ [] → PassesOn old new left left' → ⊥
+    → new.current ≡ [] → new.ahead ≡ [] → PassesOn old new left left' → ⊥
 no_byte_lost old new left left' some none_held none_ahead passes =
     let whole : codes "a" ++ passes.read ≡ [] =
     ap (λ (bytes : List ℕ). bytes ++ passes.read) (sym some) ∙ passes.parted
@@ -259,8 +244,7 @@ no_byte_lost old new left left' some none_held none_ahead passes =
     cc
 
 no_break_before_a_record : (old : Window) (left left' : Option (List ℕ)) (game : PackedGame)
-    → FitsRecord game
-    → old.ahead ≡ record_bytes game → BreaksOff old left left' → ⊥
+    → FitsRecord game → old.ahead ≡ record_bytes game → BreaksOff old left left' → ⊥
 no_break_before_a_record old left left' game fits held breaks =
     breaks.none game breaks.read fits (ap (λ (bytes : List ℕ). bytes ++ breaks.read) held)
 

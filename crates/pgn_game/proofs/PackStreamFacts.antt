@@ -2,15 +2,13 @@
 use Rattle.std.proofs.Common.{◌≡◌, ℕ, ◌+◌, ◌-◌, ◌<◌, ◌≤◌, Bool, true, false, List, [], ◌++◌, length}
 use Rattle.std.proofs.Common.{take, drop, Option, Some, None, Ok, Err, refl, sym, ap, subst, ◌∙◌}
 use Rattle.std.proofs.Common.{append_assoc, arith, take-append-drop, length-append, append-nil}
-use Rattle.std.specs.Int.{w32, to_be_bytes, from_be_bytes}
-use Rattle.std.proofs.lemmas.List.{take_at, drop_at, take-append-le, length-take-le}
-use Rattle.pgn_text.specs.Public.Limits.{largest_offset}
-use Rattle.pgn_game.specs.Public.PackedGames.{PackedGame, FitsRecord, body_bytes, record_bytes}
-use Rattle.pgn_game.specs.Public.PackedGames.{largest_body}
-use Rattle.pgn_game.specs.Public.PackReading.{RawRecord, raw_of, body_at, record_at}
-use Rattle.pgn_game.specs.Private.PackSteps.{HoldsWhole, IsWhole, IsPart, ReadsOn, HasBody, size_in}
-use Rattle.pgn_game.specs.Public.PackStreams.{Window, IsRecord, HasNoRecord, PassesOn, StepGives}
-use Rattle.pgn_game.specs.declared.pack.error.RecordError.{RecordError}
+use Rattle.std.proofs.lemmas.List.{take-append-le, length-take-le}
+use Rattle.pgn_game.proofs.Common.{w32, to_be_bytes, from_be_bytes, take_at, drop_at}
+use Rattle.pgn_game.proofs.Common.{largest_offset, PackedGame, FitsRecord, body_bytes, record_bytes}
+use Rattle.pgn_game.proofs.Common.{largest_body, RawRecord, raw_of, body_at, record_at, ReadsOn}
+use Rattle.pgn_game.proofs.Common.{HasBody, Window, HasNoRecord, PassesOn, RecordError}
+use Rattle.pgn_game.specs.Private.PackSteps.{HoldsWhole, IsWhole, IsPart, size_in}
+use Rattle.pgn_game.specs.Public.PackStreams.{IsRecord, StepGives}
 use Rattle.pgn_game.specs.declared.pack.records.RecordsError.{RecordsError}
 use Rattle.pgn_game.specs.declared.pack.records.RecordsError.TheVariants.{Read, OutOfMemory}
 use Rattle.pgn_game.specs.declared.pack.records.RecordsError.TheVariants.{BadPack, InputTooLong}
@@ -24,8 +22,7 @@ size_in_front game rest fits =
     let size = length (body_bytes game) in
     let parts : record_bytes game ++ rest ≡ to_be_bytes w32 size ++ (body_bytes game ++ rest) =
     append_assoc (to_be_bytes w32 size) (body_bytes game) rest in
-    ap (λ (bytes : List ℕ). from_be_bytes w32 (take 4 bytes)) parts
-    ∙ ap (from_be_bytes w32)
+    ap (λ (bytes : List ℕ). from_be_bytes w32 (take 4 bytes)) parts ∙ ap (from_be_bytes w32)
     (take_at (to_be_bytes w32 size) (body_bytes game ++ rest) 4 (wide32.len size))
     ∙ wide32.again size (omega (arith, fits.size))
 
@@ -147,8 +144,7 @@ held_step old passed ahead place size left left' is on found = (
 
 -- a step that reading on ends
 pub failed_step : (old : Window) (passed ahead : List ℕ) (place : ℕ) (left left' : Option (List ℕ))
-    (error : RecordsError)
-    → passed ≡ old.ahead → HoldsWhole passed ahead left left' (Err error)
+    (error : RecordsError) → passed ≡ old.ahead → HoldsWhole passed ahead left left' (Err error)
     → StepGives old (record { current = []; ahead = ahead; place = place }) left left' (Err error)
 failed_step old passed ahead place left None BadPack is held =
     (passes old passed ahead place left None is held.0, refl, tt)

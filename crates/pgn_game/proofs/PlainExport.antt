@@ -1,20 +1,14 @@
 -- No line of an export is misread but its first, which is its event line.
 use Rattle.std.proofs.Common.{◌≡◌, ◌≢◌, ℕ, Bool, true, false, ◌&&◌, ◌||◌, List, [], ◌∷◌, ◌++◌, refl}
 use Rattle.std.proofs.Common.{sym, ap, ◌∙◌, subst, inl, inr, append_assoc, arith}
-use Rattle.std.proofs.lemmas.Bool.{and_parts}
-use Rattle.std.proofs.lemmas.Slice.Eq.{bytes_eq-Decides}
-use Rattle.std.specs.List.{list_all}
-use Rattle.std.specs.Prelude.{◌==◌, not, bytes_eq, if◌then◌else◌, codes, filter, flat_map, is_some}
-use Rattle.std.specs.Prelude.{Option, Some, None}
-use Rattle.pgn_text.specs.Public.Blocks.{event_line}
+use Rattle.std.specs.Prelude.{flat_map, Option, Some, None}
+use Rattle.pgn_game.proofs.Common.{and_parts, bytes_eq-Decides, list_all, ◌==◌, not, bytes_eq}
+use Rattle.pgn_game.proofs.Common.{if◌then◌else◌, codes, filter, is_some, event_line, IsResult}
+use Rattle.pgn_game.proofs.Common.{tag_in, tag_names, IsMisread, IsReadAsOne, fen_tag, missing_text}
+use Rattle.pgn_game.proofs.Common.{escaped, IsTagText, tag_line, AreLinesOf, is_beside, Style}
 use Rattle.pgn_text.specs.Public.Bytes.{is_name_byte, is_plain}
-use Rattle.pgn_text.specs.Public.GameTexts.{IsResult, tag_in, tag_names}
 use Rattle.pgn_text.specs.Public.Strings.{Sign, Single, Escaped, is_sign, value_of_sign}
-use Rattle.pgn_game.specs.Public.Laws.{IsMisread, IsReadAsOne, ExportIsReadAsOne}
-use Rattle.pgn_game.specs.Public.Starts.{fen_tag}
-use Rattle.pgn_game.specs.Public.TagLines.{missing_text, escaped, IsTagText, tag_line, AreLinesOf}
-use Rattle.pgn_game.specs.Public.TagLines.{is_beside}
-use Rattle.pgn_game.specs.declared.exports.style.Style.{Style}
+use Rattle.pgn_game.specs.Public.Laws.{ExportIsReadAsOne}
 use Rattle.pgn_game.proofs.PlainLines.{HasNoFeed, IsRight, same_word, solid_feed, after_feed}
 use Rattle.pgn_game.proofs.PlainLines.{line_right, feed_right, movetext_right, feed_alone}
 use Rattle.pgn_game.proofs.PlainTokens.{AllOf, IsInk, IsSolid, all_append, result_may}

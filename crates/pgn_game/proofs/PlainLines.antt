@@ -1,15 +1,9 @@
 -- No line of tokens that may begin a line is misread.
-use Rattle.std.proofs.Common.{◌≡◌, ◌⊎◌, ℕ, List, [], ◌∷◌, ◌++◌, refl, sym, ap, ◌∙◌, subst, inl, inr}
-use Rattle.std.proofs.Common.{append_assoc, append-nil, arith}
-use Rattle.std.specs.Prelude.{codes}
-use Rattle.chess.specs.Public.Positions.{State}
-use Rattle.pgn_text.specs.Public.Blocks.{event_line}
-use Rattle.pgn_text.specs.Public.GameTexts.{IsResult}
-use Rattle.pgn_text.specs.Public.Games.{Item}
-use Rattle.pgn_game.specs.Public.Exports.{AreMovetextTokens}
-use Rattle.pgn_game.specs.Public.Laws.{BeginsLine, IsMisread, NoLineIsMisread}
-use Rattle.pgn_game.specs.Public.TextLines.{joined, tokens_of, text_of, AreLines, IsLaid}
-use Rattle.pgn_game.specs.declared.exports.style.Style.{Style}
+use Rattle.pgn_game.proofs.Common.{◌≡◌, ◌⊎◌, ℕ, List, [], ◌∷◌, ◌++◌, refl, sym, ap, ◌∙◌, subst, inl}
+use Rattle.pgn_game.proofs.Common.{inr, append_assoc, append-nil, arith, codes, State, event_line}
+use Rattle.pgn_game.proofs.Common.{IsResult, Item, AreMovetextTokens, IsMisread, joined, tokens_of}
+use Rattle.pgn_game.proofs.Common.{text_of, AreLines, IsLaid, Style}
+use Rattle.pgn_game.specs.Public.Laws.{BeginsLine, NoLineIsMisread}
 use Rattle.pgn_game.proofs.PlainTokens.{AllOf, IsInk, IsSolid, MayBegin, AllMayBegin, MayStand}
 use Rattle.pgn_game.proofs.PlainTokens.{AllMayStand, may_both, all_append, all_front, all_back}
 use Rattle.pgn_game.proofs.PlainTokens.{movetext_may}
@@ -134,8 +128,7 @@ may_line token (next ∷ line) all =
 
 -- the lines of tokens, and what stands after them
 pub lines_right : (width : ℕ) (lines : List (List (List ℕ))) (tail : List ℕ) → AreLines width lines
-    → AllMayStand (tokens_of lines) → IsRight tail
-    → IsRight (text_of lines ++ tail)
+    → AllMayStand (tokens_of lines) → IsRight tail → IsRight (text_of lines ++ tail)
 lines_right width [] tail are all right = right
 lines_right width ([] ∷ lines) tail are all right = absurd are.0
 lines_right width ((token ∷ line) ∷ lines) tail are all right =
@@ -144,8 +137,7 @@ lines_right width ((token ∷ line) ∷ lines) tail are all right =
     (line_right (joined (token ∷ line)) (text_of lines
     ++ tail) (subst HasNoFeed (sym words.whole)
     (joined_feed (words.first ∷ words.more) words.may))
-    (subst (λ bytes. IsMisread (bytes ++ 10 ∷ (text_of lines ++ tail)) → ⊥) (sym words.whole)
-    (line_read words.first words.more (text_of lines ++ tail) words.may.0))
+    (rw words.whole (line_read words.first words.more (text_of lines ++ tail) words.may.0))
     (lines_right width lines tail are.2 (all_back MayStand (token ∷ line) (tokens_of lines) all)
     right))
   where
@@ -161,10 +153,8 @@ pub movetext_right : (style : Style) (start : State) (items : List Item) (result
     → AreMovetextTokens style start items result tokens → IsLaid width tokens movetext
     → IsRight tail → IsRight (movetext ++ tail)
 movetext_right style start items result tokens width movetext tail ends are laid right =
-    subst (λ text. IsRight (text ++ tail)) (sym laid.spells)
-    (lines_right width laid.lines tail laid.are_lines
-    (subst AllMayStand (sym laid.all) (movetext_may style start items result tokens ends are))
-    right)
+    rw laid.spells (lines_right width laid.lines tail laid.are_lines (subst AllMayStand (sym
+    laid.all) (movetext_may style start items result tokens ends are)) right)
 
 pub no_line_misread : NoLineIsMisread
 no_line_misread style start items result tokens width movetext rest ends are laid begins read =

@@ -1,39 +1,23 @@
 -- A token of a movetext is words with one space between each two. No word begins an escape or is
 -- the word of an event line, and none holds
 -- a space or a line feed.
-use Rattle.std.proofs.Common.{◌≡◌, ◌≢◌, ◌⊎◌, ℕ, zero, suc, ◌+◌, ◌%◌, ◌/◌, ◌<◌, ◌≤◌, Bool, true}
-use Rattle.std.proofs.Common.{false, List, [], ◌∷◌, ◌++◌, map, refl, sym, ap, ◌∙◌, subst, inl, inr}
-use Rattle.std.proofs.Common.{append_assoc, append-nil, arith}
-use Rattle.std.proofs.lemmas.Bool.Decides.{nat_tests}
-use Rattle.std.specs.Prelude.{◌==◌, not, ◌||◌, if◌then◌else◌, bytes_eq, filter, Option, Some, None}
-use Rattle.std.specs.Prelude.{codes, decimal, nat_lt}
+use Rattle.std.specs.Prelude.{Option, Some, None, nat_lt}
 use Rattle.std.specs.Fmt.{digit_glyph, digits_onto, digits}
-use Rattle.chess.specs.Public.Letters.{kind_letter, square_text}
-use Rattle.chess.specs.Public.Moves.{after}
-use Rattle.chess.specs.Public.Positions.{State}
+use Rattle.pgn_game.proofs.Common.{◌≡◌, ◌≢◌, ◌⊎◌, ℕ, zero, suc, ◌+◌, ◌%◌, ◌/◌, ◌<◌, ◌≤◌, Bool, true}
+use Rattle.pgn_game.proofs.Common.{false, List, [], ◌∷◌, ◌++◌, map, refl, sym, ap, ◌∙◌, subst, inl}
+use Rattle.pgn_game.proofs.Common.{inr, append_assoc, append-nil, arith, nat_tests, ◌==◌, not, ◌||◌}
+use Rattle.pgn_game.proofs.Common.{if◌then◌else◌, bytes_eq, filter, codes, decimal, kind_letter}
+use Rattle.pgn_game.proofs.Common.{square_text, after, State, promotion_text, Kind, King, Queen}
+use Rattle.pgn_game.proofs.Common.{Rook, Bishop, Knight, Pawn, Side, White, Black, Wing, KingSide}
+use Rattle.pgn_game.proofs.Common.{QueenSide, Move, Item, IsResult, is_white, is_empty, begins}
+use Rattle.pgn_game.proofs.Common.{Line, LineEnd, ThenMove, ThenGlyph, ThenComment, ThenVariation}
+use Rattle.pgn_game.proofs.Common.{after_turn, in_first, cut_at_white, words_in, unbraced}
+use Rattle.pgn_game.proofs.Common.{later_word, closed, braced, ties, in_front, tied, comment_tokens}
+use Rattle.pgn_game.proofs.Common.{number_tokens, IsTurnText, kept, AreTokens, AreMovetextTokens}
+use Rattle.pgn_game.proofs.Common.{joined, Style, LineMove, Played, Passed}
 use Rattle.chess.specs.Public.San.{castling_text, capture_text, is_capture, pawn_text}
-use Rattle.chess.specs.Public.San.{promotion_text, IsDisambiguation, alone, by_file, by_rank}
-use Rattle.chess.specs.Public.San.{by_both, IsPieceText, IsBody, IsCheckSign, mate, check, quiet}
-use Rattle.chess.specs.declared.board.man.Kind.{Kind}
-use Rattle.chess.specs.declared.board.man.Kind.TheVariants.{King, Queen, Rook, Bishop, Knight, Pawn}
-use Rattle.chess.specs.declared.board.man.Side.{Side}
-use Rattle.chess.specs.declared.board.man.Side.TheVariants.{White, Black}
-use Rattle.chess.specs.declared.board.man.Wing.{Wing}
-use Rattle.chess.specs.declared.board.man.Wing.TheVariants.{KingSide, QueenSide}
-use Rattle.chess.specs.declared.moves.Move.{Move}
-use Rattle.pgn_text.specs.Public.Games.{Item}
-use Rattle.pgn_text.specs.Public.GameTexts.{IsResult}
-use Rattle.pgn_text.specs.Public.Bytes.{is_white, is_empty, begins}
-use Rattle.pgn_game.specs.Public.AllLines.{Line, LineEnd, ThenMove, ThenGlyph, ThenComment}
-use Rattle.pgn_game.specs.Public.AllLines.{ThenVariation, after_turn}
-use Rattle.pgn_game.specs.Public.Comments.{in_first, cut_at_white, words_in, unbraced, later_word}
-use Rattle.pgn_game.specs.Public.Comments.{closed, braced, ties, in_front, tied, comment_tokens}
-use Rattle.pgn_game.specs.Public.Exports.{number_tokens, IsTurnText, kept, AreTokens}
-use Rattle.pgn_game.specs.Public.Exports.{AreMovetextTokens}
-use Rattle.pgn_game.specs.Public.TextLines.{joined}
-use Rattle.pgn_game.specs.declared.exports.style.Style.{Style}
-use Rattle.pgn_game.specs.declared.turns.line_move.LineMove.{LineMove}
-use Rattle.pgn_game.specs.declared.turns.line_move.LineMove.TheVariants.{Played, Passed}
+use Rattle.chess.specs.Public.San.{IsDisambiguation, alone, by_file, by_rank, by_both, IsPieceText}
+use Rattle.chess.specs.Public.San.{IsBody, IsCheckSign, mate, check, quiet}
 
 -- each element has the property
 abbrev pub AllOf : {X : Type 0} → (X → Type 0) → List X → Type 0
@@ -156,8 +140,7 @@ digit : (n : ℕ) → (48 ≤ digit_glyph false (n % 10)) × (digit_glyph false 
 digit n = let small : n % 10 < 10 = omega arith in
     by (nat_lt (n % 10) 10) (grind (arith, nat_tests)) small
   where
-    by : (b : Bool) → b ≡ true → n % 10 < 10
-        → (48 ≤ (if b then 48 + n % 10 else 87 + n % 10))
+    by : (b : Bool) → b ≡ true → n % 10 < 10 → (48 ≤ (if b then 48 + n % 10 else 87 + n % 10))
         × ((if b then 48 + n % 10 else 87 + n % 10) ≤ 57)
     by true e small = (omega arith, omega arith)
     by false e small = absurd (cc)
@@ -488,8 +471,7 @@ braced_may [] solid = (
 )
 braced_may (word ∷ []) solid = (first_may word (codes "}") solid.0 (inr refl), record {})
 braced_may (word ∷ next ∷ more) solid = (
-  subst (λ bytes. MayBegin (123 ∷ bytes)) (append-nil (unbraced word))
-      (first_may word [] solid.0 (inl refl)),
+  rw (← (append-nil (unbraced word))) (first_may word [] solid.0 (inl refl)),
   later_words_may (next ∷ more) solid.1,
 )
 

@@ -1,18 +1,11 @@
 -- A main line that is played ply by ply: what one element of its game does.
-use Rattle.std.proofs.Common.{◌≡◌, ◌+◌, ◌-◌, ◌<◌, ◌≤◌, true, false, List, [], ◌∷◌, length, get_or}
-use Rattle.std.proofs.Common.{take, drop, map, sym, subst, ap, ◌∙◌, arith}
 use Rattle.std.specs.Prelude.{Option, Some, None}
 use Rattle.std.specs.Option.{is_some}
-use Rattle.std.proofs.lemmas.List.{take_all}
-use Rattle.chess.specs.declared.moves.Move.{Move}
-use Rattle.chess.specs.Public.Moves.{after}
-use Rattle.chess.specs.Public.San.{IsOnlyNamed}
-use Rattle.pgn_text.specs.Public.Elements.{item_of}
-use Rattle.pgn_text.specs.declared.game.Element.{Element}
-use Rattle.pgn_game.specs.Public.MainLines.{main_words}
-use Rattle.pgn_game.specs.Public.PlayedLines.{PlayedLine, PlaysWord, HasEnded}
-use Rattle.pgn_game.specs.Private.Walks.{HasStepped}
-use Rattle.pgn_game.specs.declared.replays.main_line.MainWalk.{MainWalk}
+use Rattle.pgn_game.proofs.Common.{◌≡◌, ◌+◌, ◌-◌, ◌<◌, ◌≤◌, true, false, List, [], ◌∷◌, length}
+use Rattle.pgn_game.proofs.Common.{get_or, take, drop, map, sym, subst, ap, ◌∙◌, arith, take_all}
+use Rattle.pgn_game.proofs.Common.{Move, after, IsOnlyNamed, item_of, Element, main_words}
+use Rattle.pgn_game.proofs.Common.{PlayedLine, HasEnded, HasStepped, MainWalk}
+use Rattle.pgn_game.specs.Public.PlayedLines.{PlaysWord}
 use Rattle.pgn_game.proofs.WalkFacts.{items_step}
 
 -- the elements after the first
@@ -78,8 +71,7 @@ pub has_ended : (walk : MainWalk) (rest : List Element) (entry : PlayedLine) →
     → HasEnded entry (record {
       position = walk.position;
       plies = walk.plies;
-      words =
-          main_words (map item_of rest) walk.depth;
+      words = main_words (map item_of rest) walk.depth;
     })
 has_ended walk [] entry none words position plies = record {
   words = sym words;

@@ -1,28 +1,21 @@
 -- The men moved by the code of a move are the men after it; three bytes spell one code, and each
 -- three bytes do.
-use Rattle.std.proofs.Common.{◌≡◌, ◌↔◌, ℕ, zero, suc, ◌+◌, ◌*◌, ◌/◌, ◌%◌, ◌<◌, ◌==◌, ltb, Bool}
-use Rattle.std.proofs.Common.{true, false, cond, List, [], ◌∷◌, Option, Some, None, IfSome, refl}
-use Rattle.std.proofs.Common.{sym, ap, subst, ◌∙◌, arith}
-use Rattle.std.proofs.lemmas.Option.{same_Some, none-some}
-use Rattle.chess.specs.Public.Squares.{Place, IsOnBoard, square_at, index_of}
-use Rattle.chess.specs.Shared.SquareFacts.{index_of-square_at}
-use Rattle.chess.specs.Shared.SetFacts.{square_at-index_of, index_of-below, on_board-square_at}
-use Rattle.chess.specs.Public.Placements.{Placement, with_man}
-use Rattle.chess.specs.Public.Positions.{State, king_of}
-use Rattle.chess.specs.Public.Moves.{after, arriving, with_rook, is_en_passant, Goes, IsPseudoLegal}
-use Rattle.chess.specs.declared.board.man.Man.{Man}
-use Rattle.chess.specs.declared.board.man.Side.{Side}
-use Rattle.chess.specs.declared.board.man.Side.TheVariants.{White, Black}
-use Rattle.chess.specs.declared.board.man.Kind.{Kind}
-use Rattle.chess.specs.declared.board.man.Kind.TheVariants.{King, Queen, Rook, Bishop, Knight, Pawn}
-use Rattle.chess.specs.declared.board.man.Wing.{Wing}
-use Rattle.chess.specs.declared.board.man.Wing.TheVariants.{KingSide, QueenSide}
-use Rattle.chess.specs.declared.moves.Move.{Move}
+use Rattle.std.proofs.Common.{◌==◌, IfSome}
+use Rattle.pgn_game.proofs.Common.{◌≡◌, ◌↔◌, ℕ, zero, suc, ◌+◌, ◌*◌, ◌/◌, ◌%◌, ◌<◌, ltb, Bool, true}
+use Rattle.pgn_game.proofs.Common.{false, cond, List, [], ◌∷◌, Option, Some, None, refl, sym, ap}
+use Rattle.pgn_game.proofs.Common.{subst, ◌∙◌, arith, same_Some, none-some, Place, IsOnBoard}
+use Rattle.pgn_game.proofs.Common.{square_at, index_of, index_of-square_at, square_at-index_of}
+use Rattle.pgn_game.proofs.Common.{index_of-below, Placement, State, king_of, after, arriving, Goes}
+use Rattle.pgn_game.proofs.Common.{IsPseudoLegal, Man, Side, White, Black, Kind, King, Queen, Rook}
+use Rattle.pgn_game.proofs.Common.{Bishop, Knight, Pawn, Wing, KingSide, QueenSide, Move, PlyCode}
+use Rattle.pgn_game.proofs.Common.{AreMarks, IsCode, AreCodes, FitsCode, bit, marks_number}
+use Rattle.pgn_game.proofs.Common.{man_number, numbered_kind, code_bytes, code_of}
+use Rattle.chess.specs.Shared.SetFacts.{on_board-square_at}
+use Rattle.chess.specs.Public.Placements.{with_man}
+use Rattle.chess.specs.Public.Moves.{with_rook, is_en_passant}
 use Rattle.pgn_game.specs.Public.Laws.{MoveHasOneCode, CodeOfAMoveFits, CodeMovesAsItsMove}
 use Rattle.pgn_game.specs.Public.Laws.{GameHasOneRecord}
-use Rattle.pgn_game.specs.Public.PlyCodes.{PlyCode, AreMarks, IsCode, AreCodes, FitsCode, bit}
-use Rattle.pgn_game.specs.Public.PlyCodes.{marks_number, man_number, numbered_kind, numbered_man}
-use Rattle.pgn_game.specs.Public.PlyCodes.{numbered_castle, code_bytes, code_of}
+use Rattle.pgn_game.specs.Public.PlyCodes.{numbered_man, numbered_castle}
 
 -- the man that arrives is one of the side to move
 arrives_own : (P : State) (m : Move) (man : Man) (promote : Option Kind) → IsPseudoLegal P m
@@ -64,8 +57,7 @@ one_code_of_a_move P m c other own also =
       taken = taken i;
       man = man i;
       castle = castle i;
-      check =
-          check i;
+      check = check i;
       stuck = stuck i;
     }
 
@@ -101,8 +93,7 @@ one_record_of_a_game its_name its_number its_offset game replay packed other own
       offset = offset i;
       name = name i;
       tags = tags i;
-      result =
-          result i;
+      result = result i;
       check = check i;
       stuck = stuck i;
       plies = plies i;
@@ -272,8 +263,7 @@ code_fits a b d = record {
       (cond ((b / 64 + 4 * (d / 64)) % 2 == 0) KingSide QueenSide)
       (record {
         side = cond (ltb (b / 64 + 4 * (d / 64)) 6) White Black;
-        kind =
-            numbered_kind ((b / 64 + 4 * (d / 64)) % 6);
+        kind = numbered_kind ((b / 64 + 4 * (d / 64)) % 6);
       })
       (king_of (cond (ltb (b / 64 + 4 * (d / 64)) 14) White Black)) refl;
 }
@@ -291,8 +281,7 @@ second_mark _ _ = refl
 -- the code of the bytes that spell a code is that code
 pub code_again : (c : PlyCode) → FitsCode c
     → code_of (index_of c.from + 64 * (marks_number c.check c.stuck)) (index_of c.to + 64
-    * (man_number c.man c.castle % 4)) (index_of c.taken + 64 * (man_number c.man c.castle / 4))
-    ≡ c
+    * (man_number c.man c.castle % 4)) (index_of c.taken + 64 * (man_number c.man c.castle / 4)) ≡ c
 code_again c fits =
     let low = man_below c.man c.castle in
     let f = index_of-below c.from fits.from in let t = index_of-below c.to fits.to in let k =

@@ -1,26 +1,15 @@
 -- The line that elements lead to: it is one, and a word that is refused there is the fault of the
 -- game.
-use Rattle.std.proofs.Common.{◌≡◌, ℕ, ◌+◌, ◌-◌, zero, suc, Bool, true, false, ◌&&◌, List, [], ◌∷◌}
-use Rattle.std.proofs.Common.{◌++◌, length, take, map, refl, sym, ap, ◌∙◌, subst, inl, inr}
-use Rattle.std.proofs.Common.{append-nil, length-append, arith}
-use Rattle.std.proofs.lemmas.Bool.Decides.{nat_tests}
-use Rattle.std.proofs.lemmas.List.{map-append}
-use Rattle.std.specs.Prelude.{◌==◌, if◌then◌else◌}
-use Rattle.chess.specs.Public.Positions.{State}
-use Rattle.pgn_text.specs.Public.Games.{Item, MoveText, GlyphNumber, CommentText, VariationOpen}
-use Rattle.pgn_text.specs.Public.Games.{VariationClose}
-use Rattle.pgn_text.specs.Public.GameTexts.{IsPaired}
-use Rattle.pgn_game.specs.Public.AllLines.{is_pass, IsTurn}
-use Rattle.pgn_game.specs.Public.Faults.{Fault, IsRefusedTurn, IsMoveFault, HasLineFault}
-use Rattle.pgn_game.specs.Private.LineWalks.{is_inside, gone_on, begun, first_level, Stops, Leads}
-use Rattle.pgn_game.specs.Public.MainLines.{main_words}
-use Rattle.pgn_game.specs.Public.Refusals.{played_items, PlayedLine, after_move, in_its_place}
-use Rattle.pgn_game.specs.Public.Refusals.{main_line, is_variation, LeadTo, IsPlayedThere}
-use Rattle.pgn_game.specs.Public.Refusals.{OneLineIsReached, RefusedWordIsTheFault}
-use Rattle.pgn_game.specs.declared.replays.walk.Level.{Level}
-use Rattle.pgn_game.specs.declared.replays.replayer.Lines.{Lines}
-use Rattle.pgn_game.specs.declared.replays.replayer.Lines.TheVariants.{Main, All}
-use Rattle.pgn_game.specs.declared.turns.line_move.LineMove.TheVariants.{Played, Passed}
+use Rattle.pgn_game.proofs.Common.{◌≡◌, ℕ, ◌+◌, ◌-◌, zero, suc, Bool, true, false, ◌&&◌, List, []}
+use Rattle.pgn_game.proofs.Common.{◌∷◌, ◌++◌, length, take, map, refl, sym, ap, ◌∙◌, subst, inl}
+use Rattle.pgn_game.proofs.Common.{inr, append-nil, length-append, arith, nat_tests, map-append}
+use Rattle.pgn_game.proofs.Common.{◌==◌, if◌then◌else◌, State, Item, MoveText, GlyphNumber}
+use Rattle.pgn_game.proofs.Common.{CommentText, VariationOpen, VariationClose, IsPaired, is_pass}
+use Rattle.pgn_game.proofs.Common.{IsTurn, Fault, IsRefusedTurn, IsMoveFault, HasLineFault}
+use Rattle.pgn_game.proofs.Common.{is_inside, gone_on, begun, first_level, Stops, Leads, main_words}
+use Rattle.pgn_game.proofs.Common.{played_items, after_move, in_its_place, main_line, is_variation}
+use Rattle.pgn_game.proofs.Common.{LeadTo, IsPlayedThere, Level, Lines, Main, All, Played, Passed}
+use Rattle.pgn_game.specs.Public.Refusals.{PlayedLine, OneLineIsReached, RefusedWordIsTheFault}
 use Rattle.pgn_game.proofs.OneLine.{one_turn}
 use Rattle.pgn_game.proofs.RunFacts.{stops_faulty}
 
@@ -216,6 +205,5 @@ refused_word_is_the_fault lines start items index inside line (
 ) word more fault paired refused =
     let after = played_then lines items index word more there in
     stops_from lines start (take index items ++ MoveText word ∷ more) fault paired
-    (subst (λ xs. Stops xs (first_level start) [] fault) (sym after.1)
-    (lead_stops (played_items lines (take index items) 0) (first_level start) [] inside line word
-    after.0 fault leads refused))
+    (rw after.1 (lead_stops (played_items lines (take index items) 0) (first_level start) [] inside
+    line word after.0 fault leads refused))

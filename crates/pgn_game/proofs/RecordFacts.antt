@@ -1,25 +1,19 @@
 -- The two laws: what is read is spelled so, and what is spelled so is read.
-use Rattle.std.proofs.Common.{◌≡◌, ℕ, zero, suc, ◌-◌, ◌*◌, ◌/◌, ◌%◌, ◌^◌, ◌<◌, ◌≤◌, ◌==◌, Bool}
-use Rattle.std.proofs.Common.{true, false, cond, eqb, ltb, List, [], ◌∷◌, ◌++◌, length, take, drop}
-use Rattle.std.proofs.Common.{Option, Some, None, Result, Ok, Err, refl, sym, ap, subst, ◌∙◌}
-use Rattle.std.proofs.Common.{append_assoc, arith}
-use Rattle.std.specs.Prelude.{IfOk, IfSome, is_some}
-use Rattle.std.specs.List.{flat_map, AllByRecursion}
-use Rattle.std.specs.Int.{w32, w64, to_be_bytes}
-use Rattle.std.proofs.lemmas.Bool.{eqb-true, ltb-false, le-ltb}
+use Rattle.std.proofs.Common.{◌==◌, eqb}
+use Rattle.std.specs.Prelude.{IfOk}
 use Rattle.std.proofs.lemmas.List.{length-append, length-take, take_at, drop_at, take-append-drop}
-use Rattle.std.proofs.lemmas.List.Concat.{flat_map-cons}
-use Rattle.pgn_game.specs.declared.pack.error.RecordError.{RecordError}
-use Rattle.pgn_game.specs.declared.pack.error.RecordError.TheVariants.{CutShort, TooLarge, TagOrder}
-use Rattle.pgn_game.specs.declared.pack.error.RecordError.TheVariants.{PartOfPly, NoOrigin}
-use Rattle.pgn_game.specs.Public.PlyCodes.{PlyCode, FitsCode, marks_number, code_bytes, code_of}
-use Rattle.pgn_game.specs.Public.PackedGames.{PackedGame, Tag, FitsRecord, with_length, name_bytes}
-use Rattle.pgn_game.specs.Public.PackedGames.{FitsTag, numbered_result, record_bytes, largest_body}
-use Rattle.pgn_game.specs.Public.PackedGames.{tag_bytes, head_of, tail_bytes, body_bytes, is_origin}
-use Rattle.pgn_game.specs.Public.PackReading.{Gives, RawRecord, raw_of, number_at, text_at, name_at}
-use Rattle.pgn_game.specs.Public.PackReading.{tag_at, follows}
-use Rattle.pgn_game.specs.Public.PackReading.{next_tag, after_tags, body_at, size_at, record_at}
-use Rattle.pgn_game.specs.Private.PackSteps.{HasBody}
+use Rattle.pgn_game.proofs.Common.{◌≡◌, ℕ, zero, suc, ◌-◌, ◌*◌, ◌/◌, ◌%◌, ◌^◌, ◌<◌, ◌≤◌, Bool, true}
+use Rattle.pgn_game.proofs.Common.{false, cond, ltb, List, [], ◌∷◌, ◌++◌, length, take, drop}
+use Rattle.pgn_game.proofs.Common.{Option, Some, None, Result, Ok, Err, refl, sym, ap, subst, ◌∙◌}
+use Rattle.pgn_game.proofs.Common.{append_assoc, arith, IfSome, is_some, flat_map, AllByRecursion}
+use Rattle.pgn_game.proofs.Common.{w32, w64, to_be_bytes, eqb-true, ltb-false, le-ltb}
+use Rattle.pgn_game.proofs.Common.{flat_map-cons, RecordError, CutShort, TooLarge, TagOrder}
+use Rattle.pgn_game.proofs.Common.{PartOfPly, NoOrigin, PlyCode, FitsCode, marks_number, code_bytes}
+use Rattle.pgn_game.proofs.Common.{code_of, PackedGame, Tag, FitsRecord, with_length, name_bytes}
+use Rattle.pgn_game.proofs.Common.{FitsTag, numbered_result, record_bytes, largest_body, tag_bytes}
+use Rattle.pgn_game.proofs.Common.{head_of, tail_bytes, body_bytes, is_origin, RawRecord, raw_of}
+use Rattle.pgn_game.proofs.Common.{number_at, text_at, name_at, tag_at, follows, next_tag, HasBody}
+use Rattle.pgn_game.specs.Public.PackReading.{Gives, after_tags, body_at, size_at, record_at}
 use Rattle.pgn_game.proofs.PlyCodeFacts.{code_takes, code_fits, pairs}
 use Rattle.pgn_game.proofs.HeadFacts.{name_takes, name_again, named_below, result_taken}
 use Rattle.pgn_game.proofs.HeadFacts.{result_is_below, head_taken, head_shows, mark_below}
@@ -34,8 +28,7 @@ guard_ended true d x y e = (refl, cc)
 guard_ended false d x y e = absurd cc
 
 tested_so : {A : Type 0} (b : Bool) (d : RecordError) (r : Result A RecordError) (y : A)
-    → cond b r (Err d) ≡ Ok y
-    → (b ≡ true) × (r ≡ Ok y)
+    → cond b r (Err d) ≡ Ok y → (b ≡ true) × (r ≡ Ok y)
 tested_so true d r y e = (refl, e)
 tested_so false d r y e = absurd cc
 
@@ -89,15 +82,13 @@ tag_again last t rest fits order =
 tags_take : (n : ℕ) (last : Option (List ℕ)) (bytes rest : List ℕ) → IsBytes bytes
     → after_tags n last bytes ≡ Ok rest
     → (ts : List Tag) × (length ts ≡ n) × AllByRecursion FitsTag ts
-    × Takes bytes (flat_map tag_bytes ts) rest
-    × AreRising last ts
+    × Takes bytes (flat_map tag_bytes ts) rest × AreRising last ts
 unfolding after_tags
 tags_take zero last bytes rest fits e = (
   [],
   refl,
   tt,
-  subst (λ (r : List ℕ). Takes bytes [] r) (ok_is bytes rest e)
-      (record { parts = refl; rest_fits = fits }),
+  rw (← (ok_is bytes rest e)) (record { parts = refl; rest_fits = fits }),
   tt,
 )
 tags_take (suc n) last bytes rest fits e =
@@ -176,8 +167,7 @@ body_is : (number offset head : ℕ) (name : Option (List ℕ))
       offset = offset;
       head = head;
       name = name;
-      tail =
-          tail;
+      tail = tail;
       plies = plies;
     })
 body_is number offset head name bytes after_number after_offset after_head tail plies tags codes
@@ -231,8 +221,7 @@ body_takes bytes raw fits size e =
       offset = offset.0;
       head = head.0;
       name = name.0;
-      tail =
-          name.1;
+      tail = name.1;
       plies = plies;
     })) (Err NoOrigin)) (Err PartOfPly) in
     let named : (ℕ × List ℕ) → Result (Option (List ℕ) × List ℕ) RecordError =
@@ -256,8 +245,7 @@ body_takes bytes raw fits size e =
       head = c.0.0;
       name = n.0.0;
       tail = n.0.1;
-      plies =
-          d.0;
+      plies = d.0;
     } in
     let whole =
     tested_so (eqb (length d.0 % 3) 0) PartOfPly

@@ -2,16 +2,15 @@
 use Rattle.std.proofs.Common.{◌≡◌, ℕ, suc, ◌+◌, ◌-◌, ◌^◌, ◌<◌, ◌≤◌, Bool, true, false, cond, ltb}
 use Rattle.std.proofs.Common.{List, ◌∷◌, ◌++◌, length, get_or, take, drop, Option, Some, Result, Ok}
 use Rattle.std.proofs.Common.{Err, refl, sym, ap, subst, ◌∙◌, append_assoc, arith, inl, inr}
-use Rattle.std.specs.Int.{Width, w32, w64, byte_len, from_be_bytes, to_be_bytes}
-use Rattle.std.proofs.lemmas.Bool.{cases_lt, ltb-false, le-ltb}
-use Rattle.std.proofs.lemmas.List.{take_at, drop_at, take-append-drop, length-append, length-take}
-use Rattle.std.proofs.lemmas.List.{get_or-drop, get_or-take, get_or_past}
+use Rattle.std.specs.Int.{Width, byte_len}
+use Rattle.std.proofs.lemmas.Bool.{cases_lt}
+use Rattle.std.proofs.lemmas.List.{length-append, get_or-drop, get_or-take, get_or_past}
 use Rattle.std.proofs.lemmas.Nat.{be_bytes_4, be_bytes_8, from_be_bytes-to_be_bytes_4}
 use Rattle.std.proofs.lemmas.Nat.{from_be_bytes-to_be_bytes_8}
-use Rattle.pgn_game.specs.declared.pack.error.RecordError.{RecordError}
-use Rattle.pgn_game.specs.declared.pack.error.RecordError.TheVariants.{CutShort}
-use Rattle.pgn_game.specs.Public.PackedGames.{with_length}
-use Rattle.pgn_game.specs.Public.PackReading.{and_then, number_at, text_at, next_tag, after_tags}
+use Rattle.pgn_game.proofs.Common.{w32, w64, from_be_bytes, to_be_bytes, ltb-false, le-ltb, take_at}
+use Rattle.pgn_game.proofs.Common.{drop_at, take-append-drop, length-take, RecordError, CutShort}
+use Rattle.pgn_game.proofs.Common.{with_length, and_then, number_at, next_tag}
+use Rattle.pgn_game.specs.Public.PackReading.{text_at, after_tags}
 
 -- the next step after one
 infixl 10 ◌>>=◌
@@ -113,8 +112,7 @@ number_takes w limit wide bytes n rest fits e =
     (IsBytes-take (byte_len w) bytes fits)) in (
       record {
         parts = rw (front, ← rest-is) (sym (take-append-drop (byte_len w) bytes));
-        rest_fits =
-            rw (← rest-is) (IsBytes-drop (byte_len w) bytes fits);
+        rest_fits = rw (← rest-is) (IsBytes-drop (byte_len w) bytes fits);
       },
       rw (← n-is) (wide.below (take (byte_len w) bytes) (IsBytes-take (byte_len w) bytes fits)),
     )
@@ -150,8 +148,7 @@ text_takes bytes text rest fits e =
     let second : Takes n.1 (take n.0 n.1) (drop n.0 n.1) =
     record {
       parts = sym (take-append-drop n.0 n.1);
-      rest_fits =
-          IsBytes-drop n.0 n.1 t.0.rest_fits;
+      rest_fits = IsBytes-drop n.0 n.1 t.0.rest_fits;
     } in
     let both = Takes-then bytes (to_be_bytes w32 n.0) n.1 (take n.0 n.1) (drop n.0 n.1) t.0 second
     in

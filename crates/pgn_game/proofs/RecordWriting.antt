@@ -1,34 +1,21 @@
 -- What is written of a game is its record.
-use Rattle.std.proofs.Common.{◌≡◌, ℕ, zero, suc, ◌+◌, ◌*◌, ◌^◌, ◌<◌, ◌≤◌, Bool, List, [], ◌∷◌, ◌++◌}
-use Rattle.std.proofs.Common.{length, drop, map, Option, Some, None, refl, sym, ap, subst, ◌∙◌}
-use Rattle.std.proofs.Common.{append_assoc, arith, Bor}
-use Rattle.std.specs.List.{flat_map, slice_get, AllByRecursion}
-use Rattle.std.specs.Map.Iter.{deref_pair}
-use Rattle.std.specs.Int.{w32, w64, to_be_bytes}
-use Rattle.std.proofs.Math.ListN.{drop_of_length-le}
 use Rattle.std.proofs.lemmas.Grind.{flat_map-append}
-use Rattle.std.specs.Cmp.Lexicographic.{slice_cmp}
-use Rattle.std.specs.List.Sorted.{IsStrictlySortedBy}
-use Rattle.std.specs.Ordering.{nat_cmp}
-use Rattle.std.specs.Prelude.{option_map, true, IfSome}
-use Rattle.std.proofs.lemmas.Option.{slice_get-map, same_Some}
+use Rattle.std.specs.Prelude.{true}
 use Rattle.std.proofs.lemmas.List.{append-nil, length-append}
-use Rattle.std.proofs.lemmas.List.Concat.{flat_map-cons}
-use Rattle.chess.specs.Public.Positions.{State}
-use Rattle.chess.specs.Public.Moves.{after, HasMove}
-use Rattle.chess.specs.declared.moves.Move.{Move}
-use Rattle.pgn_text.specs.Public.Elements.{tag_of}
-use Rattle.pgn_text.specs.Public.GameTexts.{GameText, IsResult, tag_names}
-use Rattle.pgn_game.specs.Public.MainLines.{IsMainLine}
-use Rattle.pgn_game.specs.Public.Replays.{Replay}
-use Rattle.pgn_game.specs.Public.PlyCodes.{PlyCode, AreMarks, IsCode, AreCodes, FitsCode}
-use Rattle.pgn_game.specs.Public.PlyCodes.{code_bytes}
-use Rattle.pgn_game.specs.Public.PackedGames.{PackedGame, Tag, FitsTag, FitsRecord, IsPacked}
-use Rattle.pgn_game.specs.Public.PackedGames.{with_length, name_bytes, name_size, tag_bytes}
-use Rattle.pgn_game.specs.Public.PackedGames.{tags_size, body_size, tail_bytes, body_bytes}
-use Rattle.pgn_game.specs.Public.PackedGames.{record_bytes, head_of, largest_body, is_origin}
+use Rattle.pgn_game.proofs.Common.{◌≡◌, ℕ, zero, suc, ◌+◌, ◌*◌, ◌^◌, ◌<◌, ◌≤◌, Bool, List, [], ◌∷◌}
+use Rattle.pgn_game.proofs.Common.{◌++◌, length, drop, map, Option, Some, None, refl, sym, ap}
+use Rattle.pgn_game.proofs.Common.{subst, ◌∙◌, append_assoc, arith, Bor, flat_map, slice_get}
+use Rattle.pgn_game.proofs.Common.{AllByRecursion, deref_pair, w32, w64, to_be_bytes}
+use Rattle.pgn_game.proofs.Common.{drop_of_length-le, slice_cmp, IsStrictlySortedBy, nat_cmp}
+use Rattle.pgn_game.proofs.Common.{option_map, IfSome, slice_get-map, same_Some, flat_map-cons}
+use Rattle.pgn_game.proofs.Common.{State, after, HasMove, Move, tag_of, GameText, IsResult}
+use Rattle.pgn_game.proofs.Common.{tag_names, IsMainLine, Replay, PlyCode, AreMarks, IsCode}
+use Rattle.pgn_game.proofs.Common.{AreCodes, FitsCode, code_bytes, PackedGame, Tag, FitsTag}
+use Rattle.pgn_game.proofs.Common.{FitsRecord, IsPacked, with_length, name_bytes, name_size}
+use Rattle.pgn_game.proofs.Common.{tag_bytes, tags_size, body_size, tail_bytes, body_bytes}
+use Rattle.pgn_game.proofs.Common.{record_bytes, head_of, largest_body, is_origin, HasPutPlies}
 use Rattle.pgn_game.specs.Private.PackWords.{IsLinePlayed, AreMarksAfter, PutsFront, PutsHead}
-use Rattle.pgn_game.specs.Private.PackWords.{PutsPly, HasPutPlies, PutsPlies}
+use Rattle.pgn_game.specs.Private.PackWords.{PutsPly, PutsPlies}
 use Rattle.pgn_game.proofs.OneReplay.{line_head, move_at}
 use Rattle.pgn_game.proofs.OnBoard.{line_legal}
 use Rattle.pgn_game.proofs.PlyCodeFacts.{code_of_a_move_fits}
@@ -134,16 +121,14 @@ next_is replay plies P m line here at =
     let found = move_at line.0 line.1 replay.positions replay.played line.2 plies m at in
     let same : found.1 ≡ P = same_Some found.1 P (sym found.3 ∙ here) in
     let one : plies + 1 ≡ suc plies = omega arith in
-    rw one (subst (λ (Q : State). slice_get replay.positions (suc plies)
-    ≡ Some (after Q m)) same found.5)
+    rw one (rw (← same) found.5)
 
 pub next_marks : (replay : Replay) (plies : ℕ) (P : State) (m : Move) (check stuck : Bool)
     → IsLinePlayed replay → slice_get replay.positions plies ≡ Some P
     → slice_get replay.played plies ≡ Some m → AreMarksAfter replay (plies + 1) check stuck
     → AreMarks (after P m) check stuck
 next_marks replay plies P m check stuck line here at marks =
-    subst (λ (Q : State). AreMarks Q check stuck)
-    (same_Some marks.0 (after P m) (sym marks.1 ∙ next_is replay plies P m line here at))
+    rw (← (same_Some marks.0 (after P m) (sym marks.1 ∙ next_is replay plies P m line here at)))
     marks.2
 
 from_here : {A : Type 0} (xs : List A) (i : ℕ) (x : A) → slice_get xs i ≡ Some x
@@ -185,18 +170,8 @@ put_more replay plies old mid new line so_far ply =
       now = after so_far.now ply.m;
       here = next_is replay plies so_far.now ply.m line so_far.here ply.played;
       codes = so_far.codes ++ ply.code ∷ [];
-      whole = λ more are. subst (λ (codes : List PlyCode).
-          AreCodes so_far.start replay.played codes)
-          (sym (append_assoc so_far.codes (ply.code ∷ []) more))
-          (so_far.whole (ply.code
-          ∷ more) (subst (λ (moves : List Move).
-          AreCodes so_far.now moves (ply.code ∷ more)) (sym left) (
-            ply.code,
-            more,
-            refl,
-            is_code,
-            are,
-          )));
+      whole = λ more are. rw (append_assoc so_far.codes (ply.code ∷ []) more) (so_far.whole
+          (ply.code ∷ more) (rw left (ply.code, more, refl, is_code, are)));
       put = ply.put ∙ ap (λ (bytes : List ℕ). bytes ++ code_bytes ply.code) so_far.put
           ∙ append_assoc old (flat_map code_bytes so_far.codes) (code_bytes ply.code)
           ∙ ap (λ (bytes : List ℕ). old ++ bytes) (sym (flat_more so_far.codes ply.code));
@@ -211,9 +186,7 @@ put_ends replay plies old new all so_far =
       start = so_far.start;
       first = so_far.first;
       codes = so_far.codes;
-      are = subst (λ (codes : List PlyCode).
-          AreCodes so_far.start replay.played codes) (append-nil so_far.codes)
-          (so_far.whole [] none);
+      are = rw (← (append-nil so_far.codes)) (so_far.whole [] none);
       put = so_far.put;
     }
 
@@ -300,8 +273,7 @@ record_with name number offset game check stuck codes =
       offset = offset;
       name = name;
       tags = game.tags;
-      result =
-          game.result;
+      result = game.result;
       check = check;
       stuck = stuck;
       plies = codes;
@@ -310,8 +282,7 @@ record_with name number offset game check stuck codes =
 pub is_record_with : (name : Option (List ℕ)) (number offset : ℕ) (game : GameText)
     (replay : Replay) (start : State) (check stuck : Bool) (codes : List PlyCode)
     → slice_get replay.positions 0 ≡ Some start → AreMarks start check stuck
-    → AreCodes start replay.played codes
-    → IsPacked name number offset game replay
+    → AreCodes start replay.played codes → IsPacked name number offset game replay
     (record_with name number offset game check stuck codes)
 is_record_with name number offset game replay start check stuck codes first marks are =
     record {
@@ -320,8 +291,7 @@ is_record_with name number offset game replay start check stuck codes first mark
       offset = refl;
       tags = refl;
       result = refl;
-      start =
-          start;
+      start = start;
       first = first;
       marks = marks;
       plies = are;
@@ -329,8 +299,7 @@ is_record_with name number offset game replay start check stuck codes first mark
 
 -- what was written, field by field, is the record of the game
 pub written : (name : Option (List ℕ)) (number offset : ℕ) (game : GameText) (replay : Replay)
-    (old fronted headed named tagged new : List ℕ)
-    → number < 2 ^ 64 → offset < 2 ^ 64
+    (old fronted headed named tagged new : List ℕ) → number < 2 ^ 64 → offset < 2 ^ 64
     → IsStrictlySortedBy (slice_cmp nat_cmp) (tag_names game.tags)
     → is_origin number offset name ≡ true → IsResult game.result → IsLinePlayed replay
     → body_size name game.tags (length replay.played) ≤ largest_body
@@ -343,9 +312,7 @@ pub written : (name : Option (List ℕ)) (number offset : ℕ) (game : GameText)
 written name number offset game replay old fronted headed named tagged new number_fits offset_fits
     ordered origin ends line small front head name_put tags_put plies =
     let packed : PackedGame = record_with name number offset game head.0 head.1 plies.codes in
-    let marks =
-    subst (λ (P : State). AreMarks P head.0 head.1)
-    (same_Some head.2.0 plies.start (sym head.2.1 ∙ plies.first)) head.2.2 in
+    let marks = rw (same_Some head.2.0 plies.start (sym head.2.1 ∙ plies.first)) at head.2.2 in
     let is =
     is_record_with name number offset game replay plies.start head.0 head.1 plies.codes
     plies.first marks plies.are in

@@ -1,28 +1,18 @@
 -- What the definitions refuse: moves that a word does not name or out of their order, a reason that
 -- is not the word's, and a word that is not reached.
-use Rattle.std.proofs.Common.{◌≡◌, ◌∙◌, ℕ, List, [], ◌∷◌, Bool, true, false, ◌&&◌, codes, ap, subst}
-use Rattle.std.proofs.Common.{sym, inl, inr, refl, arith}
+use Rattle.std.proofs.Common.{codes}
 use Rattle.std.specs.Prelude.{Some, None}
-use Rattle.std.specs.List.{slice_get}
-use Rattle.chess.specs.Public.Positions.{State, IsCheck}
-use Rattle.chess.specs.Public.San.{IsCastlingText, IsNamed, IsOnlyNamed}
-use Rattle.chess.specs.declared.board.man.Wing.{Wing}
-use Rattle.chess.specs.declared.board.man.Wing.TheVariants.{KingSide, QueenSide}
+use Rattle.pgn_game.proofs.Common.{◌≡◌, ◌∙◌, ℕ, List, [], ◌∷◌, Bool, true, false, ◌&&◌, ap, subst}
+use Rattle.pgn_game.proofs.Common.{sym, inl, inr, refl, arith, slice_get, State, IsCheck}
+use Rattle.pgn_game.proofs.Common.{IsCastlingText, IsNamed, IsOnlyNamed, Wing, KingSide, QueenSide}
+use Rattle.pgn_game.proofs.Common.{Move, Item, MoveText, GlyphNumber, VariationOpen, is_pass}
+use Rattle.pgn_game.proofs.Common.{IsTurn, NamesNone, AreNamed, IsWhy, IsRefusedFrom, IsReached}
+use Rattle.pgn_game.proofs.Common.{main_line, Refused, Lines, Main, All, LineMove, Played, Passed}
 use Rattle.chess.specs.declared.move_text.refusal.Refusal.{Refusal}
 use Rattle.chess.specs.declared.move_text.refusal.Refusal.TheVariants.{NoCastling, CastlingAttacked}
-use Rattle.chess.specs.declared.moves.Move.{Move}
-use Rattle.pgn_text.specs.Public.Games.{Item, MoveText, GlyphNumber, VariationOpen}
-use Rattle.pgn_game.specs.Public.AllLines.{is_pass, IsTurn}
-use Rattle.pgn_game.specs.Public.Faults.{NamesNone}
-use Rattle.pgn_game.specs.Public.Refusals.{AreNamed, IsWhy, IsRefusedFrom, IsReached, PlayedLine}
-use Rattle.pgn_game.specs.Public.Refusals.{main_line}
-use Rattle.pgn_game.specs.declared.explain.Refused.{Refused}
+use Rattle.pgn_game.specs.Public.Refusals.{PlayedLine}
 use Rattle.pgn_game.specs.declared.explain.Why.{Why}
 use Rattle.pgn_game.specs.declared.explain.Why.TheVariants.{PassInCheck, Ambiguous, Illegal}
-use Rattle.pgn_game.specs.declared.replays.replayer.Lines.{Lines}
-use Rattle.pgn_game.specs.declared.replays.replayer.Lines.TheVariants.{Main, All}
-use Rattle.pgn_game.specs.declared.turns.line_move.LineMove.{LineMove}
-use Rattle.pgn_game.specs.declared.turns.line_move.LineMove.TheVariants.{Played, Passed}
 
 -- h1 does not stand before a1
 abbrev pub from_a1 : Move
@@ -118,8 +108,7 @@ no_other_position lines start items refused first other is =
     other (is.position ∙ ap (λ line. line.now) there.1)
 
 no_pass_at_first : (lines : Lines) (start : State) (items : List Item) (refused : Refused)
-    → refused.element ≡ 0 → refused.why ≡ PassInCheck
-    → IsRefusedFrom lines start items refused → ⊥
+    → refused.element ≡ 0 → refused.why ≡ PassInCheck → IsRefusedFrom lines start items refused → ⊥
 no_pass_at_first lines start items refused first pass is =
     let there =
     reached_first lines start items is.inside is.line
@@ -135,17 +124,14 @@ no_glyph_refused : (lines : Lines) (start : State) (refused : Refused) → refus
     → IsRefusedFrom lines start (GlyphNumber 1 ∷ []) refused → ⊥
 no_glyph_refused lines start refused first is =
     let here =
-    subst (λ index. slice_get (GlyphNumber 1 ∷ []) index
-    ≡ Some (MoveText refused.word.now)) first is.here in cc
+    rw first at is.here in cc
 
 not_after_a_fault : (lines : Lines) (start : State) (word other : List ℕ) (refused : Refused)
     → NamesNone start word → refused.element ≡ 1
     → IsRefusedFrom lines start (MoveText word ∷ MoveText other ∷ []) refused → ⊥
 not_after_a_fault lines start word other refused none second is =
     of_lines lines is.inside is.line
-    (subst (λ index.
-    IsReached lines start (MoveText word ∷ MoveText other ∷ []) index is.inside is.line) second
-    is.reached)
+    (rw second at is.reached)
   where
     of_turn : (turn : LineMove) → IsTurn false start word turn → ⊥
     of_turn (Played m) named = none m named.named
@@ -159,8 +145,5 @@ not_after_a_fault lines start word other refused none second is =
 not_in_a_variation : (start : State) (word : List ℕ) (refused : Refused) → refused.element ≡ 1
     → IsRefusedFrom Main start (VariationOpen ∷ MoveText word ∷ []) refused → ⊥
 not_in_a_variation start word refused second is =
-    let there =
-    subst (λ index.
-    IsReached Main start (VariationOpen ∷ MoveText word ∷ []) index is.inside is.line) second
-    is.reached in
+    let there = rw second at is.reached in
     let never = there.1 word in cc

@@ -1,34 +1,19 @@
 -- The first word that is refused: what its search keeps, and what is known where it ends.
-use Rattle.std.proofs.Common.{◌≡◌, ℕ, ◌+◌, ◌<◌, ◌≤◌, true, false, List, [], ◌∷◌, ◌++◌, length}
-use Rattle.std.proofs.Common.{get_or, take, map, refl, sym, ap, ◌∙◌, subst, inl, inr, append_assoc}
-use Rattle.std.proofs.Common.{append-nil, arith}
-use Rattle.std.specs.Prelude.{Option, Some, None, IfSome, MatchOption, option_map}
-use Rattle.std.specs.List.{slice_get}
-use Rattle.std.proofs.lemmas.List.{take_more, take_all}
-use Rattle.std.proofs.lemmas.Option.{slice_get_within, get_or_from_slice_get, slice_get-map}
-use Rattle.std.proofs.lemmas.Option.{slice_get-get_or}
-use Rattle.chess.specs.Public.Positions.{State}
-use Rattle.chess.specs.declared.moves.Move.{Move}
-use Rattle.pgn_text.specs.Public.Elements.{item_of}
-use Rattle.pgn_text.specs.Public.Games.{Item, MoveText}
-use Rattle.pgn_text.specs.Public.GameTexts.{IsPaired}
-use Rattle.pgn_text.specs.declared.game.Element.{Element}
-use Rattle.pgn_game.specs.Public.Faults.{Fault, BadStart, IllegalMove, AmbiguousMove, NamesNone}
-use Rattle.pgn_game.specs.Public.Faults.{NamesSeveral, IsRefusedWord, IsRefusedTurn, HasLineFault}
-use Rattle.pgn_game.specs.Public.Faults.{IsFault}
-use Rattle.pgn_game.specs.Private.LineWalks.{is_inside, gone_on, first_level, Runs, Stops, Leads}
-use Rattle.pgn_game.specs.Public.MainLines.{main_words, IsMainLine}
-use Rattle.pgn_game.specs.Public.Refusals.{played_items, IsReached, IsRefusedFrom, IsRefusedAt}
-use Rattle.pgn_game.specs.Public.Starts.{IsStart}
-use Rattle.pgn_game.specs.Private.Steps.{AreWithin, StopsAt, Walks, WalksOn, around}
-use Rattle.pgn_game.specs.Private.RefusalWalks.{IsCounted, GoesOn, IsRefusedHere, IsSearched}
-use Rattle.pgn_game.specs.declared.replays.walk.Level.{Level}
-use Rattle.pgn_game.specs.declared.replays.line_stack.LineStack.{LineStack}
-use Rattle.pgn_game.specs.declared.explain.Refused.{Refused}
-use Rattle.pgn_game.specs.declared.replays.replayer.Lines.{Lines}
-use Rattle.pgn_game.specs.declared.replays.replayer.Lines.TheVariants.{Main, All}
-use Rattle.pgn_game.specs.declared.turns.line_move.LineMove.{LineMove}
-use Rattle.pgn_game.specs.declared.turns.line_move.LineMove.TheVariants.{Played, Passed}
+use Rattle.std.specs.Prelude.{Option, Some, None, MatchOption}
+use Rattle.std.proofs.lemmas.Option.{slice_get_within, get_or_from_slice_get, slice_get-get_or}
+use Rattle.pgn_game.proofs.Common.{◌≡◌, ℕ, ◌+◌, ◌<◌, ◌≤◌, true, false, List, [], ◌∷◌, ◌++◌, length}
+use Rattle.pgn_game.proofs.Common.{get_or, take, map, refl, sym, ap, ◌∙◌, subst, inl, inr}
+use Rattle.pgn_game.proofs.Common.{append_assoc, append-nil, arith, IfSome, option_map, slice_get}
+use Rattle.pgn_game.proofs.Common.{take_more, take_all, slice_get-map, State, Move, item_of, Item}
+use Rattle.pgn_game.proofs.Common.{MoveText, IsPaired, Element, Fault, BadStart, IllegalMove}
+use Rattle.pgn_game.proofs.Common.{AmbiguousMove, NamesNone, NamesSeveral, IsRefusedWord}
+use Rattle.pgn_game.proofs.Common.{IsRefusedTurn, HasLineFault, IsFault, is_inside, gone_on}
+use Rattle.pgn_game.proofs.Common.{first_level, Runs, Stops, Leads, main_words, IsMainLine}
+use Rattle.pgn_game.proofs.Common.{played_items, IsReached, IsRefusedFrom, IsStart, AreWithin}
+use Rattle.pgn_game.proofs.Common.{StopsAt, Walks, WalksOn, around, IsCounted, IsSearched, Level}
+use Rattle.pgn_game.proofs.Common.{LineStack, Refused, Lines, Main, All, LineMove, Played, Passed}
+use Rattle.pgn_game.specs.Public.Refusals.{IsRefusedAt}
+use Rattle.pgn_game.specs.Private.RefusalWalks.{GoesOn, IsRefusedHere}
 use Rattle.pgn_game.proofs.OneReplay.{all_or_fault, line_or_fault, one_start, start_or_bad}
 use Rattle.pgn_game.proofs.ReachedLines.{line_of, leads_to}
 use Rattle.pgn_game.proofs.RunFacts.{runs_played}
@@ -95,18 +80,15 @@ nothing_played Main depth = refl
 nothing_played All depth = refl
 
 pub search_begins : (lines : Lines) (start : State) (items : List Item) (stack : LineStack Level)
-    → around stack ≡ [] → stack.line ≡ first_level start
-    → IsSearched lines start items 0 stack 0
+    → around stack ≡ [] → stack.line ≡ first_level start → IsSearched lines start items 0 stack 0
 search_begins lines start items stack outside line = record {
   walks = λ more steps on. (
     steps,
     subst (λ level. Walks (played_items lines more 0) level [] steps) line
         (subst (λ outer. Walks (played_items lines more 0) stack.line outer steps) outside on),
   );
-  leads = λ more inside last on. subst (λ xs.
-      Leads (xs ++ more) (first_level start) [] inside last) (sym (nothing_played lines 0))
-      (subst (λ level. Leads more level [] inside last) line
-      (subst (λ outer. Leads more stack.line outer inside last) outside on));
+  leads = λ more inside last on. rw (nothing_played lines 0) (rw (← line) (subst (λ outer. Leads
+      more stack.line outer inside last) outside on));
   parted = λ more. ap (λ xs. xs ++ played_items lines more 0) (sym (nothing_played lines 0));
   within = (
     let plies : stack.line.plies ≡ 0 = ap (λ (level : Level). level.plies) line in
@@ -149,16 +131,13 @@ module _ (lines : Lines) (start : State) (items : List Item) (i : ℕ) (old : Li
             so_far.walks (item ∷ more) there.0
             (subst (λ xs. WalksOn old xs there.0) (sym (counted.0 more)) there.1) in (
               all.0,
-              subst (λ xs. Walks (played_items lines xs 0) (first_level start) [] all.0)
-                  (sym (front_more items i item more here)) all.1,
+              rw (front_more items i item more here) all.1,
             );
         leads = λ more inside last leads. subst (λ xs. Leads xs (first_level start) [] inside last)
-            (sym (append_assoc front (item ∷ []) more)
-            ∙ ap (λ xs. xs ++ more) (sym grown))
+            (sym (append_assoc front (item ∷ []) more) ∙ ap (λ xs. xs ++ more) (sym grown))
             (so_far.leads (item ∷ more) inside last (on.leads more inside last leads));
         parted = λ more. ap (λ xs. played_items lines xs 0) (front_more items i item more here)
-            ∙ so_far.parted (item ∷ more)
-            ∙ ap (λ xs. front ++ xs) (counted.0 more)
+            ∙ so_far.parted (item ∷ more) ∙ ap (λ xs. front ++ xs) (counted.0 more)
             ∙ sym (append_assoc front (item ∷ []) (played_items lines more next))
             ∙ ap (λ xs. xs ++ played_items lines more next) (sym grown);
         within = on.within i so_far.within;
@@ -176,15 +155,11 @@ module _ (lines : Lines) (start : State) (items : List Item) (i : ℕ) (old : Li
             so_far.walks (item ∷ more) left
             (subst (λ xs. WalksOn old xs left) (sym (counted more)) walks) in (
               all.0,
-              subst (λ xs. Walks (played_items lines xs 0) (first_level start) [] all.0)
-                  (sym (front_more items i item more here)) all.1,
+              rw (front_more items i item more here) all.1,
             );
-        leads = λ more inside last leads. subst (λ xs.
-            Leads (xs ++ more) (first_level start) [] inside last) (sym kept)
-            (so_far.leads more inside last leads);
+        leads = λ more inside last leads. rw kept (so_far.leads more inside last leads);
         parted = λ more. ap (λ xs. played_items lines xs 0) (front_more items i item more here)
-            ∙ so_far.parted (item ∷ more)
-            ∙ ap (λ xs. front ++ xs) (counted more)
+            ∙ so_far.parted (item ∷ more) ∙ ap (λ xs. front ++ xs) (counted more)
             ∙ ap (λ xs. xs ++ played_items lines more next) (sym kept);
         within = within_more i (old.line ∷ around old) so_far.within;
         depth_within = (let d : depth ≤ i = so_far.depth_within in omega arith);
@@ -205,14 +180,10 @@ module _ (lines : Lines) (start : State) (items : List Item) (i : ℕ) (old : Li
   pub search_ends : (refused : Refused) → IsCounted lines item depth next true
       → IsRefusedHere old item i refused → IsRefusedFrom lines start items refused
   search_ends refused counted reports = record {
-    here = subst (λ k. slice_get items k
-        ≡ Some (MoveText refused.word.now)) (sym reports.element) (here
-        ∙ ap (λ (x : Item). Some x) reports.word);
+    here = rw reports.element (here ∙ ap (λ (x : Item). Some x) reports.word);
     inside = is_inside (around old);
     line = line_of old.line;
-    reached =
-        subst (λ k. IsReached lines start items k (is_inside (around old)) (line_of old.line))
-        (sym reports.element) (reached_there counted);
+    reached = rw reports.element (reached_there counted);
     position = reports.position;
     why = reports.why;
   }

@@ -1,17 +1,12 @@
 -- What the elements left of a line do, by the line that they spell.
-use Rattle.std.proofs.Common.{◌≡◌, true, List, [], ◌∷◌, ◌++◌, refl, sym, ap, ◌∙◌, subst, inl, inr}
-use Rattle.std.proofs.Common.{append_assoc, append-nil}
 use Rattle.std.specs.Prelude.{◌⊎◌}
-use Rattle.chess.specs.Public.Positions.{State}
-use Rattle.pgn_text.specs.Public.Games.{Item, VariationClose}
-use Rattle.pgn_game.specs.Public.Faults.{Fault, IsLineFault, HaveFault}
-use Rattle.pgn_game.specs.Public.AllLines.{Line, LineEnd, ThenMove, ThenGlyph, ThenComment}
-use Rattle.pgn_game.specs.Public.AllLines.{ThenVariation, spelled, IsPlayed, ArePlayed}
-use Rattle.pgn_game.specs.Private.LineWalks.{is_inside, gone_on, begun, first_level, Runs, Stops}
-use Rattle.pgn_text.specs.Public.GameTexts.{IsPaired}
+use Rattle.pgn_game.proofs.Common.{◌≡◌, true, List, [], ◌∷◌, ◌++◌, refl, sym, ap, ◌∙◌, subst, inl}
+use Rattle.pgn_game.proofs.Common.{inr, append_assoc, append-nil, State, Item, VariationClose}
+use Rattle.pgn_game.proofs.Common.{Fault, IsLineFault, HaveFault, Line, LineEnd, ThenMove}
+use Rattle.pgn_game.proofs.Common.{ThenGlyph, ThenComment, ThenVariation, spelled, IsPlayed}
+use Rattle.pgn_game.proofs.Common.{ArePlayed, is_inside, gone_on, begun, first_level, Runs, Stops}
+use Rattle.pgn_game.proofs.Common.{IsPaired, LineMove, Level}
 use Rattle.pgn_game.proofs.Spelling.{one_spelt}
-use Rattle.pgn_game.specs.declared.turns.line_move.LineMove.{LineMove}
-use Rattle.pgn_game.specs.declared.replays.walk.Level.{Level}
 
 -- a line is played, and what stands after it from some level on
 abbrev pub PlayedThen : Level → List Level → Line → List Item → List LineMove → Type 0
@@ -39,8 +34,7 @@ run_line (ThenComment text line) rest level outer turns runs =
 run_line (ThenVariation inner line) rest level outer turns runs =
     let inside =
     run_line inner (VariationClose ∷ (spelled line ++ rest)) (begun level) (level ∷ outer) turns
-    (subst (λ items. Runs items (begun level) (level ∷ outer) turns)
-    (append_assoc (spelled inner) (VariationClose ∷ spelled line) rest) runs) in
+    (rw (← (append_assoc (spelled inner) (VariationClose ∷ spelled line) rest)) runs) in
     let there = run_line line rest level outer inside.1 inside.5 in (
       inside.0 ++ there.0,
       there.1,
@@ -77,8 +71,7 @@ stop_line (ThenComment text line) rest level outer fault stops =
 stop_line (ThenVariation inner line) rest level outer fault stops =
     varied (stop_line inner (VariationClose ∷ (spelled line ++ rest)) (begun level) (level
     ∷ outer) fault
-    (subst (λ items. Stops items (begun level) (level ∷ outer) fault)
-    (append_assoc (spelled inner) (VariationClose ∷ spelled line) rest) stops))
+    (rw (← (append_assoc (spelled inner) (VariationClose ∷ spelled line) rest)) stops))
     (λ stops. stop_line line rest level outer fault stops)
   where
     out_of : (own : List LineMove) → IsPlayed true level.before level.before inner own

@@ -1,11 +1,9 @@
 -- A sound game has an export in each style: each of its tags has a value, its movetext has tokens,
 -- and they have a text in lines.
 use Rattle.std.proofs.Common.{◌≡◌, ℕ, List, [], ◌∷◌, ◌++◌, Option, Some, None, refl, flat_map}
-use Rattle.pgn_text.specs.Public.GameTexts.{HoldStrings, tag_in}
-use Rattle.pgn_text.specs.Public.Strings.{value_of_sign}
+use Rattle.pgn_game.proofs.Common.{HoldStrings, tag_in, value_of_sign, missing_text, escaped}
+use Rattle.pgn_game.proofs.Common.{IsTagText, tag_line, AreLinesOf, written_names}
 use Rattle.pgn_game.specs.Public.Laws.{GameHasAnExport}
-use Rattle.pgn_game.specs.Public.TagLines.{missing_text, escaped, IsTagText, tag_line, AreLinesOf}
-use Rattle.pgn_game.specs.Public.TagLines.{written_names}
 use Rattle.pgn_game.proofs.LaidFacts.{some_text}
 use Rattle.pgn_game.proofs.SomeMovetext.{some_movetext}
 

@@ -1,24 +1,13 @@
 -- A game that is replayed has a movetext.
-use Rattle.std.proofs.Common.{◌≡◌, ℕ, Bool, true, false, ◌&&◌, ◌||◌, List, [], ◌∷◌, ◌++◌, refl, sym}
-use Rattle.std.proofs.Common.{ap, ◌∙◌, subst}
-use Rattle.std.specs.Prelude.{codes, decimal}
-use Rattle.chess.specs.Public.Placements.{AreOnBoard}
-use Rattle.chess.specs.Public.Positions.{State}
-use Rattle.chess.specs.Public.Moves.{after}
-use Rattle.chess.specs.declared.moves.Move.{Move}
-use Rattle.chess.proofs.OnBoard.{men_stay_on_board}
-use Rattle.chess.proofs.SanSettled.{some_san}
-use Rattle.pgn_game.specs.Public.AllLines.{Line, LineEnd, ThenMove, ThenGlyph, ThenComment}
-use Rattle.pgn_game.specs.Public.AllLines.{ThenVariation, spelled, is_pass, SaysTurn, after_turn}
-use Rattle.pgn_game.specs.Public.AllLines.{IsPlayed, own_words}
-use Rattle.pgn_game.specs.Public.Comments.{comment_tokens}
-use Rattle.pgn_game.specs.Public.Exports.{number_tokens, IsTurnText, kept, AreTokens}
+use Rattle.std.proofs.Common.{◌||◌}
+use Rattle.pgn_game.proofs.Common.{◌≡◌, ℕ, Bool, true, false, ◌&&◌, List, [], ◌∷◌, ◌++◌, refl, sym}
+use Rattle.pgn_game.proofs.Common.{ap, ◌∙◌, subst, codes, decimal, AreOnBoard, State, after, Move}
+use Rattle.pgn_game.proofs.Common.{men_stay_on_board, some_san, Line, LineEnd, ThenMove, ThenGlyph}
+use Rattle.pgn_game.proofs.Common.{ThenComment, ThenVariation, spelled, is_pass, SaysTurn}
+use Rattle.pgn_game.proofs.Common.{after_turn, IsPlayed, own_words, comment_tokens, number_tokens}
+use Rattle.pgn_game.proofs.Common.{IsTurnText, kept, AreTokens, main_words, IsMainLine, AreTurns}
+use Rattle.pgn_game.proofs.Common.{Style, LineMove, Played, Passed}
 use Rattle.pgn_game.specs.Public.Laws.{MovetextHasTokens}
-use Rattle.pgn_game.specs.Public.MainLines.{main_words, IsMainLine}
-use Rattle.pgn_game.specs.Public.Replays.{AreTurns}
-use Rattle.pgn_game.specs.declared.exports.style.Style.{Style}
-use Rattle.pgn_game.specs.declared.turns.line_move.LineMove.{LineMove}
-use Rattle.pgn_game.specs.declared.turns.line_move.LineMove.TheVariants.{Played, Passed}
 use Rattle.pgn_game.proofs.AnAnswer.{start_on_board}
 use Rattle.pgn_game.proofs.OneLine.{main_words_of}
 use Rattle.pgn_game.proofs.Spelling.{one_spelt, one_tree}

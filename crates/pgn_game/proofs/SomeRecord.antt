@@ -1,26 +1,15 @@
 -- A game whose main line is sound has a record, and one alone.
-use Rattle.std.proofs.Common.{◌≡◌, ◌↔◌, ℕ, Bool, true, false, List, [], ◌∷◌, Option, Some, None}
-use Rattle.std.proofs.Common.{refl, sym, ap, subst, ◌∙◌, inl, inr}
-use Rattle.chess.specs.Public.Squares.{Place, IsOnBoard}
-use Rattle.chess.specs.Public.Placements.{AreOnBoard}
-use Rattle.chess.specs.Public.Positions.{State}
-use Rattle.chess.specs.Public.Moves.{after, arriving, capture_square, CanGo, HasMove, IsPseudoLegal}
-use Rattle.chess.specs.declared.board.man.Man.{Man}
-use Rattle.chess.specs.declared.board.man.Kind.{Kind}
-use Rattle.chess.specs.declared.moves.Move.{Move}
-use Rattle.chess.proofs.LegalSettled.{settled_check}
+use Rattle.pgn_game.proofs.Common.{◌≡◌, ◌↔◌, ℕ, Bool, true, false, List, [], ◌∷◌, Option, Some}
+use Rattle.pgn_game.proofs.Common.{None, refl, sym, ap, subst, ◌∙◌, inl, inr, Place, IsOnBoard}
+use Rattle.pgn_game.proofs.Common.{AreOnBoard, State, after, arriving, HasMove, IsPseudoLegal, Man}
+use Rattle.pgn_game.proofs.Common.{Kind, Move, settled_check, men_stay_on_board, tag_in, IsMainLine}
+use Rattle.pgn_game.proofs.Common.{main_words, PackedGame, IsPacked, record_bytes, PlyCode}
+use Rattle.pgn_game.proofs.Common.{AreMarks, IsCode, AreCodes, Replay, fen_tag, Main}
+use Rattle.chess.specs.Public.Moves.{capture_square, CanGo}
 use Rattle.chess.proofs.MateSettled.{settled_can_go}
-use Rattle.chess.proofs.OnBoard.{men_stay_on_board}
 use Rattle.chess.proofs.Searches.{search_square}
 use Rattle.chess.proofs.Settled.{Settled, settled_like, settled_not}
-use Rattle.pgn_text.specs.Public.GameTexts.{tag_in}
 use Rattle.pgn_game.specs.Public.Laws.{SoundGameHasARecord, GameHasOneSpelling}
-use Rattle.pgn_game.specs.Public.MainLines.{IsMainLine, main_words}
-use Rattle.pgn_game.specs.Public.PackedGames.{PackedGame, IsPacked, record_bytes}
-use Rattle.pgn_game.specs.Public.PlyCodes.{PlyCode, AreMarks, IsCode, AreCodes}
-use Rattle.pgn_game.specs.Public.Replays.{Replay}
-use Rattle.pgn_game.specs.Public.Starts.{fen_tag}
-use Rattle.pgn_game.specs.declared.replays.replayer.Lines.TheVariants.{Main}
 use Rattle.pgn_game.proofs.AnAnswer.{start_on_board}
 use Rattle.pgn_game.proofs.OneReplay.{line_head, one_replay}
 use Rattle.pgn_game.proofs.PlyCodeFacts.{one_record_of_a_game}
@@ -65,8 +54,7 @@ some_code P m legal on_board =
       to = m.to;
       taken = capture_square P m;
       man = man.0;
-      castle =
-          m.castle;
+      castle = m.castle;
       check = marks.0;
       stuck = marks.1;
     } in (
@@ -77,8 +65,7 @@ some_code P m legal on_board =
         taken = refl;
         man = man.1;
         castle = refl;
-        marks =
-            marks.2;
+        marks = marks.2;
       },
     )
 
@@ -101,13 +88,7 @@ some_codes P (word ∷ words) positions played on_board (
     let own = some_code P m legal.pseudo_legal stay in
     let others = some_codes (after P m) words later more stay rest in (
       own.0 ∷ others.0,
-      subst (λ moves. AreCodes P moves (own.0 ∷ others.0)) (sym played_is) (
-        own.0,
-        others.0,
-        refl,
-        own.1,
-        others.1,
-      ),
+      rw played_is (own.0, others.0, refl, own.1, others.1),
     )
 
 -- ---- the record
@@ -129,8 +110,7 @@ a_record name number offset game (replay, is) =
         is_replay = is;
         packed = packed;
         is_packed = is_packed;
-        spells =
-            refl;
+        spells = refl;
       },
     )
 

@@ -1,11 +1,9 @@
 -- Paired elements spell one line.
-use Rattle.std.proofs.Common.{◌≡◌, ℕ, ◌+◌, ◌-◌, ◌<◌, List, [], ◌∷◌, ◌++◌, length, refl, sym, ap}
-use Rattle.std.proofs.Common.{◌∙◌, append_assoc, arith}
-use Rattle.pgn_text.specs.Public.Games.{Item, MoveText, GlyphNumber, CommentText, VariationOpen}
-use Rattle.pgn_text.specs.Public.Games.{VariationClose}
-use Rattle.pgn_text.specs.Public.GameTexts.{IsPaired}
-use Rattle.pgn_game.specs.Public.AllLines.{Line, LineEnd, ThenMove, ThenGlyph, ThenComment}
-use Rattle.pgn_game.specs.Public.AllLines.{ThenVariation, spelled}
+use Rattle.pgn_game.proofs.Common.{◌≡◌, ℕ, ◌+◌, ◌-◌, ◌<◌, List, [], ◌∷◌, ◌++◌, length, refl, sym}
+use Rattle.pgn_game.proofs.Common.{ap, ◌∙◌, append_assoc, arith, Item, MoveText, GlyphNumber}
+use Rattle.pgn_game.proofs.Common.{CommentText, VariationOpen, VariationClose, IsPaired, Line}
+use Rattle.pgn_game.proofs.Common.{LineEnd, ThenMove, ThenGlyph, ThenComment, ThenVariation}
+use Rattle.pgn_game.proofs.Common.{spelled}
 use Rattle.pgn_game.proofs.Cells.{same_first}
 
 -- the line and those further out, joined by the ends of variations
@@ -33,12 +31,10 @@ grown make item spells depth items (line, outer, count, is) = (
   make line,
   outer,
   count,
-  ap (λ more. item ∷ more) is
-      ∙ sym (in_front make item spells line outer),
+  ap (λ more. item ∷ more) is ∙ sym (in_front make item spells line outer),
 )
 
-opened : (inner next : Line) (outer : List Line)
-    → VariationOpen ∷ spelled_out inner (next ∷ outer)
+opened : (inner next : Line) (outer : List Line) → VariationOpen ∷ spelled_out inner (next ∷ outer)
     ≡ spelled_out (ThenVariation inner next) outer
 opened inner next [] = refl
 opened inner next (further ∷ outer) =

@@ -1,36 +1,24 @@
 -- The text of the position from which a game starts: there is one, it holds no space, and no other
 -- position has it.
-use Rattle.std.proofs.Common.{◌≡◌, ◌≢◌, suc, ◌+◌, ◌-◌, ◌*◌, ◌≤◌, [], ◌∷◌, map, refl, sym, ap, ◌∙◌}
-use Rattle.std.proofs.Common.{ℕ, Bool, true, false, List, ◌++◌, length, subst, arith, length-append}
-use Rattle.std.proofs.lemmas.Bool.Decides.{nat_tests}
-use Rattle.std.proofs.lemmas.Bool.{and_parts}
-use Rattle.std.proofs.lemmas.Slice.Eq.{bytes_eq-Decides}
-use Rattle.std.specs.Prelude.{◌==◌, if◌then◌else◌, bytes_eq, codes, decimal, Option, Some, None}
-use Rattle.std.specs.Prelude.{Result, Ok, Err, OnOk, is_ok}
-use Rattle.std.specs.List.{list_all}
-use Rattle.chess.specs.Public.Squares.{Place}
-use Rattle.chess.specs.Public.Placements.{Placement}
-use Rattle.chess.specs.Public.Positions.{State, IsSound, FitsEnPassant}
-use Rattle.chess.specs.Public.Start.{initial}
+use Rattle.std.specs.Prelude.{Option, Some, None, Result, Ok, Err, is_ok}
+use Rattle.pgn_game.proofs.Common.{◌≡◌, ◌≢◌, suc, ◌+◌, ◌-◌, ◌*◌, ◌≤◌, [], ◌∷◌, map, refl, sym, ap}
+use Rattle.pgn_game.proofs.Common.{◌∙◌, ℕ, Bool, true, false, List, ◌++◌, length, subst, arith}
+use Rattle.pgn_game.proofs.Common.{length-append, nat_tests, and_parts, bytes_eq-Decides, ◌==◌}
+use Rattle.pgn_game.proofs.Common.{if◌then◌else◌, bytes_eq, codes, decimal, OnOk, list_all, Place}
+use Rattle.pgn_game.proofs.Common.{Placement, State, IsSound, initial, IsFen, Man, Kind, King, Side}
+use Rattle.pgn_game.proofs.Common.{White, Black, one_spelling, initial_kept, initial_fen, IsStart}
+use Rattle.pgn_game.proofs.Common.{unspaced, IsStartText, as_initial, as_fen}
+use Rattle.chess.specs.Public.Positions.{FitsEnPassant}
 use Rattle.chess.specs.Public.Letters.{man_letter}
 use Rattle.chess.specs.Public.Fen.{IsSquares, SpellsRank, SpellRanks, row, side_text, is_digit}
 use Rattle.chess.specs.Public.Fen.{number_from, IsCount, GiveCounts, joined, or_dash}
-use Rattle.chess.specs.Public.Fen.{rights_letters, en_passant_text, IsFen}
+use Rattle.chess.specs.Public.Fen.{rights_letters, en_passant_text}
 use Rattle.chess.specs.Public.Fen.IsSquares.{letter, step}
-use Rattle.chess.specs.declared.board.man.Man.{Man}
-use Rattle.chess.specs.declared.board.man.Kind.{Kind}
-use Rattle.chess.specs.declared.board.man.Kind.TheVariants.{King}
-use Rattle.chess.specs.declared.board.man.Side.{Side}
-use Rattle.chess.specs.declared.board.man.Side.TheVariants.{White, Black}
 use Rattle.chess.specs.declared.board.man.CastlingRights.{CastlingRights}
-use Rattle.chess.proofs.FenOnce.{one_spelling}
 use Rattle.chess.proofs.FenOneText.{one_fen, some_fen}
 use Rattle.chess.proofs.FenReadBack.{fen_spells}
 use Rattle.chess.proofs.SoundRead.{read_sound}
-use Rattle.chess.proofs.StartFacts.{initial_kept}
-use Rattle.chess.proofs.StartText.{initial_fen, initial_has_fen}
-use Rattle.pgn_game.specs.Public.Starts.{IsStart}
-use Rattle.pgn_game.specs.Public.GameLines.{unspaced, IsStartText, as_initial, as_fen}
+use Rattle.chess.proofs.StartText.{initial_has_fen}
 use Rattle.pgn_game.proofs.PlainTokens.{AllOf, all_append, AreDigits, decimal_digits}
 
 -- ---- a position that FEN may give: its text is read back
@@ -86,8 +74,7 @@ start_read_back None P is =
     subst IsReadBack (sym is) record {
       sound = initial_kept.sound;
       clock = omega arith;
-      number =
-          omega arith;
+      number = omega arith;
     }
 start_read_back (Some contents) P (value, given, reads) =
     let counts =

@@ -1,20 +1,15 @@
 -- A walk's steps, one after another.
-use Rattle.std.proofs.Common.{◌≡◌, ℕ, ◌+◌, Bool, true, false, List, [], ◌∷◌, ◌++◌, refl, sym, ap}
-use Rattle.std.proofs.Common.{subst, arith}
-use Rattle.pgn_text.specs.Public.Games.{Item, MoveText, GlyphNumber, CommentText, VariationOpen}
-use Rattle.pgn_text.specs.Public.Games.{VariationClose}
-use Rattle.std.specs.Prelude.{Result, Ok, Err, OnOk}
-use Rattle.pgn_game.specs.Private.Steps.{AreWithin, IsBack, IsWithin, Step, Turned, Beside, Visits}
-use Rattle.pgn_game.specs.Private.Steps.{Walks, around, shown_items}
-use Rattle.pgn_game.specs.Private.LineWalks.{Runs, begun, gone_on}
-use Rattle.pgn_game.specs.declared.replays.line_stack.LineStack.{LineStack}
-use Rattle.pgn_game.specs.declared.turns.line_move.LineMove.{LineMove}
-use Rattle.pgn_game.specs.declared.replays.walk.Level.{Level}
+use Rattle.std.specs.Prelude.{Result, Ok, Err}
+use Rattle.pgn_game.proofs.Common.{◌≡◌, ℕ, ◌+◌, Bool, true, false, List, [], ◌∷◌, ◌++◌, refl, sym}
+use Rattle.pgn_game.proofs.Common.{ap, subst, arith, Item, MoveText, GlyphNumber, CommentText}
+use Rattle.pgn_game.proofs.Common.{VariationOpen, VariationClose, OnOk, AreWithin, IsWithin, Step}
+use Rattle.pgn_game.proofs.Common.{Turned, Beside, Visits, Walks, around, shown_items, Runs, begun}
+use Rattle.pgn_game.proofs.Common.{gone_on, LineStack, LineMove, Level}
+use Rattle.pgn_game.specs.Private.Steps.{IsBack}
 
 pub visits_one_more : {V : Type 0} (does : V → Step → V
     → Type 0) (done : List Step) (old mid new : V) (step : Step) → Visits does old done mid
-    → does mid step new
-    → Visits does old (done ++ step ∷ []) new
+    → does mid step new → Visits does old (done ++ step ∷ []) new
 visits_one_more does [] old mid new step is goes = (new, subst (λ v. does v step new) is goes, refl)
 visits_one_more does (first ∷ done) old mid new step (next, goes_first, rest) goes =
     (next, goes_first, visits_one_more does done next mid new step rest goes)
@@ -30,11 +25,9 @@ within_more n (line ∷ lines) (here, all) = (omega arith, within_more n lines a
 within_at_back : (n : ℕ) (line new : Level) (outer left : List Level) → IsBack line outer new left
     → AreWithin n (line ∷ outer) → AreWithin n (new ∷ left)
 within_at_back n line new [] left (same, none) all =
-    subst (λ l. AreWithin n (l ∷ left)) (sym same)
-    (subst (λ ls. AreWithin n (line ∷ ls)) (sym none) all)
+    rw same (subst (λ ls. AreWithin n (line ∷ ls)) (sym none) all)
 within_at_back n line new (next ∷ outer) left (same, rest) (here, all) =
-    subst (λ l. AreWithin n (l ∷ left)) (sym same)
-    (subst (λ ls. AreWithin n (next ∷ ls)) (sym rest) all)
+    rw same (subst (λ ls. AreWithin n (next ∷ ls)) (sym rest) all)
 
 pub within_back : (n : ℕ) (old new : LineStack Level)
     → IsBack old.line (around old) new.line (around new) → IsWithin n old → IsWithin n new
@@ -45,17 +38,14 @@ pub within_begun : (n : ℕ) (old new : LineStack Level) → new.line ≡ begun 
     → around new ≡ old.line ∷ around old → IsWithin n old → IsWithin n new
 within_begun n old new line outer all =
     let here = all.0 in
-    subst (λ l. AreWithin n (l ∷ around new)) (sym line)
-    (subst (λ ls. AreWithin n (begun old.line ∷ ls)) (sym outer) (omega arith, all))
+    rw line (subst (λ ls. AreWithin n (begun old.line ∷ ls)) (sym outer) (omega arith, all))
 
 pub within_turned : (n : ℕ) (old new : LineStack Level) (turn : LineMove)
     → new.line ≡ gone_on old.line turn → around new ≡ around old → IsWithin n old
     → IsWithin (n + 1) new
 within_turned n old new turn line outer all =
     let here = all.0 in
-    subst (λ l. AreWithin (n + 1) (l ∷ around new)) (sym line)
-    (subst (λ ls. AreWithin (n + 1) (gone_on old.line turn ∷ ls)) (sym outer)
-    (omega arith, within_more n (around old) all.1))
+    rw line (rw outer (omega arith, within_more n (around old) all.1))
 
 -- of no elements none are gone over
 pub none_shown : (variations : Bool) (depth : ℕ) → shown_items variations depth [] ≡ []
@@ -79,16 +69,12 @@ walks_run (MoveText word ∷ items) line outer steps (turn, more, is, says, walk
   walks_run items (gone_on line turn) outer more walks,
 )
 walks_run (GlyphNumber number ∷ items) line outer steps (more, is, walks) =
-    subst (λ ss. Runs items line outer (turns_of ss)) (sym is)
-    (walks_run items line outer more walks)
+    rw is (walks_run items line outer more walks)
 walks_run (CommentText text ∷ items) line outer steps (more, is, walks) =
-    subst (λ ss. Runs items line outer (turns_of ss)) (sym is)
-    (walks_run items line outer more walks)
+    rw is (walks_run items line outer more walks)
 walks_run (VariationOpen ∷ items) line outer steps (more, is, walks) =
-    subst (λ ss. Runs items (begun line) (line ∷ outer) (turns_of ss)) (sym is)
-    (walks_run items (begun line) (line ∷ outer) more walks)
+    rw is (walks_run items (begun line) (line ∷ outer) more walks)
 walks_run (VariationClose ∷ items) line [] steps (more, is, walks) =
     subst (λ ss. Runs items line [] (turns_of ss)) (sym is) (walks_run items line [] more walks)
 walks_run (VariationClose ∷ items) line (next ∷ outer) steps (more, is, walks) =
-    subst (λ ss. Runs items next outer (turns_of ss)) (sym is)
-    (walks_run items next outer more walks)
+    rw is (walks_run items next outer more walks)

@@ -1,18 +1,14 @@
 -- The lines of tags, one after another.
-use Rattle.std.proofs.Common.{◌≡◌, ℕ, ◌+◌, ◌<◌, List, [], ◌∷◌, ◌++◌, length, take, get_or, map}
-use Rattle.std.proofs.Common.{refl, sym, ap, ◌∙◌, subst, Bor}
 use Rattle.std.specs.Prelude.{Bool, true, filter, if◌then◌else◌}
-use Rattle.std.specs.Map.Iter.{deref_pair}
-use Rattle.std.proofs.lemmas.List.{append_assoc, append-nil, take_more, map-append}
+use Rattle.std.proofs.lemmas.List.{append_assoc, append-nil}
 use Rattle.std.proofs.lemmas.List.Elements.{filter-append}
-use Rattle.pgn_text.specs.Public.Elements.{tag_of}
-use Rattle.pgn_text.specs.Public.GameTexts.{tag_in, tag_names}
-use Rattle.pgn_game.specs.Public.TagLines.{IsLineOf, AreLinesOf}
+use Rattle.pgn_game.proofs.Common.{◌≡◌, ℕ, ◌+◌, ◌<◌, List, [], ◌∷◌, ◌++◌, length, take, get_or, map}
+use Rattle.pgn_game.proofs.Common.{refl, sym, ap, ◌∙◌, subst, Bor, deref_pair, take_more}
+use Rattle.pgn_game.proofs.Common.{map-append, tag_of, tag_in, tag_names, IsLineOf, AreLinesOf}
 
 -- those of some names and then those of others
 pub lines_join : (tags : List (List ℕ × List ℕ)) (result : List ℕ) (names more : List (List ℕ))
-    (lines ends : List ℕ)
-    → AreLinesOf tags result names lines → AreLinesOf tags result more ends
+    (lines ends : List ℕ) → AreLinesOf tags result names lines → AreLinesOf tags result more ends
     → AreLinesOf tags result (names ++ more) (lines ++ ends)
 lines_join tags result [] more lines ends are others =
     subst (λ xs. AreLinesOf tags result more (xs ++ ends)) (sym are) others

@@ -1,14 +1,11 @@
 -- Tags that are read one after another, each with a larger name, ascend; and the other way round.
-use Rattle.std.proofs.Common.{◌≡◌, ℕ, true, List, [], ◌∷◌, Option, Some, None, ap, refl}
-use Rattle.std.specs.Cmp.Lexicographic.{slice_cmp, nat_list_cmp_total}
-use Rattle.std.specs.List.{AllByRecursion}
+use Rattle.std.specs.Cmp.Lexicographic.{nat_list_cmp_total}
 use Rattle.std.specs.List.Sorted.{IsStrictlySortedBy}
-use Rattle.std.specs.Ordering.{is_lt, nat_cmp}
+use Rattle.std.specs.Ordering.{is_lt}
 use Rattle.std.specs.declared.cmp.Ordering.{Ordering}
-use Rattle.std.specs.declared.cmp.Ordering.TheVariants.{Less, Equal, Greater}
-use Rattle.pgn_text.specs.Public.GameTexts.{tag_names}
-use Rattle.pgn_game.specs.Public.PackedGames.{Tag}
-use Rattle.pgn_game.specs.Public.PackReading.{follows}
+use Rattle.pgn_game.proofs.Common.{◌≡◌, ℕ, true, List, [], ◌∷◌, Option, Some, None, ap, refl}
+use Rattle.pgn_game.proofs.Common.{slice_cmp, AllByRecursion, nat_cmp, Less, Equal, Greater}
+use Rattle.pgn_game.proofs.Common.{tag_names, Tag, follows}
 
 -- each tag follows the one before it, and the first one the last
 abbrev pub AreRising : Option (List ℕ) → List Tag → Type 0

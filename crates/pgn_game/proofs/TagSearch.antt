@@ -1,16 +1,10 @@
 -- A tag is found among those of a record.
-use Rattle.std.proofs.Common.{◌≡◌, ℕ, zero, suc, ◌+◌, ◌/◌, ◌<◌, Bool, true, false}
-use Rattle.std.proofs.Common.{if◌then◌else◌, List, [], ◌∷◌, ◌++◌, length, drop, Some, None, Ok, Err}
-use Rattle.std.proofs.Common.{refl, sym, ap, ◌∙◌, append_assoc, arith}
-use Rattle.std.specs.Prelude.{bytes_eq}
-use Rattle.std.specs.List.{flat_map, AllByRecursion}
-use Rattle.std.proofs.lemmas.List.Concat.{flat_map-cons}
-use Rattle.pgn_text.specs.Public.GameTexts.{tag_in}
-use Rattle.pgn_game.specs.declared.pack.error.RecordError.{RecordError}
-use Rattle.pgn_game.specs.Public.PlyCodes.{code_bytes}
-use Rattle.pgn_game.specs.Public.PackedGames.{PackedGame, Tag, FitsTag, FitsRecord, with_length}
-use Rattle.pgn_game.specs.Public.PackedGames.{tag_bytes}
-use Rattle.pgn_game.specs.Public.PackReading.{RawRecord, raw_of, tag_at}
+use Rattle.std.proofs.Common.{◌≡◌, ℕ, zero, suc, ◌+◌, ◌/◌, ◌<◌, Bool, true, false, if◌then◌else◌}
+use Rattle.std.proofs.Common.{List, [], ◌∷◌, ◌++◌, length, drop, Some, None, Ok, Err, refl, sym, ap}
+use Rattle.std.proofs.Common.{◌∙◌, append_assoc, arith}
+use Rattle.pgn_game.proofs.Common.{bytes_eq, flat_map, AllByRecursion, flat_map-cons, tag_in}
+use Rattle.pgn_game.proofs.Common.{RecordError, code_bytes, PackedGame, Tag, FitsTag, FitsRecord}
+use Rattle.pgn_game.proofs.Common.{with_length, tag_bytes, RawRecord, raw_of, tag_at}
 use Rattle.pgn_game.proofs.HeadFacts.{head_shows}
 use Rattle.pgn_game.proofs.RecordFields.{ok_is, text_again}
 

@@ -1,12 +1,9 @@
 -- A look-up in the map of a game's tags.
-use Rattle.std.proofs.Common.{◌≡◌, ℕ, List, ap, refl, sym, ◌∙◌, Bor}
-use Rattle.std.specs.Prelude.{Option, Some, None, IfSome, is_some, option_map}
+use Rattle.std.specs.Prelude.{Option, Some, None}
 use Rattle.std.specs.BTreeMap.{BTreeMap, get_by}
-use Rattle.std.specs.Ordering.{nat_cmp}
-use Rattle.std.specs.Cmp.Lexicographic.{slice_cmp}
+use Rattle.pgn_game.proofs.Common.{◌≡◌, ℕ, List, ap, refl, sym, ◌∙◌, Bor, IfSome, is_some}
+use Rattle.pgn_game.proofs.Common.{option_map, nat_cmp, slice_cmp, HoldStrings, tag_in, IsContents}
 use Rattle.pgn_text.specs.Public.Elements.{tags_of}
-use Rattle.pgn_text.specs.Public.GameTexts.{HoldStrings, tag_in}
-use Rattle.pgn_text.specs.Public.Strings.{IsContents}
 use Rattle.pgn_text.proofs.TagLemmas.{tag_in-tags_of}
 
 pub tag_found : (tags : BTreeMap (Bor (List ℕ)) (Bor (List ℕ))) (wanted : List ℕ)
@@ -26,8 +23,7 @@ tag_found_in tags map_of wanted found are is =
 
 -- what is found there is the contents of a string
 pub found_contents : (tags : List (List ℕ × List ℕ)) (name : List ℕ) (found : Option (Bor (List ℕ)))
-    → HoldStrings tags
-    → tag_in name tags ≡ option_map (λ contents. contents.now) found
+    → HoldStrings tags → tag_in name tags ≡ option_map (λ contents. contents.now) found
     → IfSome found (λ contents. IsContents contents.now)
 found_contents tags name None strings is = tt
 found_contents tags name (Some contents) strings is = strings name contents.now is

@@ -1,13 +1,10 @@
 -- Each move text has a turn, where all lines are replayed.
-use Rattle.std.proofs.Common.{◌≡◌, ◌+◌, Bool, true, false, List, [], ◌∷◌, ◌++◌, length, sym, ap}
-use Rattle.std.proofs.Common.{◌∙◌, length-append, arith}
-use Rattle.chess.specs.Public.Positions.{State}
-use Rattle.pgn_text.specs.Public.Games.{Item, MoveText, GlyphNumber, CommentText, VariationOpen}
-use Rattle.pgn_text.specs.Public.Games.{VariationClose}
-use Rattle.pgn_game.specs.Public.AllLines.{Line, LineEnd, ThenMove, ThenGlyph, ThenComment}
-use Rattle.pgn_game.specs.Public.AllLines.{ThenVariation, spelled, after_turn, IsPlayed}
+use Rattle.pgn_game.proofs.Common.{◌≡◌, ◌+◌, Bool, true, false, List, [], ◌∷◌, ◌++◌, length, sym}
+use Rattle.pgn_game.proofs.Common.{ap, ◌∙◌, length-append, arith, State, Item, MoveText}
+use Rattle.pgn_game.proofs.Common.{GlyphNumber, CommentText, VariationOpen, VariationClose, Line}
+use Rattle.pgn_game.proofs.Common.{LineEnd, ThenMove, ThenGlyph, ThenComment, ThenVariation}
+use Rattle.pgn_game.proofs.Common.{spelled, after_turn, IsPlayed, LineMove}
 use Rattle.pgn_game.specs.Public.Laws.{move_count, EachMoveHasATurn}
-use Rattle.pgn_game.specs.declared.turns.line_move.LineMove.{LineMove}
 
 count_append : (items more : List Item)
     → move_count (items ++ more) ≡ move_count items + move_count more

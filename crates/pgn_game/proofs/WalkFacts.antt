@@ -1,23 +1,13 @@
 -- The main line while it is played: from its first element to its last.
-use Rattle.std.proofs.Common.{◌≡◌, ℕ, ◌+◌, ◌<◌, ◌≤◌, List, [], ◌∷◌, ◌++◌, length, get_or, drop, map}
-use Rattle.std.proofs.Common.{refl, sym, ap, ◌∙◌, subst, append_assoc, append-nil, inr}
-use Rattle.std.proofs.Common.{length-append}
-use Rattle.std.specs.Prelude.{Option, Some, None, IfSome}
+use Rattle.std.specs.Prelude.{Option, Some, None}
 use Rattle.std.proofs.lemmas.List.{drop_more, drop_all}
-use Rattle.std.proofs.lemmas.Option.{IfSome_then}
-use Rattle.chess.specs.Public.Positions.{State}
-use Rattle.chess.specs.declared.moves.Move.{Move}
-use Rattle.pgn_text.specs.Public.Elements.{item_of}
-use Rattle.pgn_text.specs.Public.Games.{Item, MoveText}
-use Rattle.pgn_text.specs.declared.game.Element.{Element}
-use Rattle.pgn_game.specs.Public.MainLines.{main_words, IsMainLine}
-use Rattle.pgn_game.specs.Public.Faults.{IsMoveFault}
-use Rattle.pgn_game.specs.Public.Replays.{fault_of}
-use Rattle.pgn_game.specs.Private.Walks.{HasPlayed, HasPassed, HasStepped, IsStuck, HasWalked}
-use Rattle.pgn_game.specs.Private.Walks.{KeepsLine}
-use Rattle.pgn_game.specs.declared.turns.fault.GameFault.{GameFault}
+use Rattle.pgn_game.proofs.Common.{◌≡◌, ℕ, ◌+◌, ◌<◌, ◌≤◌, List, [], ◌∷◌, ◌++◌, length, get_or, drop}
+use Rattle.pgn_game.proofs.Common.{map, refl, sym, ap, ◌∙◌, subst, append_assoc, append-nil, inr}
+use Rattle.pgn_game.proofs.Common.{length-append, IfSome, IfSome_then, State, Move, item_of, Item}
+use Rattle.pgn_game.proofs.Common.{MoveText, Element, main_words, IsMainLine, IsMoveFault, fault_of}
+use Rattle.pgn_game.proofs.Common.{HasStepped, IsStuck, HasWalked, KeepsLine, GameFault, MainWalk}
+use Rattle.pgn_game.specs.Private.Walks.{HasPlayed, HasPassed}
 use Rattle.pgn_game.specs.declared.replays.main_line.LineKeeper.{LineKeeper}
-use Rattle.pgn_game.specs.declared.replays.main_line.MainWalk.{MainWalk}
 use Rattle.pgn_game.proofs.Openings.{joined}
 
 -- outside all variations a move's word is the first of the main line
@@ -28,8 +18,7 @@ main_word word items depth outside =
 
 -- before the first element
 pub walk_begins : (start : State) (walk : MainWalk) (items : List Item) → walk.position ≡ start
-    → walk.plies ≡ 0 → walk.depth ≡ 0
-    → HasWalked start (main_words items 0) walk [] [] items
+    → walk.plies ≡ 0 → walk.depth ≡ 0 → HasWalked start (main_words items 0) walk [] [] items
 walk_begins start walk items position plies depth = record {
   count = sym plies;
   completes = λ later more line. subst (λ s. IsMainLine s (main_words items 0) later more) position
@@ -48,31 +37,21 @@ module _ {start : State} {words : List (List ℕ)} {old : MainWalk} {positions :
   walked_by {new} {item} {items} m walked move = record {
     count = length-append played (m ∷ []) ∙ ap (λ n. n + 1) walked.count ∙ sym move.plies;
     completes = λ later more line.
-        subst (λ ps. IsMainLine start words ps ((played ++ m ∷ []) ++ more))
-        (sym (append_assoc positions (old.position ∷ []) later))
-        (subst (λ ms. IsMainLine start words (positions ++ old.position ∷ later) ms)
-        (sym (append_assoc played (m ∷ []) more))
-        (walked.completes (old.position ∷ later) (m ∷ more)
-        (subst (λ ws. IsMainLine old.position ws (old.position ∷ later) (m ∷ more))
-        (sym (move.words items)) (
+        rw (append_assoc positions (old.position ∷ []) later) (rw (append_assoc played (m ∷ [])
+        more) (walked.completes (old.position ∷ later) (m ∷ more) (rw (move.words items) (
           m,
           later,
           more,
           refl,
           refl,
           move.named,
-          subst (λ s. IsMainLine s (main_words items new.depth) later more) move.position
-              line,
+          rw (← move.position) line,
         ))));
     faults = λ fault met. walked.faults fault
-        (subst (λ ws. IsMoveFault old.position old.plies ws fault) (sym (move.words items))
-        (inr (
+        (rw (move.words items) (inr (
           m,
           move.named,
-          subst (λ s. IsMoveFault s (old.plies + 1) (main_words items new.depth) fault)
-              move.position
-              (subst (λ n. IsMoveFault new.position n (main_words items new.depth) fault) move.plies
-              met),
+          rw (← move.position) (rw (← move.plies) met),
         )));
   }
 
@@ -86,18 +65,14 @@ module _ {start : State} {words : List (List ℕ)} {old : MainWalk} {positions :
         (subst (λ ws. IsMainLine old.position ws later more) (sym (passed.words items))
         (subst (λ s. IsMainLine s (main_words items new.depth) later more) passed.position line));
     faults = λ fault met. walked.faults fault
-        (subst (λ ws. IsMoveFault old.position old.plies ws fault) (sym (passed.words items))
-        (subst (λ s. IsMoveFault s old.plies (main_words items new.depth) fault) passed.position
-        (subst (λ n. IsMoveFault new.position n (main_words items new.depth) fault) passed.plies
-        met)));
+        (rw (passed.words items) (rw (← passed.position) (rw (← passed.plies) met)));
   }
 
   -- after the last
   pub walk_ends : HasWalked start words old positions played []
       → IsMainLine start words (positions ++ old.position ∷ []) played
   walk_ends walked =
-      subst (λ ms. IsMainLine start words (positions ++ old.position ∷ []) ms) (append-nil played)
-      (walked.completes (old.position ∷ []) [] (refl, refl))
+      rw (← (append-nil played)) (walked.completes (old.position ∷ []) [] (refl, refl))
 
 -- some positions and moves that the walk went through
 abbrev pub HasGone : State → List (List ℕ) → MainWalk → List Item → Type 0
@@ -131,23 +106,14 @@ module _ {start : State} {words : List (List ℕ)} {old new : LineKeeper} {item 
     before = keeps.before ++ old.walk.position ∷ [];
     positions = positions ∙ ap (λ (w : MainWalk). old.positions.items ++ w.position ∷ []) (sym same)
         ∙ ap (λ ps. ps ++ new.walk.position ∷ []) keeps.positions;
-    walked =
-        subst (λ ms.
-        HasWalked start words new.walk (keeps.before ++ old.walk.position ∷ []) ms items)
-        (sym played) (walked_by m keeps.walked move);
+    walked = rw played (walked_by m keeps.walked move);
     first = keeps.first ++ move.word ∷ [];
     parted = keeps.parted ∙ ap (λ ws. keeps.first ++ ws) (move.words items)
         ∙ sym (append_assoc keeps.first (move.word ∷ []) (main_words items new.walk.depth));
     opening =
-        subst (λ ps. IsMainLine start (keeps.first ++ move.word ∷ []) ps new.played.items)
-        (sym both)
-        (subst (λ ms.
-        IsMainLine start (keeps.first ++ move.word ∷ []) (keeps.before ++ old.walk.position
-        ∷ new.walk.position ∷ []) ms) (sym played)
-        (joined start old.walk.position keeps.first (move.word ∷ []) keeps.before (old.walk.position
-        ∷ new.walk.position ∷ []) old.played.items (m ∷ [])
-        (subst (λ ps. IsMainLine start keeps.first ps old.played.items) keeps.positions
-        keeps.opening) (
+        rw both (rw played (joined start old.walk.position keeps.first (move.word ∷ []) keeps.before
+        (old.walk.position ∷ new.walk.position ∷ []) old.played.items (m ∷ []) (subst (λ ps.
+        IsMainLine start keeps.first ps old.played.items) keeps.positions keeps.opening) (
           m,
           new.walk.position ∷ [],
           [],
@@ -159,8 +125,7 @@ module _ {start : State} {words : List (List ℕ)} {old new : LineKeeper} {item 
   }
     where
       move : HasPlayed old.walk new.walk item m
-      move = subst (λ w. HasPlayed old.walk w item m) (sym same)
-          (subst (HasStepped old.walk _ item) is stepped)
+      move = rw same (subst (HasStepped old.walk _ item) is stepped)
 
       both : new.positions.items ≡ keeps.before ++ old.walk.position ∷ new.walk.position ∷ []
       both = positions ∙ ap (λ (w : MainWalk). old.positions.items ++ w.position ∷ []) (sym same)
@@ -177,14 +142,10 @@ module _ {start : State} {words : List (List ℕ)} {old new : LineKeeper} {item 
     before = keeps.before;
     positions = positions ∙ keeps.positions
         ∙ ap (λ p. keeps.before ++ p ∷ []) (sym stepped.position);
-    walked =
-        subst (λ ms. HasWalked start words new.walk keeps.before ms items) (sym played)
-        (walked_past keeps.walked stepped);
+    walked = rw played (walked_past keeps.walked stepped);
     first = keeps.first;
     parted = keeps.parted ∙ ap (λ ws. keeps.first ++ ws) (stepped.words items);
-    opening = subst (λ ps. IsMainLine start keeps.first ps new.played.items) (sym positions)
-        (subst (λ ms. IsMainLine start keeps.first old.positions.items ms) (sym played)
-        keeps.opening);
+    opening = rw positions (rw played keeps.opening);
   }
 
 -- the elements from a place on

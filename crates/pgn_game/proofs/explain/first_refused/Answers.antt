@@ -1,12 +1,10 @@
-use Rattle.std.proofs.Common.{◌≡◌, ◌+◌, ◌∙◌, map, length, sym, subst, arith}
-use Rattle.std.proofs.lemmas.List.{length-map}
-use Rattle.pgn_text.specs.Public.Elements.{item_of}
-use Rattle.pgn_game.specs.Private.RefusalWalks.{IsCounted, IsSearched}
+use Rattle.pgn_game.proofs.Common.{◌≡◌, ◌+◌, ◌∙◌, map, length, subst, arith, length-map}
+use Rattle.pgn_game.proofs.Common.{item_of, IsCounted, IsSearched}
 use Rattle.pgn_game.proofs.RefusalSearch.{element_at, search_begins, search_on, search_past}
 use Rattle.pgn_game.proofs.RefusalSearch.{search_ends, search_finds_none}
-use Rattle.pgn_game.proofs.explain.first_refused.Goals as goal
 use Rattle.pgn_game.proofs.explain.first_refused.Goals.{then-is_played+in_ok-refused+in_default}
 use Rattle.pgn_game.proofs.explain.first_refused.Goals.{else-is_played}
+use Rattle.pgn_game.proofs.explain.first_refused.Goals as goal
 
 pub loop-index-init : goal.loop-index-init
 loop-index-init c =
@@ -30,26 +28,16 @@ loop-index-preserved c =
     let items = map item_of c.args.elements.now in
     elim c.if-is_played.branch [
       | then-is_played+in_ok-refused+in_default w ↦
-          subst (λ stack.
-          IsSearched c.args.lines c.args.start.now items (at.index
-          + 1) stack c.is_played.new.depth) (sym w.stack-is)
-          (search_on c.args.lines c.args.start.now items at.index at.stack at.depth
-          c.is_played.new.depth _
-          (element_at c.args.elements.now at.index _ c.loop-index-test.true) at.invariant
-          c.is_played.ensures.within w.go_on.new.stack
-          (subst (IsCounted c.args.lines _ at.depth c.is_played.new.depth) w.if-is_played.true
-          c.is_played.ensures.counted)
-          (rw w.in_default.is at w.in_ok-refused.ensures))
+          rw w.stack-is (search_on c.args.lines c.args.start.now items at.index at.stack at.depth
+          c.is_played.new.depth _ (element_at c.args.elements.now at.index _ c.loop-index-test.true)
+          at.invariant c.is_played.ensures.within w.go_on.new.stack (subst (IsCounted c.args.lines _
+          at.depth c.is_played.new.depth) w.if-is_played.true c.is_played.ensures.counted) (rw
+          w.in_default.is at w.in_ok-refused.ensures))
       | else-is_played w ↦
-          subst (λ stack.
-          IsSearched c.args.lines c.args.start.now items (at.index
-          + 1) stack c.is_played.new.depth) (sym w.stack-is)
-          (search_past c.args.lines c.args.start.now items at.index at.stack at.depth
-          c.is_played.new.depth _
-          (element_at c.args.elements.now at.index _ c.loop-index-test.true) at.invariant
-          c.is_played.ensures.within
-          (subst (IsCounted c.args.lines _ at.depth c.is_played.new.depth) w.if-is_played.false
-          c.is_played.ensures.counted))
+          rw w.stack-is (search_past c.args.lines c.args.start.now items at.index at.stack at.depth
+          c.is_played.new.depth _ (element_at c.args.elements.now at.index _ c.loop-index-test.true)
+          at.invariant c.is_played.ensures.within (subst (IsCounted c.args.lines _ at.depth
+          c.is_played.new.depth) w.if-is_played.false c.is_played.ensures.counted))
     ]
 
 pub returns : goal.returns
@@ -58,5 +46,4 @@ returns c =
     let stack = c.loop-index.stack in
     let all : c.loop-index.index ≡ length items = simp length-map (omega arith) in
     search_finds_none c.args.lines c.args.start.now items stack c.loop-index.depth c.requires
-    (subst (λ n. IsSearched c.args.lines c.args.start.now items n stack c.loop-index.depth) all
-    c.loop-index.invariant)
+    (rw (← all) c.loop-index.invariant)

@@ -1,6 +1,4 @@
-use Rattle.std.proofs.Common.{map}
-use Rattle.pgn_text.specs.Public.Elements.{item_of}
-use Rattle.pgn_game.specs.Private.RefusalWalks.{IsSearched}
+use Rattle.pgn_game.proofs.Common.{map, item_of, IsSearched}
 use Rattle.pgn_game.proofs.explain.first_refused.Given as goal
 
 abbrev pub invariant-loop-index : goal.invariant-loop-index

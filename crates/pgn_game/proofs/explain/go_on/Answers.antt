@@ -1,12 +1,5 @@
-use Rattle.std.proofs.Common.{◌∷◌, refl, sym, ap, subst, ◌∙◌}
-use Rattle.std.specs.Prelude.{IfSome}
-use Rattle.std.proofs.lemmas.Bool.{false≢true}
-use Rattle.pgn_text.specs.Public.Elements.{item_of}
-use Rattle.pgn_game.specs.Public.Faults.{IsRefusedTurn}
-use Rattle.pgn_game.specs.Private.LineWalks.{is_inside}
-use Rattle.pgn_game.specs.Private.Steps.{StopsAt, around}
-use Rattle.pgn_game.specs.Public.Refusals.{IsWhy}
-use Rattle.pgn_game.specs.Public.Replays.{fault_of}
+use Rattle.pgn_game.proofs.Common.{◌∷◌, refl, sym, ap, subst, ◌∙◌, IfSome, false≢true, item_of}
+use Rattle.pgn_game.proofs.Common.{IsRefusedTurn, is_inside, StopsAt, around, IsWhy, fault_of}
 use Rattle.pgn_game.proofs.RefusalSearch.{refused_here}
 use Rattle.pgn_game.proofs.explain.go_on.Goals as goal
 
@@ -22,10 +15,7 @@ why_refused-why-requires c =
     (c.in-Err.ensures.stuck items)) in (
       stack.line.plies,
       reports.0,
-      subst (λ b. IsRefusedTurn b c.copy-position.result stack.line.plies word reports.0)
-          (sym c.is_inside-inside.ensures)
-          (subst (λ s. IsRefusedTurn (is_inside (around stack)) s stack.line.plies word reports.0)
-          (sym c.copy-position.ensures) reports.1),
+      rw c.is_inside-inside.ensures (rw c.copy-position.ensures reports.1),
     )
 
 pub returns-in-Move : goal.returns-in-Move
@@ -35,10 +25,8 @@ returns-in-Move c =
       element = refl;
       word = ap item_of c.in-Move.is;
       position = c.copy-position.ensures;
-      why = subst (λ b. IsWhy b c.args.stack.now.line.now word c.why_refused-why.result)
-          c.is_inside-inside.ensures
-          (subst (λ s. IsWhy c.is_inside-inside.result s word c.why_refused-why.result)
-          c.copy-position.ensures c.why_refused-why.ensures);
+      why = rw (← c.is_inside-inside.ensures) (rw (← c.copy-position.ensures)
+          c.why_refused-why.ensures);
     }
 
 pub returns-in_default : goal.returns-in_default

@@ -1,4 +1,4 @@
-use Rattle.std.proofs.Common.{◌≡◌, subst, arith}
+use Rattle.std.proofs.Common.{◌≡◌, arith}
 use Rattle.pgn_game.proofs.NamedMoves.{HasNamed, named_start, named_more, named_all}
 use Rattle.pgn_game.proofs.explain.named_moves.Goals as goal
 
@@ -18,5 +18,4 @@ returns c =
     let moves = c.loop-index.moves.items in
     let all : c.loop-index.index ≡ 64 = omega arith in
     named_all c.args.position.now c.args.word.now moves
-    (subst (λ n. HasNamed c.args.position.now c.args.word.now n moves) all
-    c.loop-index.invariant)
+    (rw (← all) c.loop-index.invariant)

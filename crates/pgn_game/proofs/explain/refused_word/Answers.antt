@@ -1,6 +1,4 @@
-use Rattle.std.proofs.Common.{subst}
-use Rattle.pgn_text.specs.Public.GameTexts.{tag_in}
-use Rattle.pgn_game.specs.Public.Starts.{fen_tag, IsStart}
+use Rattle.pgn_game.proofs.Common.{subst, tag_in, fen_tag, IsStart}
 use Rattle.pgn_game.proofs.RefusalSearch.{IsFoundFrom, found_at}
 use Rattle.pgn_game.proofs.explain.refused_word.Goals as goal
 
@@ -10,5 +8,4 @@ returns c =
     let fen = tag_in fen_tag c.args.raw.now.tags in
     found_at c.args.lines fen c.args.raw.now.elements start c.in_ok-first_refused.field-0
     (subst (λ tags. IsStart (tag_in fen_tag tags) start) c.tags.ensures.tags c.in_ok-start.ensures)
-    (subst (λ items. IsFoundFrom c.args.lines start items c.in_ok-first_refused.field-0)
-    c.elements.ensures.elements c.in_ok-first_refused.ensures)
+    (rw (← c.elements.ensures.elements) c.in_ok-first_refused.ensures)

@@ -1,6 +1,4 @@
-use Rattle.std.proofs.Common.{sym, subst, ◌∙◌}
-use Rattle.std.proofs.lemmas.Bool.{false≢true}
-use Rattle.pgn_game.specs.Public.Faults.{RefusesTurn}
+use Rattle.pgn_game.proofs.Common.{sym, subst, ◌∙◌, false≢true, RefusesTurn}
 use Rattle.pgn_game.proofs.RefusalSearch.{none_named}
 use Rattle.pgn_game.proofs.explain.why_refused.Goals as goal
 

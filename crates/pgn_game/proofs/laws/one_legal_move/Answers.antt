@@ -1,8 +1,5 @@
-use Rattle.std.proofs.Common.{◌≡◌, ◌+◌, suc, subst, arith}
 use Rattle.std.specs.Prelude.{Some}
-use Rattle.std.specs.List.{slice_get}
-use Rattle.chess.specs.Public.Moves.{after}
-use Rattle.pgn_game.specs.Public.MainLines.{main_words}
+use Rattle.pgn_game.proofs.Common.{◌≡◌, ◌+◌, suc, subst, arith, slice_get, after, main_words}
 use Rattle.pgn_game.proofs.OneReplay.{move_at}
 use Rattle.pgn_game.proofs.laws.one_legal_move.Goals as goal
 

@@ -1,5 +1,4 @@
-use Rattle.std.proofs.Common.{length}
-use Rattle.pgn_game.specs.Private.CommentWords.{IsAfterBare}
+use Rattle.pgn_game.proofs.Common.{length, IsAfterBare}
 use Rattle.pgn_game.proofs.exports.comment.after_bare.Given as goal
 
 abbrev pub invariant-loop-rest : goal.invariant-loop-rest

@@ -1,5 +1,4 @@
-use Rattle.std.proofs.Common.{◌≡◌, length}
-use Rattle.pgn_game.specs.Private.CommentWords.{after_white}
+use Rattle.pgn_game.proofs.Common.{◌≡◌, length, after_white}
 use Rattle.pgn_game.proofs.exports.comment.after_white.Given as goal
 
 abbrev pub invariant-loop-rest : goal.invariant-loop-rest

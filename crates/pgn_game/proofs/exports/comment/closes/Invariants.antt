@@ -1,5 +1,4 @@
-use Rattle.std.proofs.Common.{◌≡◌, length}
-use Rattle.pgn_game.specs.Public.Comments.{closes}
+use Rattle.pgn_game.proofs.Common.{◌≡◌, length, closes}
 use Rattle.pgn_game.proofs.exports.comment.closes.Given as goal
 
 abbrev pub invariant-loop-rest : goal.invariant-loop-rest

@@ -1,16 +1,13 @@
-use Rattle.std.proofs.Common.{◌<◌, ◌∷◌, true, false, length, sym, ap, ◌∙◌, subst}
-use Rattle.std.proofs.lemmas.Bool.{eqb-true}
 use Rattle.std.proofs.lemmas.List.{nil_from_length}
-use Rattle.pgn_game.specs.Public.Comments.{words_in}
-use Rattle.pgn_game.specs.Private.CommentWords.{word_front}
+use Rattle.pgn_game.proofs.Common.{◌<◌, ◌∷◌, true, false, length, sym, ap, ◌∙◌, subst, eqb-true}
+use Rattle.pgn_game.proofs.Common.{words_in, word_front}
 use Rattle.pgn_game.proofs.CommentFacts.{no_word, some_word, full}
 use Rattle.pgn_game.proofs.exports.comment.first_word.Goals as goal
 
 pub returns-then-is_empty-clause-words : goal.returns-then-is_empty-clause-words
 returns-then-is_empty-clause-words c =
     let rest = c.after_white-rest.result.now in
-    no_word c.args.text.now (sym c.after_white-rest.ensures
-    ∙ nil_from_length rest
+    no_word c.args.text.now (sym c.after_white-rest.ensures ∙ nil_from_length rest
     (eqb-true (length rest) 0 (sym c.is_empty.ensures ∙ c.if-is_empty.true)))
 
 pub returns-clause-words : goal.returns-clause-words

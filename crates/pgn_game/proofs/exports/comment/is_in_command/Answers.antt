@@ -1,7 +1,5 @@
-use Rattle.std.proofs.Common.{sym, ap, ◌∙◌}
 use Rattle.std.specs.Prelude.{if◌then◌else◌, ◌&&◌, not}
-use Rattle.pgn_game.specs.Public.Comments.{words_in, has_bracket, closes}
-use Rattle.pgn_game.specs.Public.TextLines.{joined}
+use Rattle.pgn_game.proofs.Common.{sym, ap, ◌∙◌, words_in, has_bracket, closes, joined}
 use Rattle.pgn_game.proofs.CommandFacts.{closes_words}
 use Rattle.pgn_game.proofs.exports.comment.is_in_command.Goals as goal
 

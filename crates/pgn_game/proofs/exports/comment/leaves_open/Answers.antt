@@ -1,6 +1,4 @@
-use Rattle.std.proofs.Common.{◌-◌, length, take, drop}
-use Rattle.std.specs.Prelude.{slice_index_or}
-use Rattle.chess.proofs.RestFacts.{first_and_rest}
+use Rattle.pgn_game.proofs.Common.{◌-◌, length, take, drop, slice_index_or, first_and_rest}
 use Rattle.pgn_game.proofs.CommandFacts.{open_next}
 use Rattle.pgn_game.proofs.exports.comment.leaves_open.Goals as goal
 

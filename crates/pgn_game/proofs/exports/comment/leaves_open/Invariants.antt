@@ -1,6 +1,5 @@
-use Rattle.std.proofs.Common.{◌≡◌, length}
-use Rattle.std.specs.Prelude.{◌&&◌, ◌||◌, not}
-use Rattle.pgn_game.specs.Public.Comments.{has_bracket, leaves_open}
+use Rattle.std.specs.Prelude.{◌&&◌}
+use Rattle.pgn_game.proofs.Common.{◌≡◌, length, ◌||◌, not, has_bracket, leaves_open}
 use Rattle.pgn_game.proofs.exports.comment.leaves_open.Given as goal
 
 abbrev pub invariant-loop-rest : goal.invariant-loop-rest

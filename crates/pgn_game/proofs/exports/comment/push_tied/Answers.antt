@@ -20,8 +20,7 @@ loop-inside-preserved c =
       some = kept.some ++ 32 ∷ text;
       pushed =
           c.in_ok-push_word.ensures.text
-          ∙ ap (λ x. x ++ text) (c.in_ok-push.ensures.items
-          ∙ ap (λ x. x ++ 32 ∷ []) kept.pushed)
+          ∙ ap (λ x. x ++ text) (c.in_ok-push.ensures.items ∙ ap (λ x. x ++ 32 ∷ []) kept.pushed)
           ∙ append_assoc (before_it ++ kept.some) (32 ∷ []) text
           ∙ append_assoc before_it kept.some (32 ∷ text);
       tied = λ token. kept.tied token

@@ -1,6 +1,5 @@
-use Rattle.std.proofs.Common.{◌≡◌, ◌++◌, ◌≤◌, ℕ, List}
-use Rattle.pgn_game.specs.Public.Comments.{in_front}
-use Rattle.pgn_game.specs.Private.CommentWords.{found_words, found_size, tied_words, IsFoundBare}
+use Rattle.pgn_game.proofs.Common.{◌≡◌, ◌++◌, ◌≤◌, ℕ, List, in_front, found_words, found_size}
+use Rattle.pgn_game.proofs.Common.{tied_words, IsFoundBare}
 use Rattle.pgn_game.proofs.exports.comment.push_tied.Given as goal
 
 abbrev pub invariant-loop-inside : goal.invariant-loop-inside

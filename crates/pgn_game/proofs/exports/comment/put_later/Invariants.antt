@@ -1,6 +1,5 @@
-use Rattle.std.proofs.Common.{◌≡◌, ◌++◌, ℕ, List, map}
-use Rattle.pgn_game.specs.Public.Comments.{later_word, closed}
-use Rattle.pgn_game.specs.Private.CommentWords.{found_words, found_size, IsFoundBare, HasLeft}
+use Rattle.pgn_game.proofs.Common.{◌≡◌, ◌++◌, ℕ, List, map, later_word, closed, found_words}
+use Rattle.pgn_game.proofs.Common.{found_size, IsFoundBare, HasLeft}
 use Rattle.pgn_game.proofs.exports.comment.put_later.Given as goal
 
 abbrev pub invariant-loop-next : goal.invariant-loop-next

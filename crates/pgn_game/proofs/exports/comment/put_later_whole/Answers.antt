@@ -1,7 +1,5 @@
-use Rattle.std.proofs.Common.{◌≡◌, ◌++◌, ◌∷◌, false, sym, ap, ◌∙◌}
-use Rattle.pgn_game.specs.Public.Comments.{words_in, unbraced}
-use Rattle.pgn_game.specs.Private.CommentWords.{found_words, tied_words}
-use Rattle.pgn_game.specs.Private.LineWrappers.{after_tokens}
+use Rattle.pgn_game.proofs.Common.{◌≡◌, ◌++◌, ◌∷◌, false, sym, ap, ◌∙◌, words_in, unbraced}
+use Rattle.pgn_game.proofs.Common.{found_words, tied_words, after_tokens}
 use Rattle.pgn_game.proofs.CommandFacts.{words_left}
 use Rattle.pgn_game.proofs.MovetextFacts.{grown_twice}
 use Rattle.pgn_game.proofs.exports.comment.put_later_whole.Goals as goal

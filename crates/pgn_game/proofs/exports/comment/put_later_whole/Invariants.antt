@@ -1,6 +1,5 @@
-use Rattle.std.proofs.Common.{◌≡◌, ◌++◌, ℕ, List, false}
-use Rattle.pgn_game.specs.Private.CommentWords.{found_words, found_size, tied_words, IsFoundBare}
-use Rattle.pgn_game.specs.Private.CommentWords.{HasLeft}
+use Rattle.pgn_game.proofs.Common.{◌≡◌, ◌++◌, ℕ, List, false, found_words, found_size, tied_words}
+use Rattle.pgn_game.proofs.Common.{IsFoundBare, HasLeft}
 use Rattle.pgn_game.proofs.exports.comment.put_later_whole.Given as goal
 
 abbrev pub invariant-loop-next : goal.invariant-loop-next

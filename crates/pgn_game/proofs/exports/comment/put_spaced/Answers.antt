@@ -1,7 +1,5 @@
-use Rattle.std.proofs.Common.{◌≡◌, ◌+◌, ◌≤◌, ◌++◌, ◌∷◌, [], length, ap, sym, ◌∙◌, subst, arith}
-use Rattle.std.proofs.Common.{append_assoc, length-append}
-use Rattle.pgn_game.specs.Public.Comments.{comment_tokens}
-use Rattle.pgn_game.specs.Private.LineWrappers.{HasPut}
+use Rattle.pgn_game.proofs.Common.{◌≡◌, ◌+◌, ◌≤◌, ◌++◌, ◌∷◌, [], length, ap, sym, ◌∙◌, arith}
+use Rattle.pgn_game.proofs.Common.{append_assoc, length-append, comment_tokens, HasPut}
 use Rattle.pgn_game.proofs.CommandFacts.{joined_comment}
 use Rattle.pgn_game.proofs.LineWrapperFacts.{put_at_once}
 use Rattle.pgn_game.proofs.exports.comment.put_spaced.Goals as goal
@@ -23,6 +21,4 @@ returns-clause-text c commands =
     put_at_once c.args.wrapper.now c.start.new.self c.args.out.now.items c.push-2.new.self.items
     (comment_tokens commands text) 123 rest (joined_comment commands text
     ∙ c.requires.spaced) c.requires.begun fits
-    (subst (λ after.
-    HasPut c.args.wrapper.now c.start.new.self c.args.out.now.items after ((123 ∷ rest) ∷ [])) whole
-    (c.in_ok-start.ensures.text (123 ∷ rest) long))
+    (rw (← whole) (c.in_ok-start.ensures.text (123 ∷ rest) long))

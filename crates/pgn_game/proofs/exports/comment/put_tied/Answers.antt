@@ -1,6 +1,5 @@
-use Rattle.std.proofs.Common.{◌≡◌, ◌++◌, sym, ap, ◌∙◌, append_assoc}
-use Rattle.pgn_game.specs.Public.Comments.{words_in, unbraced}
-use Rattle.pgn_game.specs.Private.CommentWords.{closing}
+use Rattle.pgn_game.proofs.Common.{◌≡◌, ◌++◌, sym, ap, ◌∙◌, append_assoc, words_in, unbraced}
+use Rattle.pgn_game.proofs.Common.{closing}
 use Rattle.pgn_game.proofs.CommandFacts.{tied_all}
 use Rattle.pgn_game.proofs.exports.comment.put_tied.Goals as goal
 

@@ -1,8 +1,5 @@
-use Rattle.std.proofs.Common.{◌≡◌, ◌∷◌, [], false, true, sym, subst}
-use Rattle.std.proofs.lemmas.Result.{on_ok_weaker}
-use Rattle.pgn_game.specs.Public.Comments.{words_in, comment_tokens}
-use Rattle.pgn_game.specs.Private.CommentWords.{found_words, tied_words}
-use Rattle.pgn_game.specs.Private.LineWrappers.{HasPut}
+use Rattle.pgn_game.proofs.Common.{◌≡◌, ◌∷◌, [], false, true, sym, subst, on_ok_weaker, words_in}
+use Rattle.pgn_game.proofs.Common.{comment_tokens, found_words, tied_words, HasPut}
 use Rattle.pgn_game.proofs.CommandFacts.{whole_comment}
 use Rattle.pgn_game.proofs.LineWrapperFacts.{put_both}
 use Rattle.pgn_game.proofs.exports.comment.put_whole.Goals as goal

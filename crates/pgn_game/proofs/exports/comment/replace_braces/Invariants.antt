@@ -1,5 +1,4 @@
-use Rattle.std.proofs.Common.{◌≡◌, ◌++◌, take}
-use Rattle.pgn_game.specs.Public.Comments.{unbraced}
+use Rattle.pgn_game.proofs.Common.{◌≡◌, ◌++◌, take, unbraced}
 use Rattle.pgn_game.proofs.exports.comment.replace_braces.Given as goal
 
 abbrev pub invariant-loop-byte : goal.invariant-loop-byte

@@ -1,7 +1,5 @@
-use Rattle.std.proofs.Common.{◌≡◌, ◌-◌, length, take, sym, ap, ◌∙◌, arith}
-use Rattle.std.proofs.Math.Seq.{take-append_seam}
-use Rattle.std.proofs.lemmas.Bool.{eqb-true}
-use Rattle.pgn_game.specs.Private.CommentWords.{word_front, after_front}
+use Rattle.pgn_game.proofs.Common.{◌≡◌, ◌-◌, length, take, sym, ap, ◌∙◌, arith, take-append_seam}
+use Rattle.pgn_game.proofs.Common.{eqb-true, word_front, after_front}
 use Rattle.pgn_game.proofs.CommentFacts.{front_whole, front_length, bare_word}
 use Rattle.pgn_game.proofs.exports.comment.split_word.Goals as goal
 

@@ -1,6 +1,4 @@
-use Rattle.std.proofs.Common.{subst}
-use Rattle.pgn_text.specs.Public.GameTexts.{tag_in}
-use Rattle.pgn_game.specs.Public.Starts.{fen_tag, IsStart}
+use Rattle.pgn_game.proofs.Common.{subst, tag_in, fen_tag, IsStart}
 use Rattle.pgn_game.proofs.MovetextLines.{none_of_sound, starts_there}
 use Rattle.pgn_game.proofs.exports.exporter.export.Goals as goal
 

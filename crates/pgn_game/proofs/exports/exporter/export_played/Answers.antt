@@ -1,12 +1,6 @@
-use Rattle.std.proofs.Common.{inl, inr, subst}
-use Rattle.std.specs.Prelude.{IfSome}
-use Rattle.std.proofs.lemmas.Option.{IfSome_then}
-use Rattle.std.proofs.lemmas.Result.{on_ok_weaker, err_from_is_err_and, IfErr-weaker}
-use Rattle.pgn_text.specs.Public.GameTexts.{tag_in}
-use Rattle.pgn_game.specs.Public.Exports.{lines_with}
-use Rattle.pgn_game.specs.Public.Faults.{HasLineFault, IsFault}
-use Rattle.pgn_game.specs.Public.Replays.{fault_of}
-use Rattle.pgn_game.specs.Public.Starts.{fen_tag, IsStart, IsBadStart}
+use Rattle.pgn_game.proofs.Common.{inl, inr, subst, IfSome, IfSome_then, on_ok_weaker}
+use Rattle.pgn_game.proofs.Common.{err_from_is_err_and, IfErr-weaker, tag_in, lines_with}
+use Rattle.pgn_game.proofs.Common.{HasLineFault, IsFault, fault_of, fen_tag, IsStart, IsBadStart}
 use Rattle.pgn_game.proofs.MovetextLines.{written_sound}
 use Rattle.pgn_game.proofs.exports.exporter.export_played.Goals as goal
 
@@ -18,9 +12,7 @@ returns-in_err-start-clause-fault c =
     inl (subst (λ tags. IsBadStart (tag_in fen_tag tags)) c.tags.ensures.tags bad.0, bad.1)))
 
 pub put_or_leave-requires : goal.put_or_leave-requires
-put_or_leave-requires c =
-    subst (λ tags. IsStart (tag_in fen_tag tags) c.in_ok-start.start) c.tags.ensures.tags
-    c.in_ok-start.ensures
+put_or_leave-requires c = rw (← c.tags.ensures.tags) c.in_ok-start.ensures
 
 pub returns-clause-sound : goal.returns-clause-sound
 returns-clause-sound c =
@@ -36,9 +28,7 @@ returns-clause-fault c =
     let lines = lines_with c.args.style.now.variations in
     let game = c.args.game.now in
     let start = c.in_ok-start.start in
-    let is_start =
-    subst (λ tags. IsStart (tag_in fen_tag tags) start) c.tags.ensures.tags
-    c.in_ok-start.ensures in
+    let is_start = rw c.tags.ensures.tags at c.in_ok-start.ensures in
     IfErr-weaker c.put_or_leave.result
     (λ fault. IfSome (fault_of fault) (HasLineFault lines start game.elements))
     (λ fault. IfSome (fault_of fault) (IsFault lines (tag_in fen_tag game.tags) game.elements))

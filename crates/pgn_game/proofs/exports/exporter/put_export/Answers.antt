@@ -1,5 +1,4 @@
-use Rattle.std.proofs.Common.{List, ◌∷◌, [], ◌++◌, ℕ, arith, refl}
-use Rattle.std.proofs.lemmas.Grind.{common_steps}
+use Rattle.pgn_game.proofs.Common.{List, ◌∷◌, [], ◌++◌, ℕ, arith, refl, common_steps}
 use Rattle.pgn_game.specs.Public.Exports.{IsExport}
 use Rattle.pgn_game.proofs.exports.exporter.put_export.Goals as goal
 

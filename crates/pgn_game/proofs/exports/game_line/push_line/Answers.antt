@@ -1,17 +1,7 @@
-use Rattle.std.proofs.Common.{List, ◌++◌, map, refl, ap, ◌∙◌, subst, inr, append_assoc}
-use Rattle.std.specs.Prelude.{IfSome}
-use Rattle.std.proofs.lemmas.Option.{IfSome_then}
-use Rattle.std.proofs.lemmas.Result.{on_ok_weaker, IfErr-weaker}
-use Rattle.pgn_text.specs.Public.Elements.{item_of}
-use Rattle.pgn_text.specs.Public.GameTexts.{tag_in}
-use Rattle.pgn_text.specs.Public.Games.{Item}
-use Rattle.pgn_game.specs.Public.Faults.{IsFault, IsMoveFault}
-use Rattle.pgn_game.specs.Public.GameLines.{IsGameLine}
-use Rattle.pgn_game.specs.Private.LineTexts.{AreWritten}
-use Rattle.pgn_game.specs.Public.MainLines.{main_words}
-use Rattle.pgn_game.specs.Public.Replays.{fault_of}
-use Rattle.pgn_game.specs.Public.Starts.{fen_tag, IsStart}
-use Rattle.pgn_game.specs.declared.replays.replayer.Lines.TheVariants.{Main}
+use Rattle.pgn_game.proofs.Common.{List, ◌++◌, map, refl, ap, ◌∙◌, inr, append_assoc, IfSome}
+use Rattle.pgn_game.proofs.Common.{IfSome_then, on_ok_weaker, IfErr-weaker, item_of, tag_in, Item}
+use Rattle.pgn_game.proofs.Common.{IsFault, IsMoveFault, IsGameLine, AreWritten, main_words}
+use Rattle.pgn_game.proofs.Common.{fault_of, fen_tag, IsStart, Main}
 use Rattle.pgn_game.proofs.GameLineFacts.{written_line}
 use Rattle.pgn_game.proofs.exports.game_line.push_line.Goals as goal
 
@@ -19,16 +9,11 @@ pub returns-clause-text : goal.returns-clause-text
 returns-clause-text c =
     let game = c.args.game.now in
     let start = c.in_ok-start.start in
-    let is_start =
-    subst (λ tags. IsStart (tag_in fen_tag tags) start) c.tags.ensures.tags
-    c.in_ok-start.ensures in
+    let is_start = rw c.tags.ensures.tags at c.in_ok-start.ensures in
     let (head, begins, head_put) = c.in_ok-push_start.ensures.text in
     on_ok_weaker c.push_moves.result
     (λ moves.
-    let written =
-    subst (λ (items : List Item).
-    AreWritten c.args.notation start (main_words items 0) moves.0) c.elements.ensures.elements
-    moves.1 in
+    let written = rw c.elements.ensures.elements at moves.1 in
     let line = written_line c.args.notation start (main_words game.elements 0) moves.0 written in
     let is : IsGameLine c.args.notation (tag_in fen_tag game.tags) game.elements (head ++ moves.0) =
     record {
@@ -54,9 +39,7 @@ pub returns-clause-fault : goal.returns-clause-fault
 returns-clause-fault c =
     let game = c.args.game.now in
     let start = c.in_ok-start.start in
-    let is_start =
-    subst (λ tags. IsStart (tag_in fen_tag tags) start) c.tags.ensures.tags
-    c.in_ok-start.ensures in
+    let is_start = rw c.tags.ensures.tags at c.in_ok-start.ensures in
     IfErr-weaker c.push_moves.result
     (λ fault.
     IfSome (fault_of fault)
@@ -67,7 +50,6 @@ returns-clause-fault c =
     inr (
       start,
       is_start,
-      subst (λ (items : List Item).
-          IsMoveFault start 0 (main_words items 0) f) c.elements.ensures.elements has,
+      rw (← c.elements.ensures.elements) has,
     )))
     c.push_moves.ensures.fault

@@ -1,9 +1,5 @@
-use Rattle.std.proofs.Common.{◌+◌, drop, map, subst, arith}
-use Rattle.std.proofs.lemmas.Option.{IfSome_then}
-use Rattle.std.proofs.lemmas.Result.{err_from_is_err_and}
-use Rattle.pgn_text.specs.Public.Elements.{item_of}
-use Rattle.pgn_game.specs.Private.LineTexts.{HasPutSome}
-use Rattle.pgn_game.specs.Public.MainLines.{main_words}
+use Rattle.pgn_game.proofs.Common.{◌+◌, drop, map, subst, arith, IfSome_then, err_from_is_err_and}
+use Rattle.pgn_game.proofs.Common.{item_of, HasPutSome, main_words}
 use Rattle.pgn_game.proofs.GameLineFacts.{put_begins, put_more, put_ends}
 use Rattle.pgn_game.proofs.WalkFacts.{items_step, items_end}
 use Rattle.pgn_game.proofs.exports.game_line.push_moves.Goals as goal

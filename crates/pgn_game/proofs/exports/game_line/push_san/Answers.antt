@@ -1,5 +1,4 @@
-use Rattle.std.proofs.Common.{refl, sym, ◌∙◌, subst}
-use Rattle.std.proofs.lemmas.Result.{err_from_is_err_and}
+use Rattle.pgn_game.proofs.Common.{refl, ◌∙◌, err_from_is_err_and}
 use Rattle.chess.specs.Public.San.{IsSan}
 use Rattle.pgn_game.proofs.exports.game_line.push_san.Goals as goal
 
@@ -14,9 +13,7 @@ returns-clause-text c =
       m = c.in_ok-play_named_san.field-0;
       own = c.as_bytes.result.now;
       named = named;
-      spells =
-          subst (λ t. IsSan c.args.walk.now.position c.in_ok-play_named_san.field-0 t)
-          (sym (c.as_bytes.ensures.value ∙ c.deref.ensures.0)) spells;
+      spells = rw (c.as_bytes.ensures.value ∙ c.deref.ensures.0) spells;
       position = position;
       plies = refl;
       depth = refl;

@@ -1,9 +1,6 @@
 use Rattle.std.proofs.Common.{◌≡◌, List, ℕ, true, false, map, codes, refl, sym, ◌∙◌, subst}
-use Rattle.std.proofs.lemmas.Result.{on_ok_weaker}
-use Rattle.std.proofs.lemmas.Slice.Eq.{bytes_eq-Decides}
-use Rattle.chess.specs.Public.Fen.{IsFen}
-use Rattle.pgn_game.specs.Public.GameLines.{unspaced, as_initial, as_fen}
-use Rattle.chess.proofs.StartText.{initial_fen}
+use Rattle.pgn_game.proofs.Common.{on_ok_weaker, bytes_eq-Decides, IsFen, unspaced, as_initial}
+use Rattle.pgn_game.proofs.Common.{as_fen, initial_fen}
 use Rattle.pgn_game.proofs.StartTexts.{on_ok_if, start_read_back, initial_by_fen}
 use Rattle.pgn_game.proofs.StartTexts.{not_initial_by_fen}
 use Rattle.pgn_game.proofs.exports.game_line.push_start.Goals as goal

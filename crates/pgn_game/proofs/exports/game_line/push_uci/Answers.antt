@@ -1,5 +1,4 @@
-use Rattle.std.proofs.Common.{refl}
-use Rattle.std.proofs.lemmas.Result.{err_from_is_err_and}
+use Rattle.pgn_game.proofs.Common.{refl, err_from_is_err_and}
 use Rattle.pgn_game.proofs.exports.game_line.push_uci.Goals as goal
 
 pub returns-in_err-m-clause-fault : goal.returns-in_err-m-clause-fault

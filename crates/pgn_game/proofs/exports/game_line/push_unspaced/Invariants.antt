@@ -1,5 +1,4 @@
-use Rattle.std.proofs.Common.{◌≡◌, ◌++◌, map, take}
-use Rattle.pgn_game.specs.Public.GameLines.{unspaced}
+use Rattle.pgn_game.proofs.Common.{◌≡◌, ◌++◌, map, take, unspaced}
 use Rattle.pgn_game.proofs.exports.game_line.push_unspaced.Given as goal
 
 abbrev pub invariant-loop-byte : goal.invariant-loop-byte

@@ -1,10 +1,6 @@
-use Rattle.std.proofs.Common.{ℕ, ◌∷◌, ◌++◌, [], true, false, Vec, Global, refl, ap, ◌∙◌, subst}
-use Rattle.std.proofs.lemmas.Option.{IfSome_then}
-use Rattle.std.proofs.lemmas.Result.{err_from_is_err_and}
-use Rattle.pgn_game.specs.Private.LineWalks.{Stops}
-use Rattle.pgn_game.specs.Private.LineWrappers.{HasPut, after_tokens}
-use Rattle.pgn_game.specs.Private.Steps.{StopsAt, WalksOn, shown_items}
-use Rattle.pgn_game.specs.declared.exports.movetext.MovetextWriter.{MovetextWriter}
+use Rattle.std.proofs.Common.{ℕ, ◌∷◌, ◌++◌, [], true, false, Vec, Global, refl, ap, ◌∙◌}
+use Rattle.pgn_game.proofs.Common.{IfSome_then, err_from_is_err_and, Stops, HasPut, after_tokens}
+use Rattle.pgn_game.proofs.Common.{StopsAt, WalksOn, shown_items, MovetextWriter}
 use Rattle.pgn_game.proofs.LineWrapperFacts.{put_both}
 use Rattle.pgn_game.proofs.MovetextFacts.{grown_twice, laid_first, wrapper_writes}
 use Rattle.pgn_game.proofs.MovetextLines.{written_tokens, written_fault}
@@ -19,12 +15,8 @@ returns-in_err-walked-clause-fault c =
     rw (p.1, p.2) (IfSome_then _ c.in_err-walked.ensures.walked
     (λ fault stops.
     written_fault variations c.args.start.now game.elements fault c.elements.ensures.paired
-    (subst (λ level. Stops (shown_items variations 0 game.elements) level [] fault)
-    (c.new-stack.ensures.line ∙ c.first.ensures)
-    (subst (λ outer. Stops (shown_items variations 0 game.elements) stack.line outer fault)
-    c.new-stack.ensures.around
-    (subst (λ items. StopsAt stack (shown_items variations 0 items) fault)
-    c.elements.ensures.elements stops)))))
+    (rw (← (c.new-stack.ensures.line ∙ c.first.ensures)) (rw (← c.new-stack.ensures.around) (rw (←
+    c.elements.ensures.elements) stops)))))
 
 pub returns-in_err-finish-clause-kept : goal.returns-in_err-finish-clause-kept
 returns-in_err-finish-clause-kept c =
@@ -60,8 +52,7 @@ returns-clause-text c =
     written_tokens c.args.start.now game.elements stack walked.0 first last
     c.elements.ensures.paired
     c.new-stack.ensures.around (c.new-stack.ensures.line ∙ c.first.ensures) refl
-    (subst (λ items. WalksOn stack (shown_items style.variations 0 items) walked.0)
-    c.elements.ensures.elements walked.1) walked.2 in
+    (rw (← c.elements.ensures.elements) walked.1) walked.2 in
     let tokens = written.own ++ game.result ∷ [] in (
       tokens,
       after_tokens style.width false 0 tokens,
@@ -72,11 +63,7 @@ returns-clause-text c =
           c.new-2.ensures.width c.new-2.ensures.begun c.new-2.ensures.column
           (put_both wrapper last.wrapper c.put.new.self c.args.out.now.items last.out.items
           c.put.new.out.items written.own (game.result ∷ [])
-          (subst (λ (v : Vec ℕ Global).
-          HasPut wrapper last.wrapper v.items last.out.items written.own) c.replace.ensures.value
-          written.put)
-          (subst (λ token.
-          HasPut last.wrapper c.put.new.self last.out.items c.put.new.out.items (token ∷ []))
-          c.result.ensures c.in_ok-put.ensures.text))
+          (rw (← c.replace.ensures.value) written.put)
+          (rw (← c.result.ensures) c.in_ok-put.ensures.text))
           c.in_ok-finish.ensures.text,
     )

@@ -1,17 +1,10 @@
-use Rattle.std.proofs.Common.{◌≡◌, ◌++◌, ◌∙◌, ℕ, List, Bool, true, ap, arith, rules, sym, subst}
-use Rattle.std.proofs.Common.{map, Bor}
-use Rattle.std.specs.Prelude.{Some, filter, is_some}
+use Rattle.std.specs.Prelude.{Some}
 use Rattle.std.specs.BTreeMap.{get}
-use Rattle.std.specs.Cmp.Lexicographic.{slice_cmp}
-use Rattle.std.specs.Map.Iter.{deref_pair}
-use Rattle.std.specs.Ordering.{nat_cmp}
-use Rattle.std.proofs.lemmas.Grind.{common_steps}
-use Rattle.std.proofs.lemmas.Map.Iter.{iter_end}
 use Rattle.std.proofs.lemmas.Map.Views.{All-turn}
-use Rattle.pgn_text.specs.Public.Elements.{tag_of}
-use Rattle.pgn_text.specs.Public.GameTexts.{tag_in, tag_names}
-use Rattle.pgn_game.specs.Public.Starts.{fen_tag}
-use Rattle.pgn_game.specs.Public.TagLines.{IsLineOf, AreLinesOf, is_beside}
+use Rattle.pgn_game.proofs.Common.{◌≡◌, ◌++◌, ◌∙◌, ℕ, List, Bool, true, ap, arith, rules, sym}
+use Rattle.pgn_game.proofs.Common.{map, Bor, filter, is_some, slice_cmp, deref_pair, nat_cmp}
+use Rattle.pgn_game.proofs.Common.{common_steps, iter_end, tag_of, tag_in, tag_names, fen_tag}
+use Rattle.pgn_game.proofs.Common.{IsLineOf, AreLinesOf, is_beside}
 use Rattle.pgn_game.proofs.Tags.{tag_found_in, tag_there}
 use Rattle.pgn_game.proofs.TagLineFacts.{lines_push, shown_names, passed_more}
 use Rattle.pgn_game.proofs.exports.tag_lines.put_others.Goals as goal
@@ -49,11 +42,9 @@ loop-name-preserved c =
     let line : IsLineOf c.args.game.now.result name (tag_in name c.args.game.now.tags) put.0 =
     rw is put.1 in (
       so_far.0 ++ put.0,
-      subst (λ names.
-          AreLinesOf c.args.game.now.tags c.args.game.now.result names (so_far.0 ++ put.0))
-          (sym (passed_more test c.loop-name.yielded (c.in-Some.name, c.in-Some.contents) passes))
-          (lines_push c.args.game.now.tags c.args.game.now.result
-          (filter test (shown_names c.loop-name.yielded)) so_far.0 name put.0 so_far.1 line),
+      rw (passed_more test c.loop-name.yielded (c.in-Some.name, c.in-Some.contents) passes)
+          (lines_push c.args.game.now.tags c.args.game.now.result (filter test (shown_names
+          c.loop-name.yielded)) so_far.0 name put.0 so_far.1 line),
       grind (arith, common_steps),
     )
 

@@ -1,9 +1,5 @@
-use Rattle.std.proofs.Common.{◌++◌, arith}
-use Rattle.std.specs.Prelude.{filter, is_some}
-use Rattle.std.proofs.lemmas.Grind.{common_steps}
-use Rattle.pgn_text.specs.Public.GameTexts.{tag_in, tag_names}
-use Rattle.pgn_game.specs.Public.Starts.{fen_tag}
-use Rattle.pgn_game.specs.Public.TagLines.{roster, is_beside}
+use Rattle.pgn_game.proofs.Common.{◌++◌, arith, filter, is_some, common_steps, tag_in, tag_names}
+use Rattle.pgn_game.proofs.Common.{fen_tag, roster, is_beside}
 use Rattle.pgn_game.proofs.TagLineFacts.{lines_join}
 use Rattle.pgn_game.proofs.exports.tag_lines.put_tags.Goals as goal
 

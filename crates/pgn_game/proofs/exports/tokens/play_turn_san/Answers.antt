@@ -1,8 +1,5 @@
-use Rattle.std.proofs.Common.{sym, ◌∙◌, subst}
-use Rattle.std.specs.Prelude.{IfSome}
-use Rattle.std.proofs.lemmas.Result.{err_from_is_err_and}
-use Rattle.pgn_game.specs.Public.Faults.{RefusesTurn}
-use Rattle.pgn_game.specs.Public.Replays.{fault_of}
+use Rattle.pgn_game.proofs.Common.{sym, ◌∙◌, subst, IfSome, err_from_is_err_and, RefusesTurn}
+use Rattle.pgn_game.proofs.Common.{fault_of}
 use Rattle.pgn_game.proofs.exports.tokens.play_turn_san.Goals as goal
 
 pub returns-in_err-m : goal.returns-in_err-m

@@ -1,4 +1,4 @@
-use Rattle.std.proofs.Common.{◌∷◌, ◌++◌, List, ℕ, [], OnOk, sym, subst}
+use Rattle.std.proofs.Common.{◌∷◌, ◌++◌, List, ℕ, [], OnOk}
 use Rattle.std.proofs.lemmas.Fmt.{decimal_digit}
 use Rattle.itoa.proofs.Decimal.{decimal_two}
 use Rattle.pgn_game.specs.Private.LineWrappers.{HasPut}
@@ -6,18 +6,9 @@ use Rattle.pgn_game.proofs.exports.tokens.put_count.Goals as goal
 
 pub returns-then-number-lt10-clause-text : goal.returns-then-number-lt10-clause-text
 returns-then-number-lt10-clause-text c =
-    subst (λ (digits : List ℕ).
-    OnOk c.put_digits.result
-    (HasPut c.args.wrapper.now c.put_digits.new.wrapper c.args.out.now.items
-    c.put_digits.new.out.items
-    ((digits ++ c.args.end.now) ∷ [])))
-    (sym (decimal_digit c.args.number c.if-number-lt10.true)) c.put_digits.ensures.text
+    rw (decimal_digit c.args.number c.if-number-lt10.true) c.put_digits.ensures.text
 
 pub returns-then-number-lt100-clause-text : goal.returns-then-number-lt100-clause-text
 returns-then-number-lt100-clause-text c =
     let put = c.put_digits-then-number-lt100 in
-    subst (λ (digits : List ℕ).
-    OnOk put.result
-    (HasPut c.args.wrapper.now put.new.wrapper c.args.out.now.items put.new.out.items
-    ((digits ++ c.args.end.now) ∷ [])))
-    (sym (decimal_two c.args.number c.if-number-lt10.false c.if-number-lt100.true)) put.ensures.text
+    rw (decimal_two c.args.number c.if-number-lt10.false c.if-number-lt100.true) put.ensures.text

@@ -1,6 +1,4 @@
-use Rattle.std.proofs.Common.{None}
-use Rattle.std.proofs.lemmas.Result.{err_from_is_err_and}
-use Rattle.pgn_game.specs.Public.PackReading.{after_tags}
+use Rattle.pgn_game.proofs.Common.{None, err_from_is_err_and, after_tags}
 use Rattle.pgn_game.proofs.RecordFields.{goes_on, ends, is_done}
 use Rattle.pgn_game.proofs.pack.fields.after_tags.Goals as goal
 

@@ -1,6 +1,4 @@
-use Rattle.std.proofs.Common.{◌≡◌, ◌-◌, None}
-use Rattle.std.specs.Prelude.{option_map}
-use Rattle.pgn_game.specs.Public.PackReading.{after_tags}
+use Rattle.pgn_game.proofs.Common.{◌≡◌, ◌-◌, None, option_map, after_tags}
 use Rattle.pgn_game.proofs.pack.fields.after_tags.Given as goal
 
 abbrev pub invariant-loop : goal.invariant-loop

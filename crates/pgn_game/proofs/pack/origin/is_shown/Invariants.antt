@@ -1,5 +1,4 @@
-use Rattle.std.proofs.Common.{◌≡◌, length}
-use Rattle.pgn_game.specs.Public.PackedGames.{is_shown}
+use Rattle.pgn_game.proofs.Common.{◌≡◌, length, is_shown}
 use Rattle.pgn_game.proofs.pack.origin.is_shown.Given as goal
 
 abbrev pub invariant-loop-rest : goal.invariant-loop-rest

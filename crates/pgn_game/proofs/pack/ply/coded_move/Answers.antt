@@ -1,5 +1,4 @@
-use Rattle.std.proofs.Common.{◌+◌, ◌*◌, ◌/◌, ◌%◌, [], ◌∷◌, refl}
-use Rattle.pgn_game.specs.Public.PlyCodes.{PlyCode, IsCode}
+use Rattle.pgn_game.proofs.Common.{◌+◌, ◌*◌, ◌/◌, ◌%◌, [], ◌∷◌, refl, PlyCode, IsCode}
 use Rattle.pgn_game.proofs.pack.ply.coded_move.Goals as goal
 
 pub returns : goal.returns

@@ -1,5 +1,4 @@
-use Rattle.std.proofs.Common.{ap, ◌∙◌, arith}
-use Rattle.pgn_game.specs.Public.PackReading.{record_at}
+use Rattle.pgn_game.proofs.Common.{ap, ◌∙◌, arith, record_at}
 use Rattle.pgn_game.proofs.RecordFacts.{is_found, record_again}
 use Rattle.pgn_game.proofs.pack.reading.read.Goals as goal
 

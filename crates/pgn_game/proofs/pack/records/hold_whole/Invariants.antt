@@ -1,6 +1,4 @@
-use Rattle.std.proofs.Common.{◌≡◌, ◌+◌, ◌-◌, false, length}
-use Rattle.pgn_game.specs.Public.PackedGames.{largest_body}
-use Rattle.pgn_game.specs.Private.PackSteps.{ReadsOn}
+use Rattle.pgn_game.proofs.Common.{◌≡◌, ◌+◌, ◌-◌, false, length, largest_body, ReadsOn}
 use Rattle.pgn_game.proofs.pack.records.hold_whole.Given as goal
 
 abbrev pub invariant-loop-ahead : goal.invariant-loop-ahead

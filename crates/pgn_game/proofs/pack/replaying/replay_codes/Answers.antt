@@ -1,5 +1,4 @@
-use Rattle.std.proofs.Common.{sym, ◌∙◌, arith}
-use Rattle.std.proofs.lemmas.Bool.{false≢true}
+use Rattle.pgn_game.proofs.Common.{sym, ◌∙◌, arith, false≢true}
 use Rattle.pgn_game.proofs.CodeLineFacts.{replayed_none, replayed_on, replayed_all, no_line}
 use Rattle.pgn_game.proofs.CodeLineFacts.{no_part}
 use Rattle.pgn_game.proofs.pack.replaying.replay_codes.Goals as goal

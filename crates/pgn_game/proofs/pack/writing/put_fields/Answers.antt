@@ -1,6 +1,5 @@
-use Rattle.std.proofs.Common.{arith}
+use Rattle.pgn_game.proofs.Common.{arith, name_of}
 use Rattle.pgn_game.proofs.RecordWriting.{count_below, written}
-use Rattle.pgn_game.specs.Public.PackedGames.{name_of}
 use Rattle.pgn_game.proofs.pack.writing.put_fields.Goals as goal
 
 pub put_head-requires-clause-count : goal.put_head-requires-clause-count

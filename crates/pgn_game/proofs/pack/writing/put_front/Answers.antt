@@ -1,6 +1,5 @@
-use Rattle.std.proofs.Common.{◌++◌, ◌∙◌, ℕ, List, length, ap}
-use Rattle.std.specs.Int.{w32, w64, to_be_bytes}
-use Rattle.pgn_game.specs.Public.PackedGames.{name_of, body_size}
+use Rattle.pgn_game.proofs.Common.{◌++◌, ◌∙◌, ℕ, List, length, ap, w32, w64, to_be_bytes, name_of}
+use Rattle.pgn_game.proofs.Common.{body_size}
 use Rattle.pgn_game.proofs.RecordWriting.{front_put}
 use Rattle.pgn_game.proofs.pack.writing.put_front.Goals as goal
 

@@ -1,6 +1,5 @@
-use Rattle.std.proofs.Common.{ℕ, List, Bor, arith}
-use Rattle.std.specs.Map.Iter.{deref_pair}
 use Rattle.std.proofs.lemmas.Map.Iter.{iter_turn}
+use Rattle.pgn_game.proofs.Common.{ℕ, List, Bor, arith, deref_pair}
 use Rattle.pgn_game.proofs.RecordWriting.{shown_below}
 use Rattle.pgn_game.proofs.pack.writing.put_tags.Goals as goal
 

@@ -1,6 +1,4 @@
-use Rattle.std.proofs.Common.{◌≡◌, ◌++◌}
-use Rattle.std.specs.List.{flat_map}
-use Rattle.pgn_game.specs.Public.PackedGames.{tag_bytes}
+use Rattle.pgn_game.proofs.Common.{◌≡◌, ◌++◌, flat_map, tag_bytes}
 use Rattle.pgn_game.proofs.RecordWriting.{shown_tags}
 use Rattle.pgn_game.proofs.pack.writing.put_tags.Given as goal
 

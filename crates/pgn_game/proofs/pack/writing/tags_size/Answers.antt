@@ -1,7 +1,5 @@
-use Rattle.std.proofs.Common.{◌≡◌, ◌∙◌, ap, sym, arith, rules, map}
-use Rattle.std.specs.Map.Iter.{deref_pair}
-use Rattle.std.proofs.lemmas.Map.Iter.{iter_end}
-use Rattle.pgn_text.specs.Public.Elements.{tag_of}
+use Rattle.pgn_game.proofs.Common.{◌≡◌, ◌∙◌, ap, sym, arith, rules, map, deref_pair, iter_end}
+use Rattle.pgn_game.proofs.Common.{tag_of}
 use Rattle.pgn_game.proofs.RecordWriting.{shown_tags, tags_more, size_more}
 use Rattle.pgn_game.proofs.pack.writing.tags_size.Goals as goal
 

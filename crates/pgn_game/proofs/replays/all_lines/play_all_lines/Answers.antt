@@ -1,10 +1,5 @@
-use Rattle.std.proofs.Common.{[], ◌∙◌, map, sym, subst}
-use Rattle.std.proofs.lemmas.Option.{IfSome_then}
-use Rattle.std.proofs.lemmas.Result.{err_from_is_err_and}
-use Rattle.pgn_text.specs.Public.Elements.{item_of}
-use Rattle.pgn_game.specs.Public.AllLines.{ArePlayed}
-use Rattle.pgn_game.specs.Private.LineWalks.{Stops}
-use Rattle.pgn_game.specs.Public.MainLines.{main_words, IsMainLine}
+use Rattle.pgn_game.proofs.Common.{[], ◌∙◌, map, subst, IfSome_then, err_from_is_err_and}
+use Rattle.pgn_game.proofs.Common.{item_of, ArePlayed, Stops, main_words, IsMainLine}
 use Rattle.pgn_game.proofs.KeptSteps.{kept_all}
 use Rattle.pgn_game.proofs.OneReplay.{line_length}
 use Rattle.pgn_game.proofs.RunFacts.{runs_played, stops_faulty}
@@ -48,10 +43,6 @@ returns c =
     c.new-stack.ensures.around (c.new-stack.ensures.line ∙ c.first.ensures)
     began.positions began.played began.turns walked.1 walked.2 in
     let is = c.replayed.ensures in (
-      subst (λ ps. IsMainLine start (main_words items 0) ps c.replayed.result.played)
-          (sym is.positions)
-          (subst (λ ms. IsMainLine start (main_words items 0) keeper.positions.items ms)
-          (sym is.played) all.is_line),
-      subst (λ ts. ArePlayed start items ts) (sym is.turns)
-          (runs_played start items keeper.turns.items c.requires all.runs),
+      rw is.positions (rw is.played all.is_line),
+      rw is.turns (runs_played start items keeper.turns.items c.requires all.runs),
     )

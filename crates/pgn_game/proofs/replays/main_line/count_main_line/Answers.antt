@@ -1,7 +1,5 @@
-use Rattle.std.proofs.Common.{◌++◌, ◌∷◌, [], map, subst, arith}
-use Rattle.std.proofs.lemmas.Result.{err_from_is_err_and}
-use Rattle.pgn_text.specs.Public.Elements.{item_of}
-use Rattle.pgn_game.specs.Public.MainLines.{main_words}
+use Rattle.pgn_game.proofs.Common.{◌++◌, ◌∷◌, [], map, subst, arith, err_from_is_err_and, item_of}
+use Rattle.pgn_game.proofs.Common.{main_words}
 use Rattle.pgn_game.proofs.WalkFacts.{HasGone, walk_begins, walked_on, stuck_at, walk_ends}
 use Rattle.pgn_game.proofs.WalkFacts.{items_step, items_end}
 use Rattle.pgn_game.proofs.replays.main_line.count_main_line.Goals as goal

@@ -1,6 +1,4 @@
-use Rattle.std.proofs.Common.{◌≡◌, ◌+◌, ◌<◌, ◌-◌, ◌^◌, drop, length, map}
-use Rattle.pgn_text.specs.Public.Elements.{item_of}
-use Rattle.pgn_game.specs.Public.MainLines.{main_words}
+use Rattle.pgn_game.proofs.Common.{◌≡◌, ◌+◌, ◌<◌, ◌-◌, ◌^◌, drop, length, map, item_of, main_words}
 use Rattle.pgn_game.proofs.replays.main_line.next_word.Given as goal
 
 abbrev pub invariant-loop-element : goal.invariant-loop-element

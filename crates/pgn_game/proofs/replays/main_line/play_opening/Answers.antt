@@ -1,8 +1,5 @@
 use Rattle.std.proofs.Common.{◌+◌, ◌∷◌, [], drop, inl, inr, refl, map, sym, subst, ap, ◌∙◌, arith}
-use Rattle.std.proofs.lemmas.Result.{err_from_is_err_and}
-use Rattle.pgn_text.specs.Public.Elements.{item_of}
-use Rattle.pgn_game.specs.Public.MainLines.{main_words}
-use Rattle.pgn_game.specs.Private.Walks.{HasWalked, KeepsLine}
+use Rattle.pgn_game.proofs.Common.{err_from_is_err_and, item_of, main_words, HasWalked, KeepsLine}
 use Rattle.pgn_game.proofs.OneReplay.{line_length}
 use Rattle.pgn_game.proofs.WalkFacts.{walk_begins, stuck_at, items_step, items_end}
 use Rattle.pgn_game.proofs.replays.main_line.play_opening.Goals as goal
@@ -20,9 +17,8 @@ loop-element-init c =
         before = [];
         positions = c.in_ok-opening.ensures.positions ∙ ap (λ s. s ∷ []) (sym begun.0);
         walked =
-            subst (λ ms. HasWalked c.args.start (main_words items 0) line.walk [] ms items)
-            (sym c.in_ok-opening.ensures.played)
-            (walk_begins c.args.start line.walk items begun.0 begun.1 begun.2);
+            rw c.in_ok-opening.ensures.played (walk_begins c.args.start line.walk items begun.0
+            begun.1 begun.2);
         first = [];
         parted = ap (main_words items) (sym begun.2);
         opening = (c.in_ok-opening.ensures.positions, c.in_ok-opening.ensures.played);

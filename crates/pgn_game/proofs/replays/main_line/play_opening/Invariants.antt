@@ -1,7 +1,4 @@
-use Rattle.std.proofs.Common.{◌≤◌, drop, map}
-use Rattle.pgn_text.specs.Public.Elements.{item_of}
-use Rattle.pgn_game.specs.Public.MainLines.{main_words}
-use Rattle.pgn_game.specs.Private.Walks.{KeepsLine}
+use Rattle.pgn_game.proofs.Common.{◌≤◌, drop, map, item_of, main_words, KeepsLine}
 use Rattle.pgn_game.proofs.replays.main_line.play_opening.Given as goal
 
 abbrev pub invariant-loop-element : goal.invariant-loop-element

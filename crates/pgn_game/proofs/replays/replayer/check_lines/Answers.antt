@@ -1,14 +1,7 @@
 use Rattle.std.proofs.Common.{List, [], MatchResult, refl, subst, sym, inr}
-use Rattle.std.specs.Prelude.{IfSome}
-use Rattle.std.proofs.lemmas.Option.{IfSome_then}
-use Rattle.std.proofs.lemmas.Result.{MatchResult-weaker, err_from_is_err_and}
-use Rattle.pgn_text.specs.Public.GameTexts.{tag_in}
-use Rattle.pgn_text.specs.Public.Games.{Item}
-use Rattle.pgn_game.specs.Public.MainLines.{main_words, IsMainLine}
-use Rattle.pgn_game.specs.Public.AllLines.{ArePlayed}
-use Rattle.pgn_game.specs.Public.Starts.{fen_tag, IsStart}
-use Rattle.pgn_game.specs.Public.Faults.{IsFault, IsMoveFault, HaveFault}
-use Rattle.pgn_game.specs.Public.Replays.{IsSoundGame, fault_of}
+use Rattle.pgn_game.proofs.Common.{IfSome, IfSome_then, MatchResult-weaker, err_from_is_err_and}
+use Rattle.pgn_game.proofs.Common.{tag_in, Item, main_words, IsMainLine, ArePlayed, fen_tag}
+use Rattle.pgn_game.proofs.Common.{IsStart, IsFault, IsMoveFault, HaveFault, IsSoundGame, fault_of}
 use Rattle.pgn_game.proofs.AnAnswer.{played_sound}
 use Rattle.pgn_game.proofs.replays.replayer.check_lines.Goals as goal
 
@@ -17,44 +10,26 @@ returns-in_err-count_main_line-in-Main c =
     let fen = tag_in fen_tag c.args.raw.now.tags in
     let items = c.args.raw.now.elements in
     let start = c.in_ok-start.start in
-    let is_start =
-    subst (λ tags. IsStart (tag_in fen_tag tags) start) c.tags.ensures.tags
-    c.in_ok-start.ensures in
+    let is_start = rw c.tags.ensures.tags at c.in_ok-start.ensures in
     let p = err_from_is_err_and c.from_residual-in_err-count_main_line-in-Main.result
     c.from_residual-in_err-count_main_line-in-Main.ensures.1 in
-    subst (λ lines.
-    MatchResult c.from_residual-in_err-count_main_line-in-Main.result (λ _.
-    IsSoundGame lines fen items) (λ fault. IfSome (fault_of fault) (IsFault lines fen items)))
-    (sym c.in-Main.is)
-    (rw (
-      p.1,
-      p.2,
-    ) (IfSome_then (fault_of c.in_err-count_main_line-in-Main.field-0.0)
-    c.in_err-count_main_line-in-Main.ensures
-    (λ f met.
-    inr (
-      start,
-      is_start,
-      subst (λ (xs : List Item). IsMoveFault start 0 (main_words xs 0) f)
-          c.elements.ensures.elements met,
-    ))))
+    rw c.in-Main.is (rw (p.1, p.2) (IfSome_then (fault_of
+    c.in_err-count_main_line-in-Main.field-0.0) c.in_err-count_main_line-in-Main.ensures (λ f met.
+    inr (start, is_start, rw (← c.elements.ensures.elements) met))))
 
 pub returns-in_ok-count_main_line-in-Main : goal.returns-in_ok-count_main_line-in-Main
 returns-in_ok-count_main_line-in-Main c =
     let fen = tag_in fen_tag c.args.raw.now.tags in
     let items = c.args.raw.now.elements in
     let start = c.in_ok-start.start in
-    let is_start =
-    subst (λ tags. IsStart (tag_in fen_tag tags) start) c.tags.ensures.tags
-    c.in_ok-start.ensures in
+    let is_start = rw c.tags.ensures.tags at c.in_ok-start.ensures in
     let (positions, played, line, count) = c.in_ok-count_main_line-in-Main.ensures in
     subst (λ lines. IsSoundGame lines fen items) (sym c.in-Main.is) (
       record { positions = positions; played = played; turns = [] },
       record {
         start = start;
         is_start = is_start;
-        line = subst (λ (xs : List Item).
-            IsMainLine start (main_words xs 0) positions played) c.elements.ensures.elements line;
+        line = rw (← c.elements.ensures.elements) line;
         turns = refl;
       },
     )
@@ -64,18 +39,9 @@ returns-in-All c =
     let fen = tag_in fen_tag c.args.raw.now.tags in
     let items = c.args.raw.now.elements in
     let start = c.in_ok-start.start in
-    let is_start =
-    subst (λ tags. IsStart (tag_in fen_tag tags) start) c.tags.ensures.tags
-    c.in_ok-start.ensures in
+    let is_start = rw c.tags.ensures.tags at c.in_ok-start.ensures in
     let elements = c.elements-in-All.ensures.elements in
-    subst (λ lines.
-    MatchResult c.check_all_lines.result (λ _. IsSoundGame lines fen items) (λ fault.
-    IfSome (fault_of fault) (IsFault lines fen items)))
-    (sym c.in-All.is)
-    (MatchResult-weaker c.check_all_lines.result c.check_all_lines.ensures
-    (λ _ turned.
-    played_sound fen start items turned.0 is_start
-    (subst (λ (xs : List Item). ArePlayed start xs turned.0) elements turned.1))
-    (λ fault reports.
-    IfSome_then (fault_of fault) reports (λ f met.
-    inr (start, is_start, subst (λ (xs : List Item). HaveFault start xs f) elements met))))
+    rw c.in-All.is (MatchResult-weaker c.check_all_lines.result c.check_all_lines.ensures (λ _
+    turned. played_sound fen start items turned.0 is_start (subst (λ (xs : List Item). ArePlayed
+    start xs turned.0) elements turned.1)) (λ fault reports. IfSome_then (fault_of fault) reports (λ
+    f met. inr (start, is_start, subst (λ (xs : List Item). HaveFault start xs f) elements met))))

@@ -1,7 +1,4 @@
-use Rattle.std.proofs.Common.{subst}
-use Rattle.pgn_text.specs.Public.GameTexts.{tag_in}
-use Rattle.pgn_game.specs.Private.LineWalks.{IsFlat}
-use Rattle.pgn_game.specs.Public.Starts.{fen_tag}
+use Rattle.pgn_game.proofs.Common.{subst, tag_in, IsFlat, fen_tag}
 use Rattle.pgn_game.proofs.FlatGames.{flat_sound}
 use Rattle.pgn_game.proofs.replays.replayer.check_variations.Goals as goal
 

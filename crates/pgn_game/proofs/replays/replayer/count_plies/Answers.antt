@@ -1,27 +1,18 @@
-use Rattle.std.proofs.Common.{[], refl, subst, inr}
-use Rattle.std.proofs.lemmas.Option.{IfSome_then}
-use Rattle.std.proofs.lemmas.Result.{MatchResult-weaker}
-use Rattle.pgn_text.specs.Public.GameTexts.{tag_in}
-use Rattle.pgn_game.specs.Public.MainLines.{main_words, IsMainLine}
-use Rattle.pgn_game.specs.Public.Starts.{fen_tag, IsStart}
-use Rattle.pgn_game.specs.Public.Faults.{IsMoveFault}
-use Rattle.pgn_game.specs.Public.Replays.{fault_of}
+use Rattle.pgn_game.proofs.Common.{[], refl, inr, IfSome_then, MatchResult-weaker, tag_in}
+use Rattle.pgn_game.proofs.Common.{main_words, IsMainLine, fen_tag, IsStart, IsMoveFault, fault_of}
 use Rattle.pgn_game.proofs.replays.replayer.count_plies.Goals as goal
 
 pub returns : goal.returns
 returns c =
     let start = c.in_ok-start.start in
-    let is_start =
-    subst (λ tags. IsStart (tag_in fen_tag tags) start) c.tags.ensures.tags
-    c.in_ok-start.ensures in
+    let is_start = rw c.tags.ensures.tags at c.in_ok-start.ensures in
     MatchResult-weaker c.count_main_line.result c.count_main_line.ensures
     (λ plies (positions, played, line, count). (
       record { positions = positions; played = played; turns = [] },
       record {
         start = start;
         is_start = is_start;
-        line = subst (λ items. IsMainLine start (main_words items 0) positions played)
-            c.elements.ensures.elements line;
+        line = rw (← c.elements.ensures.elements) line;
         turns = refl;
       },
       count,
@@ -31,6 +22,5 @@ returns c =
     inr (
       start,
       is_start,
-      subst (λ items. IsMoveFault start 0 (main_words items 0) f) c.elements.ensures.elements
-          met,
+      rw (← c.elements.ensures.elements) met,
     )))

@@ -1,6 +1,4 @@
-use Rattle.std.proofs.Common.{drop, map}
-use Rattle.pgn_text.specs.Public.Elements.{item_of}
-use Rattle.pgn_game.specs.Private.LineWalks.{IsFlat}
+use Rattle.pgn_game.proofs.Common.{drop, map, item_of, IsFlat}
 use Rattle.pgn_game.proofs.replays.replayer.is_flat.Given as goal
 
 abbrev pub invariant-loop-element : goal.invariant-loop-element

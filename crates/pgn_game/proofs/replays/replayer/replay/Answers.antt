@@ -1,22 +1,14 @@
-use Rattle.std.proofs.Common.{sym, subst, inr}
-use Rattle.std.specs.Prelude.{MatchResult, IfSome}
-use Rattle.std.proofs.lemmas.Option.{IfSome_then}
-use Rattle.std.proofs.lemmas.Result.{MatchResult-weaker}
-use Rattle.pgn_text.specs.Public.GameTexts.{tag_in}
-use Rattle.pgn_game.specs.Public.MainLines.{main_words, IsMainLine}
-use Rattle.pgn_game.specs.Public.AllLines.{ArePlayed}
-use Rattle.pgn_game.specs.Public.Starts.{fen_tag, IsStart}
-use Rattle.pgn_game.specs.Public.Faults.{IsMoveFault, HaveFault, IsFault}
-use Rattle.pgn_game.specs.Public.Replays.{IsReplay, fault_of}
+use Rattle.pgn_game.proofs.Common.{sym, subst, inr, MatchResult, IfSome, IfSome_then}
+use Rattle.pgn_game.proofs.Common.{MatchResult-weaker, tag_in, main_words, IsMainLine, ArePlayed}
+use Rattle.pgn_game.proofs.Common.{fen_tag, IsStart, IsMoveFault, HaveFault, IsFault, IsReplay}
+use Rattle.pgn_game.proofs.Common.{fault_of}
 use Rattle.pgn_game.proofs.replays.replayer.replay.Goals as goal
 
 pub returns-in-Main : goal.returns-in-Main
 returns-in-Main c =
     let start = c.in_ok-start.start in
     let fen = tag_in fen_tag c.args.raw.now.tags in
-    let is_start =
-    subst (λ tags. IsStart (tag_in fen_tag tags) start) c.tags.ensures.tags
-    c.in_ok-start.ensures in
+    let is_start = rw c.tags.ensures.tags at c.in_ok-start.ensures in
     subst (λ lines.
     MatchResult c.play_main_line.result (IsReplay lines fen c.args.raw.now.elements) (λ fault.
     IfSome (fault_of fault) (IsFault lines fen c.args.raw.now.elements)))
@@ -25,9 +17,7 @@ returns-in-Main c =
     (λ replayed line. record {
       start = start;
       is_start = is_start;
-      line = subst (λ items.
-          IsMainLine start (main_words items 0) replayed.positions replayed.played)
-          c.elements.ensures.elements line.0;
+      line = rw (← c.elements.ensures.elements) line.0;
       turns = line.1;
     })
     (λ fault reports. IfSome_then (fault_of fault) reports
@@ -35,17 +25,14 @@ returns-in-Main c =
     inr (
       start,
       is_start,
-      subst (λ items. IsMoveFault start 0 (main_words items 0) f) c.elements.ensures.elements
-          met,
+      rw (← c.elements.ensures.elements) met,
     ))))
 
 pub returns-in-All : goal.returns-in-All
 returns-in-All c =
     let start = c.in_ok-start.start in
     let fen = tag_in fen_tag c.args.raw.now.tags in
-    let is_start =
-    subst (λ tags. IsStart (tag_in fen_tag tags) start) c.tags.ensures.tags
-    c.in_ok-start.ensures in
+    let is_start = rw c.tags.ensures.tags at c.in_ok-start.ensures in
     let elements = c.elements-in-All.ensures.elements in
     subst (λ lines.
     MatchResult c.play_all_lines.result (IsReplay lines fen c.args.raw.now.elements) (λ fault.
@@ -55,8 +42,7 @@ returns-in-All c =
     (λ replayed line. record {
       start = start;
       is_start = is_start;
-      line = subst (λ items.
-          IsMainLine start (main_words items 0) replayed.positions replayed.played) elements line.0;
+      line = rw (← elements) line.0;
       turns = subst (λ items. ArePlayed start items replayed.turns) elements line.1;
     })
     (λ fault reports. IfSome_then (fault_of fault) reports

@@ -1,9 +1,8 @@
-use Rattle.std.proofs.Common.{sym, subst}
-use Rattle.pgn_game.specs.Private.Steps.{IsWithin}
+use Rattle.pgn_game.proofs.Common.{sym, subst, IsWithin}
 use Rattle.pgn_game.proofs.StepFacts.{on_ok_so, within_back, within_begun}
-use Rattle.pgn_game.proofs.replays.walk.beside.Goals as goal
 use Rattle.pgn_game.proofs.replays.walk.beside.Goals.{in-Open+in_ok-open-in-Open, in-Close}
 use Rattle.pgn_game.proofs.replays.walk.beside.Goals.{in_default}
+use Rattle.pgn_game.proofs.replays.walk.beside.Goals as goal
 
 pub returns-clause-within : goal.returns-clause-within
 returns-clause-within g c = on_ok_so c.beside.result (λ n all.

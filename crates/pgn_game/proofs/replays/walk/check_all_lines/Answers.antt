@@ -1,10 +1,5 @@
-use Rattle.std.proofs.Common.{[], map, ◌∙◌, subst}
-use Rattle.std.proofs.lemmas.Option.{IfSome_then}
-use Rattle.std.proofs.lemmas.Result.{MatchResult-weaker}
-use Rattle.pgn_text.specs.Public.Elements.{item_of}
-use Rattle.pgn_game.specs.Private.LineWalks.{Stops, first_level}
-use Rattle.pgn_game.specs.Public.Replays.{fault_of}
-use Rattle.pgn_game.specs.Private.Steps.{Walks}
+use Rattle.pgn_game.proofs.Common.{[], map, ◌∙◌, subst, IfSome_then, MatchResult-weaker, item_of}
+use Rattle.pgn_game.proofs.Common.{Stops, first_level, fault_of, Walks}
 use Rattle.pgn_game.proofs.RunFacts.{runs_played, stops_faulty}
 use Rattle.pgn_game.proofs.StepFacts.{turns_of, walks_run}
 use Rattle.pgn_game.proofs.replays.walk.check_all_lines.Goals as goal

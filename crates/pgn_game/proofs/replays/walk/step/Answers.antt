@@ -1,7 +1,5 @@
 use Rattle.std.specs.Prelude.{◌∷◌}
-use Rattle.std.proofs.lemmas.Result.{on_ok_weaker}
-use Rattle.pgn_text.specs.Public.Elements.{item_of}
-use Rattle.pgn_game.specs.Private.Steps.{Beside, around}
+use Rattle.pgn_game.proofs.Common.{on_ok_weaker, item_of, Beside, around}
 use Rattle.pgn_game.proofs.StepFacts.{within_more, within_turned}
 use Rattle.pgn_game.proofs.replays.walk.step.Goals as goal
 

@@ -1,9 +1,7 @@
-use Rattle.std.proofs.Common.{◌+◌, ◌≤◌, ◌∷◌, ◌++◌, [], drop, map, refl, sym, ap, ◌∙◌, subst}
-use Rattle.std.proofs.Common.{append-nil, append_assoc, arith}
-use Rattle.std.proofs.lemmas.Option.{IfSome_then}
-use Rattle.std.proofs.lemmas.Result.{err_from_is_err_and}
-use Rattle.pgn_text.specs.Public.Elements.{item_of}
-use Rattle.pgn_game.specs.Private.Steps.{AreWithin, StopsAt, WalksOn, around, shown_items}
+use Rattle.pgn_game.proofs.Common.{◌+◌, ◌≤◌, ◌∷◌, ◌++◌, [], drop, map, refl, sym, ap, ◌∙◌, subst}
+use Rattle.pgn_game.proofs.Common.{append-nil, append_assoc, arith, IfSome_then}
+use Rattle.pgn_game.proofs.Common.{err_from_is_err_and, item_of, AreWithin, StopsAt, WalksOn}
+use Rattle.pgn_game.proofs.Common.{around, shown_items}
 use Rattle.pgn_game.proofs.StepFacts.{none_shown, visits_one_more, within_more}
 use Rattle.pgn_game.proofs.WalkFacts.{items_step, items_end}
 use Rattle.pgn_game.proofs.replays.walk.walk.Goals as goal
@@ -83,8 +81,7 @@ loop-element-preserved g c =
             (WalksOn c.args.stack.now (shown_items c.args.variations 0 (map item_of elements)))
             (sym (append_assoc done.0 (first.0 ∷ []) more))
             (done.2 (first.0
-            ∷ more) (subst (λ xs. WalksOn l.stack xs (first.0 ∷ more)) (sym next)
-            (first.2 left more on))),
+            ∷ more) (rw next (first.2 left more on))),
       );
       sticks =
           λ fault on. l.invariant.sticks fault

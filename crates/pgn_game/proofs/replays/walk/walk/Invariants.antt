@@ -1,21 +1,17 @@
-use Rattle.std.proofs.Common.{◌≡◌, ◌≤◌, ℕ, List, ◌++◌, drop, map}
-use Rattle.pgn_text.specs.Public.Elements.{item_of}
-use Rattle.pgn_game.specs.Public.Faults.{Fault}
-use Rattle.pgn_game.specs.Private.Steps.{Step, Visits, WalksOn, StopsAt, IsWithin, shown_items}
+use Rattle.pgn_game.proofs.Common.{◌≡◌, ◌≤◌, ℕ, List, ◌++◌, drop, map, item_of, Fault, Step, Visits}
+use Rattle.pgn_game.proofs.Common.{WalksOn, StopsAt, IsWithin, shown_items}
 use Rattle.pgn_game.proofs.replays.walk.walk.Given as goal
 
 abbrev pub invariant-loop-element : goal.invariant-loop-element
 invariant-loop-element g l =
     record {
       done : (steps : List Step) × Visits g.V.StepVisitor.does l.fn.visitor steps l.visitor
-          × ((more : List Step)
-          → WalksOn l.stack
+          × ((more : List Step) → WalksOn l.stack
           (shown_items l.shown.variations l.shown.depth
           (map item_of (drop l.element-index l.elements))) more
           → WalksOn l.fn.stack (shown_items l.variations 0 (map item_of l.elements)) (steps
           ++ more));
-      sticks : (fault : Fault)
-          → StopsAt l.stack
+      sticks : (fault : Fault) → StopsAt l.stack
           (shown_items l.shown.variations l.shown.depth
           (map item_of (drop l.element-index l.elements))) fault
           → StopsAt l.fn.stack (shown_items l.variations 0 (map item_of l.elements)) fault;

@@ -1,8 +1,6 @@
-use Rattle.std.proofs.Common.{◌≡◌, sym, subst}
-use Rattle.std.specs.Prelude.{Some, None, IfSome, MatchResult}
-use Rattle.pgn_game.specs.Public.Starts.{fen_tag, IsStart, IsBadStart}
-use Rattle.pgn_game.specs.Public.Faults.{BadStart}
-use Rattle.pgn_game.specs.Public.Replays.{fault_of}
+use Rattle.std.specs.Prelude.{Some, None}
+use Rattle.pgn_game.proofs.Common.{◌≡◌, IfSome, MatchResult, fen_tag, IsStart}
+use Rattle.pgn_game.proofs.Common.{IsBadStart, BadStart, fault_of}
 use Rattle.pgn_game.proofs.Tags.{tag_found}
 use Rattle.pgn_game.proofs.turns.starting.starting_position.Goals as goal
 
@@ -13,14 +11,9 @@ given_position-requires c =
 
 pub returns-in-Some : goal.returns-in-Some
 returns-in-Some c =
-    subst (λ fen.
-    MatchResult c.given_position.result (IsStart fen) (λ fault.
-    IfSome (fault_of fault) (λ reports. IsBadStart fen × (reports ≡ BadStart))))
-    (sym (tag_found c.args.tags.now fen_tag (Some c.in-Some.contents.now) c.in-Some.ensures.value))
+    rw (tag_found c.args.tags.now fen_tag (Some c.in-Some.contents.now) c.in-Some.ensures.value)
     c.given_position.ensures
 
 pub returns-in-None : goal.returns-in-None
 returns-in-None c =
-    subst (λ fen. IsStart fen c.start.result)
-    (sym (tag_found c.args.tags.now fen_tag None c.in-None.ensures.value))
-    c.start.ensures.position
+    rw (tag_found c.args.tags.now fen_tag None c.in-None.ensures.value) c.start.ensures.position

@@ -1,7 +1,5 @@
-use Rattle.std.proofs.Common.{◌≡◌, take, ap, ◌∙◌}
 use Rattle.std.proofs.lemmas.List.{take_rest}
-use Rattle.pgn_game.specs.Public.PackedGames.{record_bytes}
-use Rattle.pgn_game.specs.Public.PackStreams.{Window}
+use Rattle.pgn_game.proofs.Common.{◌≡◌, take, ap, ◌∙◌, record_bytes, Window}
 use Rattle.pgn_game.proofs.PackStreamFacts.{body_held}
 use Rattle.pgn_game.proofs.pack.records.Records.record.Goals as goal
 

@@ -1,6 +1,4 @@
-use Rattle.std.proofs.Common.{arith, ap, ◌∙◌}
-use Rattle.std.proofs.lemmas.Result.{err_from_is_err_and}
-use Rattle.pgn_game.specs.Public.PackStreams.{Window}
+use Rattle.pgn_game.proofs.Common.{arith, ap, ◌∙◌, err_from_is_err_and, Window}
 use Rattle.pgn_game.proofs.PackStreamFacts.{whole_held, bad_step, failed_step, held_step, long_step}
 use Rattle.pgn_game.proofs.pack.records.Records.step.Goals as goal
 

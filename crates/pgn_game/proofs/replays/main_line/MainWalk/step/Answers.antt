@@ -1,9 +1,5 @@
-use Rattle.std.proofs.Common.{refl, sym, ap, subst, inl}
-use Rattle.std.proofs.lemmas.Option.{IfSome_then}
-use Rattle.std.proofs.lemmas.Result.{err_from_is_err_and}
-use Rattle.pgn_text.specs.Public.Elements.{item_of}
-use Rattle.pgn_game.specs.Public.Faults.{IsMoveFault}
-use Rattle.pgn_game.specs.Private.Walks.{IsStuck}
+use Rattle.pgn_game.proofs.Common.{refl, sym, ap, subst, inl, IfSome_then, err_from_is_err_and}
+use Rattle.pgn_game.proofs.Common.{item_of, IsMoveFault, IsStuck}
 use Rattle.pgn_game.proofs.WalkFacts.{main_word}
 use Rattle.pgn_game.proofs.replays.main_line.MainWalk.step.Goals as goal
 

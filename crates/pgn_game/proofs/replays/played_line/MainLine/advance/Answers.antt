@@ -8,8 +8,7 @@ returns-then-is_some c =
     let at = c.loop-self.invariant in
     plays_word c.loop-self.self-inside.walk c.step.new.self c.args.self.now
     c.loop-self.self-inside.rest.now _ c.in-len1-up.len_at_least at.words at.position at.plies
-    c.in_ok-step.field-0 c.in_ok-step.ensures.stepped (sym c.is_some.ensures
-    ∙ c.if-is_some.true)
+    c.in_ok-step.field-0 c.in_ok-step.ensures.stepped (sym c.is_some.ensures ∙ c.if-is_some.true)
 
 pub loop-self-preserved : goal.loop-self-preserved
 loop-self-preserved c =

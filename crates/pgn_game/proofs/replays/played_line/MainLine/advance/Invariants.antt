@@ -1,6 +1,4 @@
-use Rattle.std.proofs.Common.{◌≡◌, ◌+◌, ◌<◌, ◌^◌, length, map}
-use Rattle.pgn_text.specs.Public.Elements.{item_of}
-use Rattle.pgn_game.specs.Public.MainLines.{main_words}
+use Rattle.pgn_game.proofs.Common.{◌≡◌, ◌+◌, ◌<◌, ◌^◌, length, map, item_of, main_words}
 use Rattle.pgn_game.proofs.replays.played_line.MainLine.advance.Given as goal
 
 abbrev pub invariant-loop-self : goal.invariant-loop-self
