@@ -1,14 +1,8 @@
 -- What is laid out for men whose files are turned.
 use Rattle.std.proofs.Common.{◌≡◌, ◌↔◌, true, List, [], ◌∷◌, ◌++◌, sym, ap, ◌∙◌, subst, inl, inr}
-use Rattle.chess.specs.Shared.CellFacts.{on_board_or_not}
-use Rattle.chess.specs.Public.Placements.{Placement, man_at}
-use Rattle.chess.specs.Public.Sets.{is_in, HoldsExactly}
-use Rattle.chess.specs.Public.Squares.{IsOnBoard}
-use Rattle.pgn_criteria.specs.Private.Items.{IsOf}
-use Rattle.pgn_criteria.specs.Private.Layouts.{AllStand, Laid}
-use Rattle.pgn_criteria.specs.Public.Mirrors.{beside, flipped_men}
-use Rattle.pgn_criteria.specs.declared.layout.Asked.{Asked}
-use Rattle.pgn_criteria.specs.declared.layout.Layout.{Layout}
+use Rattle.pgn_criteria.proofs.Common.{on_board_or_not, Placement, man_at, is_in, IsOnBoard, IsOf}
+use Rattle.pgn_criteria.proofs.Common.{AllStand, Laid, beside, flipped_men, Asked, Layout}
+use Rattle.chess.specs.Public.Sets.{HoldsExactly}
 use Rattle.pgn_criteria.proofs.LayoutFacts.{stand_more}
 use Rattle.pgn_criteria.proofs.MirrorFacts.{beside_on, beside_twice, flipped_at, flipped_on}
 use Rattle.pgn_criteria.proofs.MirrorFacts.{none_there}
@@ -30,8 +24,7 @@ turned_more own all one asked turned is at on men =
           let both = left.0 stand in
           right.1 (
             (turned men).0 both.0,
-            subst (λ c. IsOf c (man_at (flipped_men men) asked.square)) is
-                (subst (IsOf one.class) here both.1),
+            rw (← is) (subst (IsOf one.class) here both.1),
           ),
       λ stand.
           let both = right.0 stand in
@@ -53,10 +46,8 @@ laid_turned own layout asked barred empty men = (
     (barred men).0 laid.1,
     λ s is. elim (on_board_or_not s) [
       | inl on ↦ flipped_at men s on
-          ∙ laid.2 (beside s) ((empty (beside s)).1 (
-            beside_on s on,
-            ap (is_in layout.empty) (beside_twice s on) ∙ is,
-          ))
+          ∙ laid.2 (beside s) ((empty (beside s)).1
+          (beside_on s on, ap (is_in layout.empty) (beside_twice s on) ∙ is))
       | inr off ↦ none_there (man_at (flipped_men men) s) (λ man here.
           off (flipped_on men s man here))
     ],

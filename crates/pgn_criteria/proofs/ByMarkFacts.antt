@@ -3,28 +3,16 @@ use Rattle.std.proofs.Common.{◌≡◌, ◌↔◌, ◌⊎◌, ◌<◌, ◌≤�
 use Rattle.std.proofs.Common.{List, [], ◌∷◌, length, drop, get_or, min, max, bit_or, Option, Some}
 use Rattle.std.proofs.Common.{None, IsTrue, refl, sym, ap, ◌∙◌, subst, arith}
 use Rattle.std.specs.Prelude.{◌==◌, ◌/◌, ◌%◌, nat_le, IfSome}
-use Rattle.std.specs.Int.{bit_at}
 use Rattle.std.specs.Int.RustNames.{bit_and}
-use Rattle.std.proofs.lemmas.Bool.{false≢true}
-use Rattle.std.proofs.lemmas.Bool.Decides.{nat_tests}
-use Rattle.std.proofs.lemmas.Nat.Bits.{bit_at_and, bit_at_or, bit_at-lt, bit_at-zero}
-use Rattle.std.specs.List.{AllByRecursion}
-use Rattle.chess.specs.Public.Placements.{Placement, opposite}
-use Rattle.chess.specs.Public.Positions.{State}
-use Rattle.chess.specs.declared.board.man.Side.{Side}
-use Rattle.chess.specs.declared.board.man.Side.TheVariants.{White, Black}
-use Rattle.chess.proofs.PlaceFacts.{opposite-opposite}
-use Rattle.pgn_game.specs.Public.PlyCodes.{PlyCode, AreMarks, bit, marks_number}
-use Rattle.pgn_game.specs.Public.Replays.{Replay}
-use Rattle.pgn_criteria.specs.Public.ByMarks.{place_of_marks, has_marks, NoneMeets, IsNextMet}
-use Rattle.pgn_criteria.specs.Private.Marks.{AreMarksOf, LacksMarks, Needs}
-use Rattle.pgn_criteria.specs.Public.Conditions.{Conditions}
-use Rattle.pgn_criteria.specs.Public.Meeting.{Heading, SomeHold}
-use Rattle.pgn_criteria.specs.Public.Prefilters.{codes_in}
-use Rattle.pgn_criteria.specs.Private.Stages.{OfSeen, AllSaid, AllOfSeen, AllOfHeading, AreFixed}
-use Rattle.pgn_criteria.specs.Private.Stages.{AreFreeOfMoves}
-use Rattle.pgn_criteria.specs.Public.Walks.{IsSeenOf}
-use Rattle.pgn_criteria.specs.declared.condition.PositionCondition.{PositionCondition}
+use Rattle.std.proofs.lemmas.Nat.Bits.{bit_at_and}
+use Rattle.pgn_criteria.proofs.Common.{bit_at, false≢true, nat_tests, bit_at_or, bit_at-lt}
+use Rattle.pgn_criteria.proofs.Common.{bit_at-zero, AllByRecursion, Placement, opposite, State}
+use Rattle.pgn_criteria.proofs.Common.{Side, White, Black, opposite-opposite, PlyCode, AreMarks}
+use Rattle.pgn_criteria.proofs.Common.{Replay, place_of_marks, has_marks, NoneMeets, IsNextMet}
+use Rattle.pgn_criteria.proofs.Common.{AreMarksOf, LacksMarks, Needs, Conditions, Heading, SomeHold}
+use Rattle.pgn_criteria.proofs.Common.{codes_in, OfSeen, AllSaid, AllOfSeen, AllOfHeading, AreFixed}
+use Rattle.pgn_criteria.proofs.Common.{AreFreeOfMoves, IsSeenOf, PositionCondition}
+use Rattle.pgn_game.specs.Public.PlyCodes.{bit, marks_number}
 use Rattle.pgn_criteria.proofs.EitherFacts.{met_plain, met_fixed}
 use Rattle.pgn_criteria.proofs.MarkFacts.{eight_on}
 use Rattle.pgn_criteria.proofs.StageFacts.{all_of_heading, not_of_heading, all_free_within}
@@ -65,18 +53,14 @@ pub has_both : (a b : ℕ) (turn : Side) (check stuck : Bool)
     ↔ (IsTrue (has_marks a turn check stuck) × IsTrue (has_marks b turn check stuck))
 has_both a b turn check stuck =
     let i = place_of_marks turn check stuck in
-    subst (λ n. IsTrue (n == 1) ↔ (IsTrue (bit_at a i == 1) × IsTrue (bit_at b i == 1)))
-    (sym (bit_at_and a b i))
-    (one_of_least (bit_at a i) (bit_at b i) (bit_at-lt a i) (bit_at-lt b i))
+    rw (bit_at_and a b i) (one_of_least (bit_at a i) (bit_at b i) (bit_at-lt a i) (bit_at-lt b i))
 
 pub has_one : (a b : ℕ) (turn : Side) (check stuck : Bool)
     → IsTrue (has_marks (bit_or a b) turn check stuck)
     ↔ (IsTrue (has_marks a turn check stuck) ⊎ IsTrue (has_marks b turn check stuck))
 has_one a b turn check stuck =
     let i = place_of_marks turn check stuck in
-    subst (λ n. IsTrue (n == 1) ↔ (IsTrue (bit_at a i == 1) ⊎ IsTrue (bit_at b i == 1)))
-    (sym (bit_at_or a b i))
-    (one_of_most (bit_at a i) (bit_at b i) (bit_at-lt a i) (bit_at-lt b i))
+    rw (bit_at_or a b i) (one_of_most (bit_at a i) (bit_at b i) (bit_at-lt a i) (bit_at-lt b i))
 
 pub has_all : (turn : Side) (check stuck : Bool) → IsTrue (has_marks 255 turn check stuck)
 has_all White false false = refl
@@ -173,8 +157,7 @@ module _ (heading : Heading) (replay : Replay) (ply : ℕ) (P : State) (check st
         let met =
         reports_seen heading replay ply P conditions (has_marks own P.turn check stuck) P.men
         P.turn (IsTrue check) (IsTrue stuck) seen here in
-        let kept =
-        kept_one heading replay ply P [] more conditions 0
+        let kept = kept_one heading replay ply P [] more conditions 0
         (all_of_heading heading replay conditions free of_heading)
         (all_free_within conditions free) in (
           λ has. elim has [
@@ -197,8 +180,7 @@ module _ (heading : Heading) (replay : Replay) (ply : ℕ) (P : State) (check st
     pub held_without : (r : Bool) → r ≡ false → (IsTrue r ↔ AllOfHeading heading conditions.games)
         → (Has set ⊎ Hold more) ↔ Hold whole
     held_without r fails reports =
-        let dropped =
-        dropped_one heading replay ply P [] more conditions r fails
+        let dropped = dropped_one heading replay ply P [] more conditions r fails
         (not_of_heading heading replay conditions r fails reports) in (
           λ has. elim has [
             | inl old ↦ so_far.0 (inl old)
@@ -259,8 +241,7 @@ module _ (check stuck : Bool) (set : ℕ) (needs : Needs check stuck set) (turn 
       inr (
         lacks_none check stuck set (opposite (before (suc j) turn)) code.check code.stuck needs
             lacks,
-        subst (λ own. IsNextMet set own codes side left) (sym (opposite-opposite (before j turn)))
-            next,
+        rw (opposite-opposite (before j turn)) next,
       )
 
 module _ (check stuck : Bool) (bytes rest : List ℕ) (long : 24 ≤ length bytes) (same : rest
@@ -286,15 +267,11 @@ module _ (check stuck : Bool) (bytes rest : List ℕ) (long : 24 ≤ length byte
         × ((side : Side) (left : List PlyCode) → IsNextMet set turn (codes_in rest) side left
         → IsNextMet set turn (codes_in bytes) side left)
     eight_met set needs turn = (
-      λ none. subst (λ own. NoneMeets set own (codes_in bytes)) (eight_before turn)
-          (eight_on check stuck bytes (λ j codes.
-          NoneMeets set (before j turn) codes) (lacks_on check stuck set needs turn) rest long
-          same lacks none),
-      λ side left next. subst (λ own.
-          IsNextMet set own (codes_in bytes) side left) (eight_before turn)
-          (eight_on check stuck bytes (λ j codes.
-          IsNextMet set (before j turn) codes side left)
-          (lacks_next check stuck set needs turn side left) rest long same lacks next),
+      λ none. rw (← (eight_before turn)) (eight_on check stuck bytes (λ j codes. NoneMeets set
+          (before j turn) codes) (lacks_on check stuck set needs turn) rest long same lacks none),
+      λ side left next. rw (← (eight_before turn)) (eight_on check stuck bytes (λ j codes. IsNextMet
+          set (before j turn) codes side left) (lacks_next check stuck set needs turn side left)
+          rest long same lacks next),
     )
 
 -- the empty set has none
@@ -339,25 +316,23 @@ module _ (set : ℕ) (turn : Side) (rest after : List ℕ) (long : 3 ≤ length 
   none_on fails later =
       subst (NoneMeets set turn) (sym (three rest long)) (
         subst (λ side. told side ≡ false) is fails,
-        subst (λ side. NoneMeets set side (codes_in (drop 3 rest))) is
-            (subst (λ (left : List ℕ). NoneMeets set other (codes_in left)) same later),
+        rw (← is) (subst (λ (left : List ℕ). NoneMeets set other (codes_in left)) same later),
       )
 
   pub next_on : told other ≡ false → (side : Side) (left : List PlyCode)
       → IsNextMet set other (codes_in after) side left
       → IsNextMet set turn (codes_in rest) side left
   next_on fails side left later =
-      subst (λ codes. IsNextMet set turn codes side left) (sym (three rest long))
-      (inr (
+      rw (three rest long) (inr (
         subst (λ side. told side ≡ false) is fails,
-        subst (λ own. IsNextMet set own (codes_in (drop 3 rest)) side left) is
-            (subst (λ (bytes : List ℕ). IsNextMet set other (codes_in bytes) side left) same later),
+        subst (λ own.
+            IsNextMet set own (codes_in (drop 3 rest)) side left) is (subst (λ (bytes : List ℕ). IsNextMet
+            set other (codes_in bytes) side left) same later),
       ))
 
   pub next_here : told other ≡ true → IsNextMet set turn (codes_in rest) other (codes_in after)
   next_here has =
-      subst (λ codes. IsNextMet set turn codes other (codes_in after)) (sym (three rest long))
-      (inl (subst (λ side. told side ≡ true) is has, is, ap codes_in same))
+      rw (three rest long) (inl (subst (λ side. told side ≡ true) is has, is, ap codes_in same))
 
 pub none_end : (set : ℕ) (turn : Side) (rest : List ℕ) → length rest < 3
     → NoneMeets set turn (codes_in rest)

@@ -1,29 +1,16 @@
 -- The text of a claim ends with a solid byte, and its first word is that of its kind: neither `not`
 -- nor `either`, and with a solid byte at its
 -- head. So it is never that of a denied claim.
-use Rattle.std.proofs.Common.{◌≡◌, ◌≢◌, ℕ, Bool, true, false, List, [], ◌∷◌, ◌++◌, not, refl, sym}
-use Rattle.std.proofs.Common.{ap, ◌∙◌, subst}
 use Rattle.std.specs.Prelude.{codes, ◌+◌, ◌&&◌, ◌||◌, ◌==◌, if◌then◌else◌}
-use Rattle.std.proofs.lemmas.Bool.{and_parts}
-use Rattle.pgn_criteria.specs.Public.Words.{is_blank}
-use Rattle.pgn_criteria.specs.Public.Mirrors.{can_be_mirrored}
-use Rattle.pgn_criteria.specs.Private.Stages.{position_seen}
-use Rattle.pgn_criteria.specs.Private.Reading.{run_of, after_word, ReadsWord}
-use Rattle.pgn_criteria.specs.Public.Lines.{SpellsNamed, SpellsTag, SpellsGame, SpellsPosition}
-use Rattle.pgn_criteria.specs.Public.Lines.{SpellsMove, SpellsSpan, SpellsTaken, side_text}
-use Rattle.pgn_criteria.specs.Public.Lines.{relation_text, comparison_text}
-use Rattle.pgn_criteria.specs.declared.condition.ValueClaim.{ValueClaim}
-use Rattle.pgn_criteria.specs.declared.condition.ValueClaim.TheVariants.{Text, Number, Date}
-use Rattle.pgn_criteria.specs.declared.condition.GameClaim.{GameClaim}
-use Rattle.pgn_criteria.specs.declared.condition.GameClaim.TheVariants.{Tag, Moves, Plies, Result}
-use Rattle.pgn_criteria.specs.declared.condition.PositionClaim.{PositionClaim}
-use Rattle.pgn_criteria.specs.declared.condition.PositionClaim.TheVariants.{Fen, Flip, Material}
-use Rattle.pgn_criteria.specs.declared.condition.PositionClaim.TheVariants.{Turn, Check, Mate}
-use Rattle.pgn_criteria.specs.declared.condition.PositionClaim.TheVariants.{Stalemate}
-use Rattle.pgn_criteria.specs.declared.condition.MoveClaim.{MoveClaim}
-use Rattle.pgn_criteria.specs.declared.condition.MoveClaim.TheVariants.{Next, Played}
-use Rattle.pgn_criteria.specs.declared.condition.SpanClaim.{SpanClaim}
-use Rattle.pgn_criteria.specs.declared.condition.SpanClaim.TheVariants.{For, Count}
+use Rattle.pgn_criteria.proofs.Common.{◌≡◌, ◌≢◌, ℕ, Bool, true, false, List, [], ◌∷◌, ◌++◌, not}
+use Rattle.pgn_criteria.proofs.Common.{refl, sym, ap, ◌∙◌, subst, and_parts, is_blank}
+use Rattle.pgn_criteria.proofs.Common.{can_be_mirrored, position_seen, run_of, after_word}
+use Rattle.pgn_criteria.proofs.Common.{ReadsWord, SpellsNamed, SpellsTag, SpellsGame}
+use Rattle.pgn_criteria.proofs.Common.{SpellsPosition, SpellsMove, SpellsSpan, SpellsTaken}
+use Rattle.pgn_criteria.proofs.Common.{side_text, relation_text, comparison_text, ValueClaim, Text}
+use Rattle.pgn_criteria.proofs.Common.{Number, Date, GameClaim, Tag, Moves, Plies, Result}
+use Rattle.pgn_criteria.proofs.Common.{PositionClaim, Fen, Flip, Material, Turn, Check, Mate}
+use Rattle.pgn_criteria.proofs.Common.{Stalemate, MoveClaim, Next, Played, SpanClaim, For, Count}
 use Rattle.pgn_criteria.proofs.SolidFacts.{is_solid, BeginsSolid, EndsSolid, solid_ends, ends_after}
 use Rattle.pgn_criteria.proofs.SolidFacts.{begins_some, word_read, word_spelled}
 use Rattle.pgn_criteria.proofs.TurnFacts.{side_ends, turn_read}
@@ -202,21 +189,9 @@ position_ends text (Flip pattern) (own, (first, is, g), (gap, own_is, h), good) 
     ++ pattern)
     (ends_after gap pattern
     (solid_ends pattern (pattern_some pattern good) (pattern_solid pattern good)))))))
-position_ends text (Material white black) (
-  first,
-  second,
-  third,
-  of_white,
-  of_black,
-  is,
-  g,
-  h,
-  k,
-  spells_white,
-  spells_black,
-) =
-    let last =
-    ends_after third of_black
+position_ends text (Material white black)
+    (first, second, third, of_white, of_black, is, g, h, k, spells_white, spells_black) =
+    let last = ends_after third of_black
     (solid_ends of_black (limits_some of_black black spells_black)
     (limits_solid of_black black spells_black)) in
     ends_as text _ is (ends_after (codes "material") (first
@@ -312,8 +287,7 @@ module _ {C : Type 0} (Spells : List ℕ → C → Type 0) (are : AreClaims Spel
       let some = begins_some own (claim_begins own claim spells) in
       (own, word_spelled text (codes "not") own run (sym is) some, spells)
 
-  pub taken_own : (text : List ℕ) (denied : Bool) (claim : C)
-      → SpellsTaken Spells text denied claim
+  pub taken_own : (text : List ℕ) (denied : Bool) (claim : C) → SpellsTaken Spells text denied claim
       → (own : List ℕ) × ReadsWord (codes "not") text denied own × Spells own claim
   taken_own text false claim spells = (text, (claim_not text claim spells, refl), spells)
   taken_own text true claim spells =

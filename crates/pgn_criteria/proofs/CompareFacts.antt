@@ -1,16 +1,11 @@
 -- Values that stand in a relation.
-use Rattle.std.proofs.Common.{◌≡◌, ◌↔◌, sym, ap, ◌∙◌, subst, List, ℕ, Bool, IsTrue, Some, None}
-use Rattle.pgn_text.specs.Public.Strings.{IsContents}
-use Rattle.pgn_text.specs.Shared.StringTexts.{value_of}
-use Rattle.pgn_text.proofs.Values.{has_value, one_value}
-use Rattle.pgn_criteria.specs.Public.Comparing.{Allows, Stands, Compares, IsNumber, number_in}
-use Rattle.pgn_criteria.specs.declared.compare.Comparison.{Comparison}
-use Rattle.pgn_criteria.specs.declared.compare.Relation.{Relation}
+use Rattle.pgn_criteria.proofs.Common.{◌≡◌, ◌↔◌, sym, ap, ◌∙◌, subst, List, ℕ, Bool, IsTrue, Some}
+use Rattle.pgn_criteria.proofs.Common.{None, IsContents, value_of, has_value, one_value, Allows}
+use Rattle.pgn_criteria.proofs.Common.{Stands, Compares, IsNumber, number_in, Comparison, Relation}
 
 -- contents have one value, so their values decide
 pub stands_so : (relation : Relation) (given text : List ℕ) (r : Bool) → IsContents given
-    → IsContents text
-    → (IsTrue r ↔ Allows relation (value_of given) (value_of text))
+    → IsContents text → (IsTrue r ↔ Allows relation (value_of given) (value_of text))
     → IsTrue r ↔ Stands relation given text
 stands_so relation given text r of_given of_text reports =
     let first = has_value given of_given in
@@ -25,10 +20,9 @@ stands_so relation given text r of_given of_text reports =
         allowed = reports.0 t;
       },
       λ stands. reports.1
-          (subst (λ v. Allows relation v (value_of text))
-          (one_value given stands.value stands.signs stands.has)
-          (subst (Allows relation stands.value)
-          (one_value text stands.other stands.other_signs stands.other_has) stands.allowed)),
+          (rw (← (one_value given stands.value stands.signs stands.has)) (subst (Allows relation
+          stands.value) (one_value text stands.other stands.other_signs stands.other_has)
+          stands.allowed)),
     )
 
 some_same : {a b : ℕ} → Some a ≡ Some b → a ≡ b
@@ -48,10 +42,8 @@ number_so comparison given number own r good is reports =
         is = is;
         holds = reports.0 t;
       },
-      λ stands. reports.1 (subst (λ n. Compares comparison n number)
-          (some_same (sym stands.is
-          ∙ ap number_in (one_value given stands.value stands.signs stands.has) ∙ is))
-          stands.holds),
+      λ stands. reports.1 (rw (← (some_same (sym stands.is ∙ ap number_in (one_value given
+          stands.value stands.signs stands.has) ∙ is))) stands.holds),
     )
 
 pub number_missing : (comparison : Comparison) (given : List ℕ) (number : ℕ) → IsContents given

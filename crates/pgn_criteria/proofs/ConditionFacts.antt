@@ -1,16 +1,10 @@
 -- The text of a condition begins and ends with a solid byte, and is that of one condition.
-use Rattle.std.proofs.Common.{◌≡◌, ℕ, Bool, true, false, List, ◌++◌, IsTrue, refl, sym, ap, ◌∙◌}
-use Rattle.std.proofs.Common.{subst, inl, inr}
-use Rattle.std.specs.Prelude.{codes}
-use Rattle.pgn_criteria.specs.Public.Mirrors.{can_be_mirrored}
-use Rattle.pgn_criteria.specs.Private.Reading.{core_of, run_of, after_word, ReadsWord}
+use Rattle.pgn_criteria.proofs.Common.{◌≡◌, ℕ, Bool, true, false, List, ◌++◌, IsTrue, refl, sym, ap}
+use Rattle.pgn_criteria.proofs.Common.{◌∙◌, subst, inl, inr, codes, can_be_mirrored, core_of}
+use Rattle.pgn_criteria.proofs.Common.{run_of, after_word, ReadsWord, Condition, Game, Position}
+use Rattle.pgn_criteria.proofs.Common.{Move, Span, PositionClaim, Meaning, Nothing, Or, Asks}
 use Rattle.pgn_criteria.specs.Public.Lines.{SpellsGame, SpellsMove, SpellsSpan, SpellsTaken, IsLine}
 use Rattle.pgn_criteria.specs.Public.Lines.{SpellsPosition, SpellsTurned, SpellsCondition, Spells}
-use Rattle.pgn_criteria.specs.declared.condition.Condition.{Condition}
-use Rattle.pgn_criteria.specs.declared.condition.Condition.TheVariants.{Game, Position, Move, Span}
-use Rattle.pgn_criteria.specs.declared.condition.PositionClaim.{PositionClaim}
-use Rattle.pgn_criteria.specs.declared.line.Meaning.{Meaning}
-use Rattle.pgn_criteria.specs.declared.line.Meaning.TheVariants.{Nothing, Or, Asks}
 use Rattle.pgn_criteria.proofs.SolidFacts.{BeginsSolid, EndsSolid, ends_after, begins_some}
 use Rattle.pgn_criteria.proofs.SolidFacts.{word_read, word_spelled}
 use Rattle.pgn_criteria.proofs.ClaimFacts.{games_are, moves_are, spans_are, taken_ends, ends_as}
@@ -58,8 +52,7 @@ pub either_read : (text : List ℕ) (denied : Bool) (claim : PositionClaim (List
     → (run_of text ≡ codes "either") × IsTrue (can_be_mirrored claim)
     × SpellsTaken SpellsPosition (after_word text) denied claim
 either_read text denied claim (own, (gap, is, g), of, spells) =
-    let parts =
-    word_read text (codes "either") gap own is refl g
+    let parts = word_read text (codes "either") gap own is refl g
     (taken_begins SpellsPosition positions_are own denied claim spells) in
     (parts.0, of, subst (λ x. SpellsTaken SpellsPosition x denied claim) (sym parts.1) spells)
 
@@ -108,9 +101,8 @@ line_read line means is = by_meaning means is.spells
     by_meaning Or or = core (111, _, or, refl) (ends_as is.text _ or (codes "o", 114, refl, refl))
         ∙ or
     by_meaning (Asks condition) spells =
-        subst (λ x. SpellsCondition x condition)
-        (sym (core (condition_begins is.text condition spells)
-        (condition_ends is.text condition spells))) spells
+        rw (core (condition_begins is.text condition spells) (condition_ends is.text condition
+        spells)) spells
 
 -- and the other way round
 pub line_spelled : (line : List ℕ) (means : Meaning (List ℕ)) → Spells (core_of line) means

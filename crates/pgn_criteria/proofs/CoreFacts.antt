@@ -1,15 +1,11 @@
 -- A line without the carriage return at its end and the blanks about it.
-use Rattle.std.proofs.Common.{◌≡◌, ℕ, true, false, List, [], ◌∷◌, ◌++◌, reverse, refl, sym, ap, ◌∙◌}
-use Rattle.std.proofs.Common.{inl, inr, append_assoc, arith}
-use Rattle.std.specs.Prelude.{if◌then◌else◌, ◌==◌, ◌⊎◌}
-use Rattle.std.specs.List.{list_all}
-use Rattle.std.proofs.lemmas.Bool.{and_parts, eqb-true, and_from}
-use Rattle.std.proofs.lemmas.Bool.Decides.{nat_tests}
+use Rattle.std.specs.Prelude.{◌⊎◌}
 use Rattle.std.proofs.lemmas.List.{reverse-append, reverse-reverse}
-use Rattle.std.proofs.lemmas.List.Folds.{list_all-append}
-use Rattle.pgn_criteria.specs.Public.Words.{is_blank}
-use Rattle.pgn_criteria.specs.Private.Reading.{after_blanks, drop_return, core_of}
-use Rattle.pgn_criteria.specs.Public.Lines.{AreBlanks}
+use Rattle.pgn_criteria.proofs.Common.{◌≡◌, ℕ, true, false, List, [], ◌∷◌, ◌++◌, reverse, refl, sym}
+use Rattle.pgn_criteria.proofs.Common.{ap, ◌∙◌, inl, inr, append_assoc, arith, if◌then◌else◌, ◌==◌}
+use Rattle.pgn_criteria.proofs.Common.{list_all, and_parts, eqb-true, and_from, nat_tests}
+use Rattle.pgn_criteria.proofs.Common.{list_all-append, is_blank, after_blanks, core_of, AreBlanks}
+use Rattle.pgn_criteria.specs.Private.Reading.{drop_return}
 use Rattle.pgn_criteria.proofs.SolidFacts.{is_solid, solid_blank, solid_return, over_blanks}
 use Rattle.pgn_criteria.proofs.SolidFacts.{blank_front, BeginsSolid, EndsSolid, begins_kept}
 
@@ -23,8 +19,7 @@ blanks_reversed (b ∷ x) are =
     ∙ and_from _ _ (blanks_reversed x parts.1) (and_from (is_blank b) true parts.0 refl)
 
 -- what a line of blanks, a text, blanks and its end is, read from its end
-line_reversed : (before text after last : List ℕ)
-    → reverse (before ++ (text ++ (after ++ last)))
+line_reversed : (before text after last : List ℕ) → reverse (before ++ (text ++ (after ++ last)))
     ≡ reverse last ++ (reverse after ++ (reverse text ++ reverse before))
 line_reversed before text after last =
     reverse-append before (text ++ (after ++ last))
@@ -45,8 +40,7 @@ kept (a ∷ gap) rest b are solid =
     ap (λ t. if t then gap ++ (b ∷ rest) else a ∷ (gap ++ (b ∷ rest))) (blank_return a parts.0)
 
 return_dropped : (last gap rest : List ℕ) (b : ℕ) → (last ≡ []) ⊎ (last ≡ 13 ∷ []) → AreBlanks gap
-    → is_solid b ≡ true
-    → drop_return (reverse last ++ (gap ++ (b ∷ rest))) ≡ gap ++ (b ∷ rest)
+    → is_solid b ≡ true → drop_return (reverse last ++ (gap ++ (b ∷ rest))) ≡ gap ++ (b ∷ rest)
 return_dropped last gap rest b (inl none) are solid =
     ap (λ x. drop_return (reverse x ++ (gap ++ (b ∷ rest)))) none ∙ kept gap rest b are solid
 return_dropped last gap rest b (inr is) are solid =
@@ -56,20 +50,15 @@ return_dropped last gap rest b (inr is) are solid =
 pub solid_core : (line before text after last : List ℕ) → line ≡ before ++ (text ++ (after ++ last))
     → AreBlanks before → AreBlanks after
     → (last ≡ []) ⊎ (last ≡ 13 ∷ []) → BeginsSolid text → EndsSolid text → core_of line ≡ text
-solid_core line before text after last whole blank_before blank_after end begins (
-  front,
-  b,
-  ends,
-  solid,
-) =
+solid_core line before text after last whole blank_before blank_after end begins
+    (front, b, ends, solid) =
     let tail : List ℕ = reverse front ++ reverse before in
     let text_reversed : reverse text ≡ b ∷ reverse front =
     ap reverse ends ∙ reverse-append front (b ∷ []) in
     let line_is : reverse line ≡ reverse last ++ (reverse after ++ (b ∷ tail)) =
     ap reverse whole ∙ line_reversed before text after last
     ∙ ap (λ x. reverse last ++ (reverse after ++ (x ++ reverse before))) text_reversed in
-    let cut : drop_return (reverse line) ≡ reverse after ++ (b ∷ tail) =
-    ap drop_return line_is
+    let cut : drop_return (reverse line) ≡ reverse after ++ (b ∷ tail) = ap drop_return line_is
     ∙ return_dropped last (reverse after) tail b end (blanks_reversed after blank_after) solid
     in
     let ended : after_blanks (drop_return (reverse line)) ≡ b ∷ tail =

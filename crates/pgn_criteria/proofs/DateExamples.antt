@@ -1,15 +1,8 @@
 -- What the definitions say of dates that every reader can check.
 use Rattle.std.proofs.Common.{◌≡◌, ◌≤◌, ◌+◌, ◌*◌, ℕ, refl, inl, inr, arith, codes}
-use Rattle.chess.specs.Public.Fen.{parted_at}
-use Rattle.pgn_criteria.specs.Public.Lines.{SpellsGame, SpellsDays}
-use Rattle.pgn_criteria.specs.Public.Dates.{MayBe, StandsTo, IsDate}
-use Rattle.pgn_criteria.specs.declared.compare.Comparison.{Comparison}
-use Rattle.pgn_criteria.specs.declared.compare.Comparison.TheVariants.{Equal, Unequal, Less}
-use Rattle.pgn_criteria.specs.declared.compare.Comparison.TheVariants.{LessOrEqual, Greater}
-use Rattle.pgn_criteria.specs.declared.condition.GameClaim.TheVariants.{Tag}
-use Rattle.pgn_criteria.specs.declared.condition.ValueClaim.TheVariants.{Date}
-use Rattle.pgn_criteria.specs.declared.dates.Day.{Day}
-use Rattle.pgn_criteria.specs.declared.dates.Days.{Days}
+use Rattle.pgn_criteria.proofs.Common.{parted_at, SpellsGame, SpellsDays, MayBe, StandsTo, IsDate}
+use Rattle.pgn_criteria.proofs.Common.{Comparison, Equal, Unequal, Less, LessOrEqual, Greater, Tag}
+use Rattle.pgn_criteria.proofs.Common.{Date, Day, Days}
 use Rattle.pgn_criteria.proofs.DateFacts.{date_unknown}
 
 abbrev day_of : ℕ → ℕ → ℕ → Day

@@ -1,32 +1,22 @@
 -- What the digits of a date may write, and the first and the last day that it may be.
-use Rattle.std.proofs.Common.{◌≡◌, ◌≢◌, ◌↔◌, ◌≤◌, ◌<◌, ◌+◌, ◌*◌, ◌-◌, ◌++◌, ℕ, Bool, true, false}
-use Rattle.std.proofs.Common.{List, [], ◌∷◌, Some, IsTrue, refl, sym, ap, ◌∙◌, subst, inl, inr}
-use Rattle.std.proofs.Common.{arith, not}
-use Rattle.std.specs.Prelude.{codes, ◌==◌, ◌&&◌, ◌||◌, if◌then◌else◌, flat_map}
-use Rattle.std.specs.List.{list_all}
-use Rattle.std.proofs.lemmas.Bool.{and_parts, not-true, cases_lt}
-use Rattle.std.proofs.lemmas.Bool.Decides.{nat_tests}
-use Rattle.pgn_text.specs.Public.Strings.{Sign, Single, Escaped, spelled_sign, value_of_sign}
-use Rattle.pgn_text.specs.Public.Strings.{IsContents}
-use Rattle.pgn_text.specs.Shared.StringTexts.{value_of}
-use Rattle.pgn_text.proofs.Values.{has_value, one_value}
-use Rattle.pgn_criteria.specs.Public.Dates.{StandsFor, MayWrite, MayBe, IsWithin}
-use Rattle.pgn_criteria.specs.Public.Dates.{number_of, first_of, last_of, StandSurely, IsDate}
+use Rattle.pgn_criteria.proofs.Common.{◌≡◌, ◌≢◌, ◌↔◌, ◌≤◌, ◌<◌, ◌+◌, ◌*◌, ◌-◌, ◌++◌, ℕ, Bool, true}
+use Rattle.pgn_criteria.proofs.Common.{false, List, [], ◌∷◌, Some, IsTrue, refl, sym, ap, ◌∙◌}
+use Rattle.pgn_criteria.proofs.Common.{subst, inl, inr, arith, not, codes, ◌==◌, ◌&&◌, ◌||◌}
+use Rattle.pgn_criteria.proofs.Common.{if◌then◌else◌, flat_map, list_all, and_parts, not-true}
+use Rattle.pgn_criteria.proofs.Common.{cases_lt, nat_tests, Sign, Single, Escaped, spelled_sign}
+use Rattle.pgn_criteria.proofs.Common.{IsContents, value_of, has_value, one_value, StandsFor}
+use Rattle.pgn_criteria.proofs.Common.{MayWrite, MayBe, IsWithin, number_of, first_of, last_of}
+use Rattle.pgn_criteria.proofs.Common.{StandSurely, IsDate, year_text, Comparison, Equal, Unequal}
+use Rattle.pgn_criteria.proofs.Common.{Less, LessOrEqual, Greater, GreaterOrEqual, Day, Days}
+use Rattle.pgn_text.specs.Public.Strings.{value_of_sign}
 use Rattle.pgn_criteria.specs.Private.DateEnds.{IsLeast, IsGreatest, IsDigitEnd, IsYearEnd}
-use Rattle.pgn_criteria.specs.Private.DateEnds.{IsFirstDay, IsLastDay, year_text}
-use Rattle.pgn_criteria.specs.declared.compare.Comparison.{Comparison}
-use Rattle.pgn_criteria.specs.declared.compare.Comparison.TheVariants.{Equal, Unequal, Less}
-use Rattle.pgn_criteria.specs.declared.compare.Comparison.TheVariants.{LessOrEqual, Greater}
-use Rattle.pgn_criteria.specs.declared.compare.Comparison.TheVariants.{GreaterOrEqual}
-use Rattle.pgn_criteria.specs.declared.dates.Day.{Day}
-use Rattle.pgn_criteria.specs.declared.dates.Days.{Days}
+use Rattle.pgn_criteria.specs.Private.DateEnds.{IsFirstDay, IsLastDay}
 use Rattle.pgn_criteria.specs.declared.dates.Written.{Written}
 
 -- ---- the least number and the greatest that are such
 
 pub least_found : (Such : ℕ → Type 0) (first last own : ℕ) → first ≤ own → own ≤ last
-    → ((n : ℕ) → first ≤ n → n < own → Such n → ⊥) → Such own
-    → IsLeast Such first last (Some own)
+    → ((n : ℕ) → first ≤ n → n < own → Such n → ⊥) → Such own → IsLeast Such first last (Some own)
 least_found Such first last own from to none such = (
   from,
   to,
@@ -46,8 +36,7 @@ least_next Such first own none not_own n low high is = elim (cases_lt n own) [
 ]
 
 pub greatest_found : (Such : ℕ → Type 0) (first last own : ℕ) → first ≤ own → own ≤ last
-    → ((n : ℕ) → own < n → n ≤ last → Such n → ⊥) → Such own
-    → IsGreatest Such first last (Some own)
+    → ((n : ℕ) → own < n → n ≤ last → Such n → ⊥) → Such own → IsGreatest Such first last (Some own)
 greatest_found Such first last own from to none such = (
   from,
   to,
@@ -80,8 +69,7 @@ digit_high unknown byte own end is digit stands =
     elim (end.1 digit stands) [ inl same ↦ omega arith | inr most ↦ omega arith ]
 
 pub year_end : (unknown : ℕ) (w : Written) (p q r s : ℕ) → IsDigitEnd unknown w.thousands p
-    → IsDigitEnd unknown w.hundreds q → IsDigitEnd unknown w.tens r
-    → IsDigitEnd unknown w.units s
+    → IsDigitEnd unknown w.hundreds q → IsDigitEnd unknown w.tens r → IsDigitEnd unknown w.units s
     → IsYearEnd unknown (MayWrite 0 (year_text w)) (Some (1000 * p + 100 * q + 10 * r + s))
 year_end unknown w p q r s a b c d = (
   (p, a.0, (q, b.0, (r, c.0, (s, d.0, omega arith)))),
@@ -203,8 +191,7 @@ bare_value (Single b ∷ signs) all =
 bare_value (Escaped b ∷ signs) all =
     elim (b == 34 || b == 92) as (λ t. (b == 34 || b == 92) ≡ t
     → IsTrue (list_all is_bare ((if t then b ∷ [] else 92 ∷ b ∷ [])
-    ++ flat_map value_of_sign signs))
-    → 92 ∷ b ∷ flat_map spelled_sign signs
+    ++ flat_map value_of_sign signs)) → 92 ∷ b ∷ flat_map spelled_sign signs
     ≡ (if t then b ∷ [] else 92 ∷ b ∷ []) ++ flat_map value_of_sign signs) [
       | true ↦ λ is bare.
           let parts : (is_bare b ≡ true)
@@ -247,8 +234,7 @@ date_so comparison given days r good known reports =
       (λ date. let one : date.value ≡ value_of given =
           one_value given date.value date.signs date.has in
           let surely = subst (λ x. StandSurely comparison x days) one date.surely in
-          let same : value_of given ≡ given =
-          same_value given surely.0.0 good surely.0.1 in
+          let same : value_of given ≡ given = same_value given surely.0.0 good surely.0.1 in
           reports.1 (subst (λ x. StandSurely comparison x days) same surely)),
     )
 

@@ -1,15 +1,11 @@
 -- Whether a date stands in a comparison to days is settled.
-use Rattle.std.proofs.Common.{◌≤◌, ◌+◌, ◌*◌, ℕ, List, [], ◌∷◌, refl, subst, inl, inr, arith}
-use Rattle.chess.proofs.Settled.{Settled, SearchIn, settled_like, settled_not, settled_both}
-use Rattle.chess.proofs.Settled.{settled_either, settled_le, settled_below, cases_bytes}
-use Rattle.pgn_criteria.specs.Public.Dates.{StandsFor, MayWrite, MayBe, IsWithin, StandsTo}
-use Rattle.pgn_criteria.specs.Public.Dates.{number_of, first_of, last_of, StandSurely, IsDate}
-use Rattle.pgn_criteria.specs.declared.compare.Comparison.{Comparison}
-use Rattle.pgn_criteria.specs.declared.compare.Comparison.TheVariants.{Equal, Unequal, Less}
-use Rattle.pgn_criteria.specs.declared.compare.Comparison.TheVariants.{LessOrEqual, Greater}
-use Rattle.pgn_criteria.specs.declared.compare.Comparison.TheVariants.{GreaterOrEqual}
-use Rattle.pgn_criteria.specs.declared.dates.Day.{Day}
-use Rattle.pgn_criteria.specs.declared.dates.Days.{Days}
+use Rattle.pgn_criteria.proofs.Common.{◌≤◌, ◌+◌, ◌*◌, ℕ, List, [], ◌∷◌, refl, subst, inl, inr}
+use Rattle.pgn_criteria.proofs.Common.{arith, Settled, settled_like, settled_not, settled_both}
+use Rattle.pgn_criteria.proofs.Common.{settled_either, settled_le, cases_bytes, StandsFor, MayWrite}
+use Rattle.pgn_criteria.proofs.Common.{MayBe, IsWithin, StandsTo, number_of, first_of, last_of}
+use Rattle.pgn_criteria.proofs.Common.{StandSurely, IsDate, Comparison, Equal, Unequal, Less}
+use Rattle.pgn_criteria.proofs.Common.{LessOrEqual, Greater, GreaterOrEqual, Day, Days}
+use Rattle.chess.proofs.Settled.{SearchIn, settled_below}
 use Rattle.pgn_criteria.proofs.DateFacts.{unknown_date, date_so, date_unknown}
 use Rattle.pgn_criteria.proofs.StandsSettled.{settled_by, settled_same, settled_less_than}
 use Rattle.pgn_criteria.proofs.StandsSettled.{settled_contents}

@@ -1,10 +1,9 @@
 -- The days that a condition on a date names: what spells them is solid, and spells no others.
-use Rattle.std.proofs.Common.{◌≡◌, ◌≢◌, ◌≤◌, ℕ, true, false, List, [], ◌∷◌, refl, sym, ◌∙◌, arith}
 use Rattle.std.specs.Prelude.{◌==◌, if◌then◌else◌, Option, Some, None, MatchOption}
-use Rattle.chess.specs.Public.Fen.{is_digit, parted_at, before_first}
-use Rattle.pgn_criteria.specs.Public.Lines.{SpellsField, SpellsOne, SpellsDays}
+use Rattle.pgn_criteria.proofs.Common.{◌≡◌, ◌≢◌, ◌≤◌, ℕ, true, false, List, [], ◌∷◌, refl, sym, ◌∙◌}
+use Rattle.pgn_criteria.proofs.Common.{arith, is_digit, parted_at, before_first, SpellsDays, Days}
+use Rattle.pgn_criteria.specs.Public.Lines.{SpellsField, SpellsOne}
 use Rattle.pgn_criteria.specs.Private.DateEnds.{AreGoodDays}
-use Rattle.pgn_criteria.specs.declared.dates.Days.{Days}
 use Rattle.pgn_criteria.proofs.PliesFacts.{digit_solid}
 use Rattle.pgn_criteria.proofs.SolidFacts.{AreSolid, EachSolid, BeginsSolid, EndsSolid, all_solid}
 use Rattle.pgn_criteria.proofs.SolidFacts.{parts_solid, solid_begins, solid_ends}
@@ -13,8 +12,7 @@ use Rattle.pgn_criteria.proofs.SolidFacts.{parts_solid, solid_begins, solid_ends
 
 -- the first part, and those that follow it, if there are some
 pub some_rest : {T : Type 0} (parts : List (List ℕ)) (first : List ℕ) (after : T → List (List ℕ))
-    (rest : Option T)
-    → MatchOption rest (parts ≡ first ∷ []) (λ own. parts ≡ first ∷ after own)
+    (rest : Option T) → MatchOption rest (parts ≡ first ∷ []) (λ own. parts ≡ first ∷ after own)
     → (more : List (List ℕ)) × (parts ≡ first ∷ more)
 some_rest parts first after None is = ([], is)
 some_rest parts first after (Some own) is = (after own, is)
@@ -92,8 +90,7 @@ each_solid (year ∷ month ∷ day ∷ []) days spells = (
 each_solid parts days spells = absurd spells
 
 days_solid : (text : List ℕ) (days : Days) → SpellsDays (parted_at 46 text) days → AreSolid text
-days_solid text days spells =
-    parts_solid 46 refl text (each_solid (parted_at 46 text) days spells)
+days_solid text days spells = parts_solid 46 refl text (each_solid (parted_at 46 text) days spells)
 
 pub days_some : (text : List ℕ) (days : Days) → SpellsDays (parted_at 46 text) days → text ≢ []
 days_some [] days spells none = let some : 1 ≤ 0 = spells.0.0.short.0 in omega arith

@@ -1,11 +1,7 @@
 -- Where each side has one king, limits that are kept allow one.
-use Rattle.std.proofs.Common.{◌≡◌, ◌↔◌, Bool, true, false, IsTrue, sym, ◌∙◌, subst}
-use Rattle.chess.specs.Public.Placements.{Placement}
-use Rattle.chess.specs.Public.Positions.{king_of}
-use Rattle.chess.specs.declared.board.man.Side.{Side}
-use Rattle.chess.specs.declared.board.man.Kind.TheVariants.{King}
-use Rattle.pgn_criteria.specs.Public.Materials.{Allows, FitsSide, count_of}
-use Rattle.pgn_criteria.specs.declared.material.Limits.{Limits}
+use Rattle.pgn_criteria.proofs.Common.{◌≡◌, ◌↔◌, Bool, true, false, IsTrue, sym, ◌∙◌, subst}
+use Rattle.pgn_criteria.proofs.Common.{Placement, king_of, Side, King, FitsSide, count_of, Limits}
+use Rattle.pgn_criteria.specs.Public.Materials.{Allows}
 
 pub no_king : (men : Placement) (side : Side) (limits : Limits) (allowed : Bool)
     → (IsTrue allowed ↔ Allows limits.king 1) → allowed ≡ false

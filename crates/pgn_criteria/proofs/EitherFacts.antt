@@ -1,17 +1,11 @@
 -- Conditions that are tried at the mirror of a position.
-use Rattle.std.proofs.Common.{◌≡◌, ◌↔◌, ℕ, Bool, true, false, List, [], ◌∷◌, ◌++◌, IsTrue, refl}
-use Rattle.std.proofs.Common.{sym, ap, subst, inl, inr}
-use Rattle.std.specs.Prelude.{◌&&◌, if◌then◌else◌}
-use Rattle.chess.specs.Public.Placements.{Placement, opposite}
-use Rattle.chess.specs.declared.board.man.Side.{Side}
-use Rattle.pgn_criteria.specs.Public.Meeting.{is_turned}
-use Rattle.pgn_criteria.specs.Public.Mirrors.{mirrored_men, flipped_men, can_be_mirrored}
-use Rattle.pgn_criteria.specs.Public.Patterns.{FitsPattern}
-use Rattle.pgn_criteria.specs.Private.Stages.{SaysOfSeen, OfSeen, AllSaid, EachOfSeen, AllOfSeen}
-use Rattle.pgn_criteria.specs.Private.Stages.{AreFixed, IsMirrorOf, IsMirrored, AreMirrored}
-use Rattle.pgn_criteria.specs.declared.condition.PositionCondition.{PositionCondition}
-use Rattle.pgn_criteria.specs.declared.condition.PositionClaim.TheVariants.{Flip, Material}
-use Rattle.pgn_criteria.specs.declared.material.Limits.{Limits}
+use Rattle.pgn_criteria.proofs.Common.{◌≡◌, ◌↔◌, ℕ, Bool, true, false, List, [], ◌∷◌, ◌++◌, IsTrue}
+use Rattle.pgn_criteria.proofs.Common.{refl, sym, ap, subst, inl, inr, ◌&&◌, if◌then◌else◌}
+use Rattle.pgn_criteria.proofs.Common.{Placement, opposite, Side, is_turned, mirrored_men}
+use Rattle.pgn_criteria.proofs.Common.{flipped_men, can_be_mirrored, FitsPattern, SaysOfSeen}
+use Rattle.pgn_criteria.proofs.Common.{OfSeen, AllSaid, EachOfSeen, AllOfSeen, AreFixed}
+use Rattle.pgn_criteria.proofs.Common.{AreMirrored, PositionCondition, Flip, Material, Limits}
+use Rattle.pgn_criteria.specs.Private.Stages.{IsMirrorOf, IsMirrored}
 use Rattle.pgn_criteria.proofs.MirrorFacts.{flipped_mirrored, material_mirrored}
 use Rattle.pgn_criteria.proofs.TakenFacts.{same_taken}
 use Rattle.pgn_criteria.proofs.SeenFacts.{said_of_men, can_be_turned}
@@ -29,8 +23,7 @@ flip_mirror own pattern fits = record {
   alike = λ men turn denied.
       let turned : FitsPattern (flipped_men men) own
       ↔ FitsPattern (flipped_men (mirrored_men men)) pattern =
-      subst (λ m. FitsPattern (flipped_men men) own
-      ↔ FitsPattern m pattern) (sym (flipped_mirrored men)) (fits (flipped_men men)) in
+      rw (flipped_mirrored men) (fits (flipped_men men)) in
       same_taken denied (
         λ either. elim either [ inl fit ↦ inl ((fits men).0 fit) | inr fit ↦ inr (turned.0 fit) ],
         λ either. elim either [ inl fit ↦ inl ((fits men).1 fit) | inr fit ↦ inr (turned.1 fit) ],
@@ -55,15 +48,13 @@ fixed_is condition e = ap (λ b. b && can_be_mirrored condition.claim) e
 -- a condition with `either` and its mirror, and a condition and the same one
 module _ (men : Placement) (turn : Side) (Checked Stuck : Type 0) where
   turned_said : (own condition : PositionCondition (List ℕ)) → is_turned condition ≡ true
-      → IsMirrored own condition
-      → OfSeen men turn Checked Stuck own
+      → IsMirrored own condition → OfSeen men turn Checked Stuck own
       ↔ OfSeen (mirrored_men men) (opposite turn) Checked Stuck condition
   turned_said own condition turned mirrored =
       let of = mirrored.turned turned in
       let here = said_of_men men turn Checked ⊥ Stuck ⊥ own.is_denied own.claim of.can in
       let alike = of.alike men turn own.is_denied in
-      let there =
-      said_of_men (mirrored_men men) (opposite turn) Checked ⊥ Stuck ⊥ own.is_denied
+      let there = said_of_men (mirrored_men men) (opposite turn) Checked ⊥ Stuck ⊥ own.is_denied
       condition.claim (can_be_turned condition turned) in
       subst (λ d. OfSeen men turn Checked Stuck own
       ↔ SaysOfSeen (mirrored_men men) (opposite turn) Checked Stuck d condition.claim)
@@ -77,10 +68,8 @@ module _ (men : Placement) (turn : Side) (Checked Stuck : Type 0) where
       subst (λ d. OfSeen men turn Checked Stuck own
       ↔ SaysOfSeen men turn Checked Stuck d condition.claim) mirrored.denied
       (subst (λ k. OfSeen men turn Checked Stuck own
-      ↔ SaysOfSeen men turn Checked Stuck own.is_denied k) (mirrored.fixed fixed) (
-        λ says. says,
-        λ says. says,
-      ))
+      ↔ SaysOfSeen men turn Checked Stuck own.is_denied k) (mirrored.fixed fixed)
+      (λ says. says, λ says. says))
 
   one_mirrored : (own condition : PositionCondition (List ℕ)) → IsMirrored own condition
       → OfSeen men turn Checked Stuck own
@@ -96,8 +85,7 @@ module _ (men : Placement) (turn : Side) (Checked Stuck : Type 0) where
       ] refl
 
   pub mirrored_said : (own conditions : List (PositionCondition (List ℕ)))
-      → AreMirrored own conditions
-      → AllSaid men turn Checked Stuck own
+      → AreMirrored own conditions → AllSaid men turn Checked Stuck own
       ↔ EachOfSeen men turn (mirrored_men men) (opposite turn) Checked Stuck conditions
   mirrored_said own [] none =
       (λ all. tt, λ each. subst (AllSaid men turn Checked Stuck) (sym none) tt)
@@ -173,8 +161,7 @@ module _ (men : Placement) (turn : Side) (Checked Stuck : Type 0) where
 -- one condition more
 pub mirrored_more : (own conditions : List (PositionCondition (List ℕ)))
     (one condition : PositionCondition (List ℕ)) → AreMirrored own conditions
-    → IsMirrored one condition
-    → AreMirrored (own ++ (one ∷ [])) (conditions ++ (condition ∷ []))
+    → IsMirrored one condition → AreMirrored (own ++ (one ∷ [])) (conditions ++ (condition ∷ []))
 mirrored_more own [] one condition none here = (one, [], ap (λ x. x ++ (one ∷ [])) none, here, refl)
 mirrored_more own (first ∷ more) one condition (its, rest, are, mirrored, others) here = (
   its,

@@ -1,26 +1,19 @@
 -- The ends of the text of a move.
-use Rattle.std.proofs.Common.{◌≡◌, ◌↔◌, ◌⊎◌, ◌-◌, ◌++◌, ◌<◌, ◌≤◌, ℕ, Bool, true, false, List, []}
-use Rattle.std.proofs.Common.{◌∷◌, length, get_or, Option, Some, None, IsTrue, refl, sym, ap, ◌∙◌}
-use Rattle.std.proofs.Common.{subst, append_assoc, arith, inl, inr}
-use Rattle.std.proofs.lemmas.Bool.{false≢true}
-use Rattle.std.proofs.lemmas.Bool.Decides.{nat_tests}
-use Rattle.std.specs.List.{slice_get}
-use Rattle.std.specs.Prelude.{if◌then◌else◌, is_some}
-use Rattle.chess.specs.Public.Squares.{Place}
-use Rattle.chess.specs.Public.Positions.{State}
-use Rattle.chess.specs.Public.Letters.{kind_letter, file_letter, rank_digit, square_text}
-use Rattle.chess.specs.Public.Letters.{is_check_sign}
+use Rattle.std.specs.Prelude.{is_some}
+use Rattle.pgn_criteria.proofs.Common.{◌≡◌, ◌↔◌, ◌⊎◌, ◌-◌, ◌++◌, ◌<◌, ◌≤◌, ℕ, Bool, true, false}
+use Rattle.pgn_criteria.proofs.Common.{List, [], ◌∷◌, length, get_or, Option, Some, None, IsTrue}
+use Rattle.pgn_criteria.proofs.Common.{refl, sym, ap, ◌∙◌, subst, append_assoc, arith, inl, inr}
+use Rattle.pgn_criteria.proofs.Common.{false≢true, nat_tests, slice_get, if◌then◌else◌, Place}
+use Rattle.pgn_criteria.proofs.Common.{State, kind_letter, file_letter, rank_digit, is_check_sign}
+use Rattle.pgn_criteria.proofs.Common.{IsSan, Kind, King, Queen, Rook, Bishop, Knight, Pawn, Wing}
+use Rattle.pgn_criteria.proofs.Common.{KingSide, Replay, without_check_signs, IsLike, GoesOnBy}
+use Rattle.chess.specs.Public.Letters.{square_text}
 use Rattle.chess.specs.Public.San.{promotion_text, castling_text, IsDisambiguation, is_capture}
-use Rattle.chess.specs.Public.San.{capture_text, IsPieceText, IsBody, IsCheckSign, IsSan}
+use Rattle.chess.specs.Public.San.{capture_text, IsPieceText, IsBody, IsCheckSign}
 use Rattle.chess.specs.Public.San.IsDisambiguation.{alone, by_file, by_rank, by_both}
 use Rattle.chess.specs.Public.San.IsCheckSign.{mate}
-use Rattle.chess.specs.declared.board.man.Kind.{Kind}
-use Rattle.chess.specs.declared.board.man.Kind.TheVariants.{King, Queen, Rook, Bishop, Knight, Pawn}
-use Rattle.chess.specs.declared.board.man.Wing.{Wing}
-use Rattle.chess.specs.declared.board.man.Wing.TheVariants.{KingSide, QueenSide}
+use Rattle.chess.specs.declared.board.man.Wing.TheVariants.{QueenSide}
 use Rattle.chess.specs.declared.moves.Move.{Move}
-use Rattle.pgn_game.specs.Public.Replays.{Replay}
-use Rattle.pgn_criteria.specs.Public.MoveTexts.{without_check_signs, IsLike, GoesOnBy}
 use Rattle.pgn_criteria.specs.Private.MoveEnds.{BeginsWith, EndsWith, RulesOut}
 
 -- each byte is above those of the marks
@@ -126,8 +119,7 @@ begins_piece P m piece x b (origin, is, text) (rest, begins) = cc (text, begins)
 
 begins_pawn : (taking : Bool) (from : ℕ) (to : Place) (promotion : List ℕ) (b : ℕ)
     → BeginsWith b ((if taking then file_letter from ∷ 120 ∷ [] else [])
-    ++ (square_text to ++ promotion))
-    → (b ≡ file_letter from) ⊎ (b ≡ file_letter to.file)
+    ++ (square_text to ++ promotion)) → (b ≡ file_letter from) ⊎ (b ≡ file_letter to.file)
 begins_pawn true from to promotion b (rest, begins) = inl (cc (begins))
 begins_pawn false from to promotion b (rest, begins) = inr (cc (begins))
 

@@ -1,34 +1,21 @@
 -- What the definitions say of values, ranks and words that every reader can check.
 use Rattle.std.proofs.Common.{◌≡◌, ◌≤◌, ◌==◌, ℕ, List, [], ◌∷◌, Option, Some, None, true, false}
 use Rattle.std.proofs.Common.{refl, ap, arith, codes, get_or, drop, ◌++◌, length, inl, inr}
-use Rattle.std.proofs.lemmas.Option.{slice_get_within}
-use Rattle.std.specs.declared.cmp.Ordering.TheVariants as order
-use Rattle.chess.specs.Public.Letters.{man_letter}
-use Rattle.chess.specs.Public.Fen.{IsSquares, has_byte}
+use Rattle.pgn_criteria.proofs.Common.{slice_get_within, man_letter, IsSquares, has_byte, Man}
+use Rattle.pgn_criteria.proofs.Common.{White, Black, King, Queen, Pawn, Rook, Single, Escaped}
+use Rattle.pgn_criteria.proofs.Common.{number_in, order_of, Allows, Stands, IsNumber, CanBeSplit}
+use Rattle.pgn_criteria.proofs.Common.{IsStretch, items_of, spelled, any, occupied, white, black}
+use Rattle.pgn_criteria.proofs.Common.{many, among, other, is_man, across, beside, Replay}
+use Rattle.pgn_criteria.proofs.Common.{without_check_signs, IsLike, GoesOnBy, IsReachedBy, IsFirst}
+use Rattle.pgn_criteria.proofs.Common.{Comparison, Has, Begins, Exactly, AtLeast, AtMost, AnyNumber}
 use Rattle.chess.specs.Public.Fen.IsSquares.{letter, step}
-use Rattle.chess.specs.declared.board.man.Man.{Man}
-use Rattle.chess.specs.declared.board.man.Side.TheVariants.{White, Black}
-use Rattle.chess.specs.declared.board.man.Kind.TheVariants.{King, Queen, Pawn, Rook}
-use Rattle.pgn_text.specs.Public.Strings.{Single, Escaped}
-use Rattle.pgn_criteria.specs.Public.Comparing.{number_in, order_of, Allows, Stands, IsNumber}
-use Rattle.pgn_criteria.specs.Public.Patterns.{CanBeSplit, IsStretch}
-use Rattle.pgn_criteria.specs.Private.Items.{items_of}
-use Rattle.pgn_criteria.specs.Public.Patterns.IsStretch.{spelled, any, occupied, white, black, many}
-use Rattle.pgn_criteria.specs.Public.Patterns.IsStretch.{among, other}
-use Rattle.pgn_criteria.specs.Public.Materials.{is_man}
-use Rattle.pgn_criteria.specs.Public.Materials as material
-use Rattle.pgn_criteria.specs.Public.Mirrors.{across, beside}
-use Rattle.pgn_game.specs.Public.Replays.{Replay}
-use Rattle.pgn_criteria.specs.Public.MoveTexts.{without_check_signs, IsLike, GoesOnBy, IsReachedBy}
-use Rattle.pgn_criteria.specs.Public.Meeting.{IsFirst}
 use Rattle.pgn_criteria.proofs.CompareFacts.{number_missing}
 use Rattle.pgn_criteria.proofs.EndFacts.{ends_in, like_ends}
-use Rattle.pgn_criteria.specs.declared.compare.Comparison.{Comparison}
-use Rattle.pgn_criteria.specs.declared.compare.Comparison.TheVariants as compared
 use Rattle.pgn_criteria.proofs.MoveFacts.{byte_back}
-use Rattle.pgn_criteria.specs.declared.compare.Relation.TheVariants.{Equal, Has, Begins}
-use Rattle.pgn_criteria.specs.declared.material.Limit.TheVariants.{Exactly, AtLeast, AtMost}
-use Rattle.pgn_criteria.specs.declared.material.Limit.TheVariants.{AnyNumber}
+use Rattle.pgn_criteria.specs.declared.compare.Relation.TheVariants.{Equal}
+use Rattle.std.specs.declared.cmp.Ordering.TheVariants as order
+use Rattle.pgn_criteria.specs.Public.Materials as material
+use Rattle.pgn_criteria.specs.declared.compare.Comparison.TheVariants as compared
 
 -- numbers have 1 to 18 digits and nothing else
 nine : number_in (codes "9") ≡ Some 9

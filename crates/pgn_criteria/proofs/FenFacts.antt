@@ -1,23 +1,12 @@
 -- Conditions on the men: what spells one is read as it, and the other way round.
-use Rattle.std.proofs.Common.{◌≡◌, ◌≢◌, ℕ, true, false, Bool, List, [], ◌∷◌, ◌++◌, IsTrue, refl}
-use Rattle.std.proofs.Common.{sym, subst, arith}
 use Rattle.std.specs.Prelude.{codes, Option, ◌+◌, ◌-◌, ◌==◌, if◌then◌else◌}
-use Rattle.std.specs.List.{list_all}
-use Rattle.std.proofs.lemmas.Bool.{and_parts, and_from}
-use Rattle.std.proofs.lemmas.Bool.Decides.{nat_tests}
-use Rattle.chess.specs.Public.Fen.{IsSquares, letter, step, parted_at, before_first}
-use Rattle.chess.specs.Public.Letters.{man_letter}
-use Rattle.chess.specs.declared.board.man.Man.{Man}
-use Rattle.chess.specs.declared.board.man.Side.{Side}
-use Rattle.chess.specs.declared.board.man.Side.TheVariants.{White, Black}
-use Rattle.chess.specs.declared.board.man.Kind.{Kind}
-use Rattle.chess.specs.declared.board.man.Kind.TheVariants.{King}
-use Rattle.pgn_criteria.specs.Public.Patterns.{IsStretch, spelled}
-use Rattle.pgn_criteria.specs.Public.Patterns.{among, other, AreRanks, IsPattern, items_where}
-use Rattle.pgn_criteria.specs.Private.Items.{AreItems, is_letter, items_of}
-use Rattle.pgn_criteria.specs.Private.Reading.{run_of, after_word}
-use Rattle.pgn_criteria.specs.Public.Lines.{SpellsPosition}
-use Rattle.pgn_criteria.specs.declared.condition.PositionClaim.TheVariants.{Fen, Flip}
+use Rattle.pgn_criteria.proofs.Common.{◌≡◌, ◌≢◌, ℕ, true, false, Bool, List, [], ◌∷◌, ◌++◌, IsTrue}
+use Rattle.pgn_criteria.proofs.Common.{refl, sym, subst, arith, list_all, and_parts, and_from}
+use Rattle.pgn_criteria.proofs.Common.{nat_tests, IsSquares, letter, step, parted_at, before_first}
+use Rattle.pgn_criteria.proofs.Common.{man_letter, Man, Side, White, Black, Kind, King, IsStretch}
+use Rattle.pgn_criteria.proofs.Common.{AreRanks, IsPattern, items_where, AreItems, is_letter}
+use Rattle.pgn_criteria.proofs.Common.{items_of, run_of, after_word, SpellsPosition, Fen, Flip}
+use Rattle.pgn_criteria.specs.Public.Patterns.{spelled, among, other}
 use Rattle.pgn_criteria.proofs.SetFacts.{all_men, letter_in, are_split}
 use Rattle.pgn_criteria.proofs.SolidFacts.{is_solid, AreSolid, EachSolid, all_solid, front_solid}
 use Rattle.pgn_criteria.proofs.SolidFacts.{parts_solid, solid_begins, word_read, word_spelled}
@@ -125,6 +114,5 @@ flip_read text pattern (own, (gap, is, g), fen, good) =
 pub flip_spelled : (text own pattern : List ℕ) → run_of text ≡ codes "flip" → own ≡ after_word text
     → SpellsPosition own (Fen pattern) → SpellsPosition text (Flip pattern)
 flip_spelled text own pattern run after spells =
-    let two =
-    word_spelled text (codes "flip") own run (sym after)
+    let two = word_spelled text (codes "flip") own run (sym after)
     (begins_some own (fen_begins own pattern spells)) in (own, two, spells.0, spells.1)

@@ -1,26 +1,15 @@
 -- What patterns ask of squares, as it is laid out.
-use Rattle.std.proofs.Common.{◌≡◌, ◌↔◌, ◌≤◌, ◌<◌, ◌+◌, ◌-◌, ℕ, zero, suc, Bool, true, List}
-use Rattle.std.proofs.Common.{[], ◌∷◌, ◌++◌, length, take, drop, get_or, Option, Some, None, IsTrue}
-use Rattle.std.proofs.Common.{refl, sym, ap, ◌∙◌, subst, arith, inl, inr, length-drop}
 use Rattle.std.proofs.Math.ListN.{get_or-append}
-use Rattle.std.proofs.lemmas.Bool.{cases_lt}
 use Rattle.std.proofs.lemmas.List.{get_or-drop, take-append-drop, drop-drop, length-take}
-use Rattle.chess.specs.Public.Fen.{row}
-use Rattle.chess.specs.Public.Squares.{Place}
-use Rattle.chess.specs.Public.Placements.{Placement, man_at}
-use Rattle.chess.specs.declared.board.man.Man.{Man}
-use Rattle.pgn_criteria.specs.Public.Patterns.{CanBeSplit}
-use Rattle.pgn_criteria.specs.Private.Items.{items_of, IsOf, EachOf, Reads, IsNextItem, has_man}
-use Rattle.chess.specs.declared.board.man.Kind.{Kind}
-use Rattle.chess.specs.declared.board.man.Kind.TheVariants.{King, Queen, Rook, Bishop, Knight, Pawn}
-use Rattle.chess.specs.declared.board.man.Side.TheVariants.{White, Black}
+use Rattle.pgn_criteria.proofs.Common.{◌≡◌, ◌↔◌, ◌≤◌, ◌<◌, ◌+◌, ◌-◌, ℕ, zero, suc, Bool, true, List}
+use Rattle.pgn_criteria.proofs.Common.{[], ◌∷◌, ◌++◌, length, take, drop, get_or, Option, Some}
+use Rattle.pgn_criteria.proofs.Common.{None, IsTrue, refl, sym, ap, ◌∙◌, subst, arith, inl, inr}
+use Rattle.pgn_criteria.proofs.Common.{length-drop, cases_lt, row, Place, Placement, man_at, Man}
+use Rattle.pgn_criteria.proofs.Common.{CanBeSplit, items_of, IsOf, EachOf, Reads, IsNextItem}
+use Rattle.pgn_criteria.proofs.Common.{has_man, Kind, King, Queen, Rook, Bishop, Knight, Pawn}
+use Rattle.pgn_criteria.proofs.Common.{White, Black, Other, Asked, Layout, SquareTest, Run, Many}
 use Rattle.pgn_criteria.specs.Private.Layouts.{AllStand, AreEmpty, EachFrom, Extends, Lays, NoneOf}
 use Rattle.pgn_criteria.specs.declared.rank.Men.{Men}
-use Rattle.pgn_criteria.specs.declared.rank.SquareTest.TheVariants.{Other}
-use Rattle.pgn_criteria.specs.declared.layout.Asked.{Asked}
-use Rattle.pgn_criteria.specs.declared.layout.Layout.{Layout}
-use Rattle.pgn_criteria.specs.declared.rank.SquareTest.{SquareTest}
-use Rattle.pgn_criteria.specs.declared.rank.Item.TheVariants.{Run, Many}
 use Rattle.pgn_criteria.proofs.NeedFacts.{after_own, left_then, left_at_end}
 
 -- nothing is laid out yet
@@ -30,15 +19,13 @@ lays_start whole old =
     record {
       sound = λ s. s;
       needed = λ p laid all. (laid, all);
-      enough =
-          λ so p laid all. (laid, all);
+      enough = λ so p laid all. (laid, all);
     }
 
 -- one fact more
 pub lays_step : {T : Type 0} {Sound : T → Type 0} {Stands : Placement → T
     → Type 0} (whole rest fact more : Placement → Type 0) (a b c : T) (r s t : Bool)
-    → Extends Sound Stands whole rest a b r
-    → Extends Sound Stands fact (λ p. Unit {0}) b c s
+    → Extends Sound Stands whole rest a b r → Extends Sound Stands fact (λ p. Unit {0}) b c s
     → ((p : Placement) → rest p ↔ (fact p × more p)) → (IsTrue t → IsTrue r × IsTrue s)
     → Extends Sound Stands whole more a c t
 lays_step whole rest fact more a b c r s t first next parts both = record {
@@ -64,8 +51,7 @@ lays_same whole rest more a b r first same = record {
 -- nothing is left, or it is not all
 pub lays_end : {T : Type 0} {Sound : T → Type 0} {Stands : Placement → T
     → Type 0} (whole rest : Placement → Type 0) (a b : T) (r s : Bool)
-    → Extends Sound Stands whole rest a b r
-    → (IsTrue s → IsTrue r × ((p : Placement) → rest p))
+    → Extends Sound Stands whole rest a b r → (IsTrue s → IsTrue r × ((p : Placement) → rest p))
     → Extends Sound Stands whole (λ p. Unit {0}) a b s
 lays_end whole rest a b r s first ends = record {
   sound = first.sound;
@@ -92,11 +78,8 @@ lays_asked old new class square one is at items barred empty = record {
   needed = λ p laid here. (
     (
       subst (AllStand p) (sym items)
-          ((stand_more p old.asked.items one).1 (
-            laid.0,
-            subst (λ c. IsOf c (man_at p one.square)) (sym is)
-                (subst (λ s. IsOf class (man_at p s)) (sym at) here),
-          )),
+          ((stand_more p old.asked.items one).1
+          (laid.0, rw is (subst (λ s. IsOf class (man_at p s)) (sym at) here))),
       subst (AllStand p) (sym barred) laid.1,
       subst (AreEmpty p) (sym empty) laid.2,
     ),
@@ -105,8 +88,7 @@ lays_asked old new class square one is at items barred empty = record {
   enough = λ so p laid left.
       let both = (stand_more p old.asked.items one).0 (subst (AllStand p) items laid.0) in (
         (both.0, subst (AllStand p) barred laid.1, subst (AreEmpty p) empty laid.2),
-        subst (λ s. IsOf class (man_at p s)) at
-            (subst (λ c. IsOf c (man_at p one.square)) is both.1),
+        rw (← at) (subst (λ c. IsOf c (man_at p one.square)) is both.1),
       );
 }
 
@@ -123,8 +105,7 @@ lays_barred old new class square one is at items asked empty = record {
       subst (AllStand p) (sym items)
           ((stand_more p old.barred.items one).1 (
             laid.1,
-            subst (λ c. IsOf c (man_at p one.square)) (sym is)
-                (subst (λ s. IsOf class (man_at p s)) (sym at) (here refl)),
+            rw is (subst (λ s. IsOf class (man_at p s)) (sym at) (here refl)),
           )),
       subst (AreEmpty p) (sym empty) laid.2,
     ),
@@ -133,8 +114,7 @@ lays_barred old new class square one is at items asked empty = record {
   enough = λ so p laid left.
       let both = (stand_more p old.barred.items one).0 (subst (AllStand p) items laid.1) in (
         (subst (AllStand p) asked laid.0, both.0, subst (AreEmpty p) empty laid.2),
-        λ t. subst (λ s. IsOf class (man_at p s)) at
-            (subst (λ c. IsOf c (man_at p one.square)) is both.1),
+        λ t. rw (← at) (subst (λ c. IsOf c (man_at p one.square)) is both.1),
       );
 }
 
@@ -203,8 +183,7 @@ each_step men class rank before step count less = (
   λ both k low high. elim (cases_lt step k) [
     | inl after ↦ both.1 k (omega arith) high
     | inr here ↦ let same : step ≡ k = omega arith in
-        subst (λ n. IsOf class (man_at men (record { file = before + n + 1; rank = rank }))) same
-        both.0
+        rw (← same) both.0
   ],
 )
 
@@ -302,10 +281,7 @@ pub next_run : (men : Placement) (rank taken count : ℕ) (items after : List �
     ↔ (EachFrom men class rank taken 0 count
     × CanBeSplit (items_of after) (drop (taken + count) (row men rank)))
 next_run men rank taken count items after class next room =
-    subst (λ (x : List (List ℕ)). CanBeSplit x (drop taken (row men rank))
-    ↔ (EachFrom men class rank taken 0 count
-    × CanBeSplit (items_of after) (drop (taken + count) (row men rank)))) (sym next.cut)
-    (run_split men rank taken count next.text class (items_of after) next.reads room)
+    rw next.cut (run_split men rank taken count next.text class (items_of after) next.reads room)
 
 pub next_many : (men : Placement) (rank taken size : ℕ) (items after : List ℕ)
     → IsNextItem items Many after → size ≤ 8 → taken ≤ 8 - size
@@ -313,6 +289,5 @@ pub next_many : (men : Placement) (rank taken size : ℕ) (items after : List �
     → CanBeSplit (items_of items) (drop taken (row men rank))
     ↔ CanBeSplit (items_of after) (drop (8 - size) (row men rank))
 next_many men rank taken size items after next small low sized =
-    subst (λ (x : List (List ℕ)). CanBeSplit x (drop taken (row men rank))
-    ↔ CanBeSplit (items_of after) (drop (8 - size) (row men rank))) (sym next.cut)
-    (many_split men rank taken size next.text (items_of after) next.reads small low sized)
+    rw next.cut (many_split men rank taken size next.text (items_of after) next.reads small low
+    sized)

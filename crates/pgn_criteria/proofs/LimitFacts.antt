@@ -1,24 +1,16 @@
 -- Letters of kinds with their limits: what spells them is cut as they are read, and the other way
 -- round.
-use Rattle.std.proofs.Common.{◌≡◌, ◌≢◌, ◌≤◌, ℕ, Bool, true, false, List, [], ◌∷◌, ◌++◌, refl, sym}
-use Rattle.std.proofs.Common.{ap, ◌∙◌, subst, IsTrue, inl, inr, arith}
 use Rattle.std.specs.Prelude.{map, ◌+◌, ◌-◌, ◌==◌, ◌||◌, ◌&&◌, not, nat_le, if◌then◌else◌}
-use Rattle.std.specs.List.{list_all}
-use Rattle.std.proofs.lemmas.Bool.{and_parts, not-true, eqb-true, and_from, eq-eqb}
-use Rattle.std.proofs.lemmas.Bool.Decides.{nat_tests}
-use Rattle.std.proofs.lemmas.List.Folds.{list_all-append}
+use Rattle.pgn_criteria.proofs.Common.{◌≡◌, ◌≢◌, ◌≤◌, ℕ, Bool, true, false, List, [], ◌∷◌, ◌++◌}
+use Rattle.pgn_criteria.proofs.Common.{refl, sym, ap, ◌∙◌, subst, IsTrue, inl, inr, arith, list_all}
+use Rattle.pgn_criteria.proofs.Common.{and_parts, not-true, eqb-true, and_from, eq-eqb, nat_tests}
+use Rattle.pgn_criteria.proofs.Common.{list_all-append, kind_letter, Kind, King, IsLimitIn}
+use Rattle.pgn_criteria.proofs.Common.{SpellsLimits, limit_of, AreEntries, first_limit, limit_after}
+use Rattle.pgn_criteria.proofs.Common.{Limit, Exactly, AtLeast, AtMost, AnyNumber, Limits}
 use Rattle.chess.specs.Public.Fen.{is_digit, has_byte, is_distinct}
-use Rattle.chess.specs.Public.Letters.{kind_letter}
-use Rattle.chess.specs.declared.board.man.Kind.{Kind}
-use Rattle.chess.specs.declared.board.man.Kind.TheVariants.{King}
 use Rattle.pgn_criteria.specs.Public.Lines.{SpellsLimit, one, exactly, at_least, at_most, any}
-use Rattle.pgn_criteria.specs.Public.Lines.{SpellsEntries, IsLimitIn, SpellsLimits}
-use Rattle.pgn_criteria.specs.Public.Materials.{limit_of}
-use Rattle.pgn_criteria.specs.Private.Reading.{AreEntries, digit_limit, first_limit, limit_after}
-use Rattle.pgn_criteria.specs.declared.material.Limit.{Limit}
-use Rattle.pgn_criteria.specs.declared.material.Limit.TheVariants.{Exactly, AtLeast, AtMost}
-use Rattle.pgn_criteria.specs.declared.material.Limit.TheVariants.{AnyNumber}
-use Rattle.pgn_criteria.specs.declared.material.Limits.{Limits}
+use Rattle.pgn_criteria.specs.Public.Lines.{SpellsEntries}
+use Rattle.pgn_criteria.specs.Private.Reading.{digit_limit}
 use Rattle.pgn_criteria.proofs.SolidFacts.{is_solid, AreSolid}
 use Rattle.pgn_game.proofs.MoveTexts.{same_letter}
 
@@ -95,8 +87,7 @@ digit_first n x h =
     ap (λ t. if t then (AnyNumber, x) else if is_digit (48 + n) then digit_limit (48 + n - 48) x
     else (Exactly 1, (48 + n) ∷ x)) (digit_star n)
     ∙ ap (λ t. if t then digit_limit (48 + n - 48) x
-    else (Exactly 1, (48 + n) ∷ x)) (digit_digit n h)
-    ∙ ap (λ m. digit_limit m x) (digit_number n)
+    else (Exactly 1, (48 + n) ∷ x)) (digit_digit n h) ∙ ap (λ m. digit_limit m x) (digit_number n)
 
 -- what follows a limit is none of its bytes
 high_other : (b other : ℕ) → is_high b ≡ true → other ≤ 57 → (b == other) ≡ false
@@ -225,8 +216,7 @@ entries_read b x (entries, spells, distinct) =
     let e = entry_read b x entries spells in
     let parts : (not (has_byte (kind_letter e.kind) (letters e.more)) ≡ true)
     × (is_distinct (letters e.more) ≡ true) =
-    and_parts _ _ (subst (λ (es : List (Kind × Limit)). is_distinct (letters es)
-    ≡ true) e.entries_are distinct) in
+    and_parts _ _ (rw e.entries_are at distinct) in
     let other : has_byte (kind_letter e.kind) (letters e.more) ≡ false = not-true _ parts.0 in (
       (e.kind, e.letter_is),
       ap (λ a. has_byte a (first_limit x).1) e.letter_is
@@ -241,10 +231,11 @@ entries_spelled b x kind is other (more, spells, distinct) =
     let absent : has_byte (kind_letter kind) (letters more) ≡ false =
     sym (has_letter (kind_letter kind) (first_limit x).1 more (letter_high kind) spells)
     ∙ ap (λ a. has_byte a (first_limit x).1) (sym is) ∙ other in
-    subst (λ a. AreEntries (a ∷ x)) (sym is) (
+    rw is (
       (kind, (first_limit x).0) ∷ more,
       entry_spelled kind x more spells,
-      and_from _ _ (ap not absent) distinct,
+      and_from _ _ (ap not
+          absent) distinct,
     )
 
 -- the entries of a text give each kind the limit after its letter

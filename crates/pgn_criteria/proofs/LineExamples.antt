@@ -1,42 +1,21 @@
 -- What the definitions say of lines that every reader can check.
 use Rattle.std.proofs.Common.{◌≡◌, ◌≤◌, ◌<◌, ℕ, Bool, true, false, List, [], ◌∷◌, ◌++◌, length}
 use Rattle.std.proofs.Common.{get_or, refl, sym, ap, ◌∙◌, inl, inr, arith, codes}
-use Rattle.std.specs.Prelude.{replicate}
-use Rattle.chess.specs.Public.Fen.{parted_at}
-use Rattle.chess.specs.declared.board.man.Kind.{Kind}
-use Rattle.chess.specs.declared.board.man.Kind.TheVariants.{King, Queen, Rook, Bishop, Knight, Pawn}
-use Rattle.chess.specs.declared.board.man.Side.TheVariants.{White}
-use Rattle.pgn_text.specs.Public.Strings.{Single}
-use Rattle.pgn_text.specs.Public.GameTexts.{IsResult}
-use Rattle.pgn_criteria.specs.Public.Lines.{SpellsGame, SpellsPosition, SpellsMove, SpellsSpan}
-use Rattle.pgn_criteria.specs.Public.Lines.{SpellsCondition, AreNames, SpellsCount, CanBeCompared}
-use Rattle.pgn_criteria.specs.Public.Lines.{Spells, SpellsLimits, IsLimitIn, IsMoveWord, IsMoveLike}
-use Rattle.pgn_criteria.specs.Public.Lines.{a_word, and_words, IsLine, Accepts, alternatives_of}
-use Rattle.pgn_criteria.specs.Public.Lines.{SpellsTurned, SpellsDigits}
+use Rattle.pgn_criteria.proofs.Common.{replicate, parted_at, Kind, King, Queen, Rook, Bishop}
+use Rattle.pgn_criteria.proofs.Common.{Knight, Pawn, White, Single, IsResult, SpellsGame}
+use Rattle.pgn_criteria.proofs.Common.{SpellsPosition, SpellsMove, SpellsSpan, SpellsCondition}
+use Rattle.pgn_criteria.proofs.Common.{AreNames, SpellsCount, CanBeCompared, Spells, SpellsLimits}
+use Rattle.pgn_criteria.proofs.Common.{IsLimitIn, IsMoveWord, IsMoveLike, a_word, and_words, IsLine}
+use Rattle.pgn_criteria.proofs.Common.{alternatives_of, SpellsTurned, SpellsDigits, Compares}
+use Rattle.pgn_criteria.proofs.Common.{limit_of, can_be_mirrored, Less, LessOrEqual, Limit, Exactly}
+use Rattle.pgn_criteria.proofs.Common.{AtLeast, AtMost, AnyNumber, Limits, Condition, run_of}
+use Rattle.pgn_criteria.proofs.Common.{Conditions, no_conditions, Game, Position, Move, Span, Text}
+use Rattle.pgn_criteria.proofs.Common.{Number, Tag, Moves, Plies, Result, PositionCondition}
+use Rattle.pgn_criteria.proofs.Common.{PositionClaim, Turn, Check, Mate, Stalemate, Next, Played}
+use Rattle.pgn_criteria.proofs.Common.{For, Count, Meaning, Nothing, Or, Asks}
+use Rattle.pgn_criteria.specs.Public.Lines.{Accepts}
 use Rattle.pgn_criteria.specs.Public.Lines.SpellsLimit.{one, exactly, at_least, at_most, any}
-use Rattle.pgn_criteria.specs.Public.Comparing.{Compares}
-use Rattle.pgn_criteria.specs.Public.Materials.{limit_of}
-use Rattle.pgn_criteria.specs.Public.Mirrors.{can_be_mirrored}
-use Rattle.pgn_criteria.specs.declared.compare.Comparison.TheVariants.{Less, LessOrEqual}
 use Rattle.pgn_criteria.specs.declared.compare.Relation.TheVariants.{GreaterOrEqual, Has, Begins}
-use Rattle.pgn_criteria.specs.declared.material.Limit.{Limit}
-use Rattle.pgn_criteria.specs.declared.material.Limit.TheVariants.{Exactly, AtLeast, AtMost}
-use Rattle.pgn_criteria.specs.declared.material.Limit.TheVariants.{AnyNumber}
-use Rattle.pgn_criteria.specs.declared.material.Limits.{Limits}
-use Rattle.pgn_criteria.specs.declared.condition.Condition.{Condition}
-use Rattle.pgn_criteria.specs.Private.Reading.{run_of}
-use Rattle.pgn_criteria.specs.Public.Conditions.{Conditions, no_conditions}
-use Rattle.pgn_criteria.specs.declared.condition.Condition.TheVariants.{Game, Position, Move, Span}
-use Rattle.pgn_criteria.specs.declared.condition.ValueClaim.TheVariants.{Text, Number}
-use Rattle.pgn_criteria.specs.declared.condition.GameClaim.TheVariants.{Tag, Moves, Plies, Result}
-use Rattle.pgn_criteria.specs.declared.condition.PositionCondition.{PositionCondition}
-use Rattle.pgn_criteria.specs.declared.condition.PositionClaim.{PositionClaim}
-use Rattle.pgn_criteria.specs.declared.condition.PositionClaim.TheVariants.{Turn, Check, Mate}
-use Rattle.pgn_criteria.specs.declared.condition.PositionClaim.TheVariants.{Stalemate}
-use Rattle.pgn_criteria.specs.declared.condition.MoveClaim.TheVariants.{Next, Played}
-use Rattle.pgn_criteria.specs.declared.condition.SpanClaim.TheVariants.{For, Count}
-use Rattle.pgn_criteria.specs.declared.line.Meaning.{Meaning}
-use Rattle.pgn_criteria.specs.declared.line.Meaning.TheVariants.{Nothing, Or, Asks}
 use Rattle.pgn_criteria.proofs.ClaimFacts.{total, games_are, moves_are, spans_are, claim_not}
 use Rattle.pgn_criteria.proofs.ClaimFacts.{taken_either}
 use Rattle.pgn_criteria.proofs.ConditionFacts.{line_read, either_read}
@@ -209,8 +188,7 @@ limits = record {
   king = Exactly 1;
   queen = Exactly 0;
   rook = AnyNumber;
-  bishop =
-      Exactly 0;
+  bishop = Exactly 0;
   knight = AtMost 3;
   pawn = AtLeast 2;
 }
@@ -542,8 +520,7 @@ no_bytes = (omega arith, (Nothing ∷ [], (Nothing, [], refl, empty, refl), refl
       after = [];
       last = [];
       whole = refl;
-      blank_before =
-          refl;
+      blank_before = refl;
       blank_after = refl;
       end = inl refl;
       spells = inl refl;

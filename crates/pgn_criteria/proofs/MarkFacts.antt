@@ -1,39 +1,26 @@
 -- Where no ply shows the marks that conditions need, the conditions hold nowhere.
-use Rattle.std.proofs.Common.{◌≡◌, ◌⊎◌, inl, inr, ℕ, zero, suc, Bool, true, false, List, [], ◌∷◌}
-use Rattle.std.proofs.Common.{◌+◌, ◌<◌, ◌≤◌, length, map, drop, get_or, max, bit_or, if◌then◌else◌}
-use Rattle.std.proofs.Common.{refl, sym, ap, ◌∙◌, subst, arith, length-drop}
-use Rattle.std.specs.Prelude.{IsTrue, ◌==◌, ◌/◌, ◌%◌, nat_le}
-use Rattle.std.specs.Int.{bit_at}
+use Rattle.std.proofs.Common.{if◌then◌else◌}
+use Rattle.std.specs.Prelude.{IsTrue, ◌/◌, ◌%◌}
 use Rattle.std.proofs.Math.Nat.{max-le, le-max_left, le-max_right}
-use Rattle.std.proofs.lemmas.Bool.Decides.{nat_tests}
-use Rattle.std.proofs.lemmas.Bool.{and_parts, and_right}
 use Rattle.std.proofs.lemmas.Nat.{le_or_l, le_or_r}
-use Rattle.std.proofs.lemmas.Nat.Bits.{bit_at_or, bit_at-lt}
-use Rattle.std.proofs.lemmas.List.{get_or-drop, drop-drop}
-use Rattle.std.specs.List.{AllByRecursion}
-use Rattle.chess.specs.Public.Placements.{Placement, opposite}
-use Rattle.chess.specs.Public.Positions.{State, IsCheck}
-use Rattle.chess.specs.Public.Moves.{HasMove}
-use Rattle.pgn_criteria.specs.Public.Conditions.{Conditions}
-use Rattle.chess.specs.declared.board.man.Side.{Side}
-use Rattle.pgn_game.specs.Public.PlyCodes.{PlyCode, code_of, moved}
-use Rattle.pgn_game.proofs.Cells.{no_cell, same_first}
-use Rattle.pgn_criteria.specs.Public.Prefilters.{MeetsSeen, NowhereSeen, codes_in}
-use Rattle.pgn_criteria.specs.Private.Marks.{FitsSeen, IsMarked, NeedMark, LacksMarks}
-use Rattle.pgn_criteria.specs.Private.Marks.{SaysOfNumbers, asks_mark}
-use Rattle.pgn_criteria.specs.Public.Meeting.{is_turned, Holds, EachHold, PositionsHold}
-use Rattle.pgn_criteria.specs.Public.Mirrors.{mirror, can_be_mirrored}
-use Rattle.pgn_criteria.specs.Private.Stages.{SaysOfSeen, on_positions}
-use Rattle.pgn_criteria.specs.Private.PrefilterTests.{FitsPlaced, Nowhere}
-use Rattle.pgn_criteria.specs.declared.condition.PositionCondition.{PositionCondition}
-use Rattle.pgn_criteria.specs.declared.condition.PositionClaim.{PositionClaim}
-use Rattle.pgn_criteria.specs.declared.condition.PositionClaim.TheVariants.{Material, Check, Mate}
-use Rattle.pgn_criteria.specs.declared.condition.PositionClaim.TheVariants.{Stalemate}
+use Rattle.pgn_criteria.proofs.Common.{◌≡◌, ◌⊎◌, inl, inr, ℕ, zero, suc, Bool, true, false, List}
+use Rattle.pgn_criteria.proofs.Common.{[], ◌∷◌, ◌+◌, ◌<◌, ◌≤◌, length, map, drop, get_or, max}
+use Rattle.pgn_criteria.proofs.Common.{bit_or, refl, sym, ap, ◌∙◌, subst, arith, length-drop, ◌==◌}
+use Rattle.pgn_criteria.proofs.Common.{nat_le, bit_at, nat_tests, and_parts, and_right, bit_at_or}
+use Rattle.pgn_criteria.proofs.Common.{bit_at-lt, get_or-drop, drop-drop, AllByRecursion, Placement}
+use Rattle.pgn_criteria.proofs.Common.{opposite, State, IsCheck, HasMove, Conditions, Side, PlyCode}
+use Rattle.pgn_criteria.proofs.Common.{code_of, moved, same_first, MeetsSeen, NowhereSeen, codes_in}
+use Rattle.pgn_criteria.proofs.Common.{FitsSeen, LacksMarks, SaysOfNumbers, is_turned, Holds}
+use Rattle.pgn_criteria.proofs.Common.{EachHold, PositionsHold, mirror, can_be_mirrored, SaysOfSeen}
+use Rattle.pgn_criteria.proofs.Common.{on_positions, FitsPlaced, Nowhere, PositionCondition}
+use Rattle.pgn_criteria.proofs.Common.{PositionClaim, Material, Check, Mate, Stalemate}
+use Rattle.pgn_game.proofs.Cells.{no_cell}
+use Rattle.pgn_criteria.specs.Private.Marks.{IsMarked, NeedMark, asks_mark}
 use Rattle.pgn_criteria.specs.declared.marks.Mark.{Mark}
-use Rattle.pgn_criteria.specs.declared.marks.Mark.TheVariants as mark
 use Rattle.pgn_criteria.proofs.MirrorFacts.{material_mirrored}
 use Rattle.pgn_criteria.proofs.StageFacts.{positions_met}
 use Rattle.pgn_criteria.proofs.StandFacts.{three, below}
+use Rattle.pgn_criteria.specs.declared.marks.Mark.TheVariants as mark
 
 -- ---- what conditions need
 
@@ -89,8 +76,7 @@ module _ {V : Type 0} (view : V → PositionCondition (List ℕ)) where
   one_of_each P other [] zero own rest at each = absurd (no_cell own rest at)
   one_of_each P other [] (suc i) own rest at each = absurd (no_cell own rest at)
   one_of_each P other (first ∷ more) zero own rest at each =
-      subst (λ (a : V). Holds (if is_turned (view a) then other else P) (view a))
-      (same_first first own more rest at) each.0
+      rw (same_first first own more rest at) at each.0
   one_of_each P other (first ∷ more) (suc i) own rest at each =
       one_of_each P other more i own rest at each.1
 
@@ -108,10 +94,8 @@ module _ {V : Type 0} (view : V → PositionCondition (List ℕ)) where
       here other each =
           let condition = view own in
           let facts = asked which condition.claim asks in
-          facts.1 P (subst (λ denied. SaysOfPosition P denied condition.claim) plain
-          (subst (λ t. Holds (if t then other else P) condition)
-          (and_right condition.is_either (can_be_mirrored condition.claim) facts.0)
-          (one_of_each P other all i own rest at each)))
+          facts.1 P (rw plain at (rw (and_right condition.is_either (can_be_mirrored
+          condition.claim) facts.0) at (one_of_each P other all i own rest at each)))
 
   -- what a line `material` without `not` says is so where all conditions hold
   pub one_material : (all : List V) (i : ℕ) (own : V) (rest : List V) → drop i all ≡ own ∷ rest
@@ -165,11 +149,8 @@ pub marks_on : (check stuck : Bool) (rest rest' : List ℕ) → 3 ≤ length res
     → AllByRecursion (LacksMarks check stuck) (codes_in rest')
     → AllByRecursion (LacksMarks check stuck) (codes_in rest)
 marks_on check stuck rest rest' long same lacks later =
-    subst (AllByRecursion (LacksMarks check stuck)) (sym (three rest long)) (
-      lacks,
-      subst (λ (left : List ℕ).
-          AllByRecursion (LacksMarks check stuck) (codes_in left)) same later,
-    )
+    subst (AllByRecursion (LacksMarks check stuck)) (sym (three rest long))
+    (lacks, rw (← same) later)
 
 -- ---- several plies at once
 
@@ -244,8 +225,7 @@ module _ (check stuck : Bool) (bytes : List ℕ) (so : ℕ → List PlyCode → 
 
   -- eight plies, of which the first bytes together lack a mark that is needed
   pub eight_on : let at : ℕ → ℕ = λ i. get_or bytes i 0 in
-      let any =
-      bit_or (bit_or (bit_or (at 0) (at 3)) (bit_or (at 6) (at 9)))
+      let any = bit_or (bit_or (bit_or (at 0) (at 3)) (bit_or (at 6) (at 9)))
       (bit_or (bit_or (at 12) (at 15)) (bit_or (at 18) (at 21))) in
       (rest : List ℕ) → 24 ≤ length bytes → rest ≡ drop 24 bytes
       → ¬ ((check ≡ true → (any / 64 % 2 == 1) ≡ true) × (stuck ≡ true → nat_le 128 any ≡ true))

@@ -1,10 +1,6 @@
 -- Conditions on the material: what spells one is read as it, and the other way round.
-use Rattle.std.proofs.Common.{◌≡◌, ℕ, List, ◌++◌, refl, sym, subst}
-use Rattle.std.specs.Prelude.{codes}
-use Rattle.pgn_criteria.specs.Private.Reading.{run_of, after_word}
-use Rattle.pgn_criteria.specs.Public.Lines.{SpellsPosition, SpellsLimits}
-use Rattle.pgn_criteria.specs.declared.material.Limits.{Limits}
-use Rattle.pgn_criteria.specs.declared.condition.PositionClaim.TheVariants.{Material}
+use Rattle.pgn_criteria.proofs.Common.{◌≡◌, ℕ, List, ◌++◌, refl, sym, subst, codes, run_of}
+use Rattle.pgn_criteria.proofs.Common.{after_word, SpellsPosition, SpellsLimits, Limits, Material}
 use Rattle.pgn_criteria.proofs.SolidFacts.{BeginsSolid, solid_begins, begins_front, front_some}
 use Rattle.pgn_criteria.proofs.SolidFacts.{word_read, word_spelled}
 use Rattle.pgn_criteria.proofs.LimitFacts.{limits_some, limits_solid}
@@ -22,27 +18,14 @@ limits_begin text limits spells =
 
 pub material_read : (text : List ℕ) (white black : Limits)
     → SpellsPosition text (Material white black) → IsMaterialRead text white black
-material_read text white black (
-  first,
-  second,
-  third,
-  of_white,
-  of_black,
-  is,
-  g,
-  h,
-  k,
-  spells_white,
-  spells_black,
-) =
+material_read text white black
+    (first, second, third, of_white, of_black, is, g, h, k, spells_white, spells_black) =
     let between = codes "v" ++ (third ++ of_black) in
     let one = word_read text (codes "material") first (of_white ++ (second ++ between)) is refl g
     (begins_front of_white (second ++ between) (limits_begin of_white white spells_white)) in
-    let two =
-    word_read (after_word text) of_white second between one.1
+    let two = word_read (after_word text) of_white second between one.1
     (limits_solid of_white white spells_white) h (118, third ++ of_black, refl, refl) in
-    let three =
-    word_read (after_word (after_word text)) (codes "v") third of_black two.1 refl k
+    let three = word_read (after_word (after_word text)) (codes "v") third of_black two.1 refl k
     (limits_begin of_black black spells_black) in
     record {
       key_is = one.0;
@@ -59,11 +42,9 @@ material_spelled text white black read =
     let three =
     word_spelled (after_word (after_word text)) (codes "v") of_black read.between_is refl
     (limits_some of_black black read.black_is) in
-    let two =
-    word_spelled (after_word text) of_white (codes "v"
+    let two = word_spelled (after_word text) of_white (codes "v"
     ++ (three.0 ++ of_black)) refl three.1 (λ none. cc) in
-    let one =
-    word_spelled text (codes "material") (of_white
+    let one = word_spelled text (codes "material") (of_white
     ++ (two.0 ++ (codes "v" ++ (three.0 ++ of_black)))) read.key_is two.1
     (front_some of_white (two.0 ++ (codes "v" ++ (three.0 ++ of_black)))
     (limits_begin of_white white read.white_is)) in (

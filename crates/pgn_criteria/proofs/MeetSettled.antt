@@ -1,52 +1,29 @@
 -- Whether a position of a sound game meets criteria is settled.
-use Rattle.std.proofs.Common.{◌≡◌, ◌<◌, ℕ, zero, suc, ◌+◌, Bool, true, false, List, [], ◌∷◌, length}
-use Rattle.std.proofs.Common.{Some, None, refl, ap, ◌∙◌, sym, subst, inl, inr, arith}
-use Rattle.std.specs.Prelude.{codes, if◌then◌else◌}
-use Rattle.std.specs.List.{slice_get}
-use Rattle.chess.specs.Public.Fen.{parted_at}
-use Rattle.chess.specs.Public.Placements.{AreOnBoard}
-use Rattle.chess.specs.Public.Positions.{State}
-use Rattle.chess.specs.Public.Moves.{IsLegal}
+use Rattle.pgn_criteria.proofs.Common.{◌≡◌, ◌<◌, ℕ, zero, suc, ◌+◌, Bool, true, false, List, []}
+use Rattle.pgn_criteria.proofs.Common.{◌∷◌, length, Some, None, refl, ap, ◌∙◌, sym, subst, inl, inr}
+use Rattle.pgn_criteria.proofs.Common.{arith, codes, if◌then◌else◌, slice_get, parted_at}
+use Rattle.pgn_criteria.proofs.Common.{AreOnBoard, State, IsLegal, cases_eq, cases_lt}
+use Rattle.pgn_criteria.proofs.Common.{slice_get_within, Settled, settled_like, settled_both}
+use Rattle.pgn_criteria.proofs.Common.{settled_either, settled_held, cases_bytes, cases_side}
+use Rattle.pgn_criteria.proofs.Common.{Replay, Heading, HasOneOf, IsSoOfGame, IsSoOfMoves, IsSoAt}
+use Rattle.pgn_criteria.proofs.Common.{Taken, AllTaken, AllHold, HoldsThere, AreAll, SpanHolds}
+use Rattle.pgn_criteria.proofs.Common.{SpansHold, IsMetBy, SomeHold, Meets, is_turned, EachHold}
+use Rattle.pgn_criteria.proofs.Common.{flipped_men, mirror, without_check_signs, FitsWord, FitsMove}
+use Rattle.pgn_criteria.proofs.Common.{FitMoves, IsLike, GoesOnBy, IsReachedBy, AreLegal, words_of}
+use Rattle.pgn_criteria.proofs.Common.{Conditions, Stated, ValueClaim, Text, Number, Date}
+use Rattle.pgn_criteria.proofs.Common.{GameClaim, Tag, Moves, Plies, Result, PositionCondition}
+use Rattle.pgn_criteria.proofs.Common.{PositionClaim, Fen, Flip, Material, Turn, Check, Mate}
+use Rattle.pgn_criteria.proofs.Common.{Stalemate, MoveClaim, Next, Played, SpanClaim, For, Count}
 use Rattle.chess.specs.declared.moves.Move.{Move}
-use Rattle.std.proofs.lemmas.Bool.{cases_eq, cases_lt}
-use Rattle.std.proofs.lemmas.Option.{slice_get_within}
-use Rattle.chess.proofs.Settled.{Settled, settled_like, settled_both, settled_either, settled_held}
-use Rattle.chess.proofs.Settled.{cases_bytes}
-use Rattle.chess.proofs.Searches.{cases_side}
 use Rattle.chess.proofs.LegalSettled.{settled_check}
 use Rattle.chess.proofs.MateSettled.{settled_mate, settled_stalemate}
 use Rattle.chess.proofs.SanOnce.{one_san}
 use Rattle.chess.proofs.SanSettled.{some_san}
 use Rattle.pgn_game.specs.Public.MainLines.{main_words}
-use Rattle.pgn_game.specs.Public.Replays.{Replay}
 use Rattle.pgn_game.proofs.AnAnswer.{start_on_board}
 use Rattle.pgn_game.proofs.OnBoard.{line_on_board, line_legal}
-use Rattle.pgn_criteria.specs.Public.Meeting.{Heading, IsSoOfValue, HasOneOf, IsSoOfGame}
-use Rattle.pgn_criteria.specs.Public.Meeting.{IsSoOfMoves, IsSoAt, Taken, AllTaken, AllHold}
-use Rattle.pgn_criteria.specs.Public.Meeting.{HoldsThere, AreAll, SpanHolds, SpansHold, IsMetBy}
-use Rattle.pgn_criteria.specs.Public.Meeting.{SomeHold, Meets, is_turned, EachHold}
-use Rattle.pgn_criteria.specs.Public.Mirrors.{flipped_men, mirror}
-use Rattle.pgn_criteria.specs.Public.MoveTexts.{without_check_signs, FitsWord, FitsMove, FitMoves}
-use Rattle.pgn_criteria.specs.Public.MoveTexts.{IsLike, GoesOnBy, IsReachedBy}
-use Rattle.pgn_criteria.specs.Private.Stages.{AreLegal}
-use Rattle.pgn_criteria.specs.Public.Words.{words_of}
-use Rattle.pgn_criteria.specs.Public.Comparing.{Compares}
+use Rattle.pgn_criteria.specs.Public.Meeting.{IsSoOfValue}
 use Rattle.pgn_criteria.specs.Public.Laws.{EachPositionMeetsOrDoesNot}
-use Rattle.pgn_criteria.specs.Public.Conditions.{Conditions}
-use Rattle.pgn_criteria.specs.declared.condition.Stated.{Stated}
-use Rattle.pgn_criteria.specs.declared.condition.ValueClaim.{ValueClaim}
-use Rattle.pgn_criteria.specs.declared.condition.ValueClaim.TheVariants.{Text, Number, Date}
-use Rattle.pgn_criteria.specs.declared.condition.GameClaim.{GameClaim}
-use Rattle.pgn_criteria.specs.declared.condition.GameClaim.TheVariants.{Tag, Moves, Plies, Result}
-use Rattle.pgn_criteria.specs.declared.condition.PositionCondition.{PositionCondition}
-use Rattle.pgn_criteria.specs.declared.condition.PositionClaim.{PositionClaim}
-use Rattle.pgn_criteria.specs.declared.condition.PositionClaim.TheVariants.{Fen, Flip, Material}
-use Rattle.pgn_criteria.specs.declared.condition.PositionClaim.TheVariants.{Turn, Check, Mate}
-use Rattle.pgn_criteria.specs.declared.condition.PositionClaim.TheVariants.{Stalemate}
-use Rattle.pgn_criteria.specs.declared.condition.MoveClaim.{MoveClaim}
-use Rattle.pgn_criteria.specs.declared.condition.MoveClaim.TheVariants.{Next, Played}
-use Rattle.pgn_criteria.specs.declared.condition.SpanClaim.{SpanClaim}
-use Rattle.pgn_criteria.specs.declared.condition.SpanClaim.TheVariants.{For, Count}
 use Rattle.pgn_criteria.proofs.MeetFacts.{meets_at}
 use Rattle.pgn_criteria.proofs.MoveFacts.{by_move, star_now, star_on, star_none, star_cases}
 use Rattle.pgn_criteria.proofs.MoveFacts.{byte_now, byte_back, byte_none, by_like}
@@ -136,8 +113,7 @@ settled_byte word b plain each (c ∷ text) =
 settled_alike : (word text : List ℕ) → Settled (IsLike word text)
 settled_alike [] text = cases_bytes text []
 settled_alike (b ∷ word) text = elim (cases_eq b 42) [
-  | inl is ↦ subst (λ n. Settled (IsLike (n ∷ word) text)) (sym is)
-      (settled_star word (settled_alike word) text)
+  | inl is ↦ rw is (settled_star word (settled_alike word) text)
   | inr plain ↦ settled_byte word b plain (settled_alike word) text
 ]
 
@@ -188,8 +164,7 @@ settled_game heading replay (Result result) on_board legal = cases_bytes heading
 settled_ply : (replay : Replay) (ply : ℕ) (claim : MoveClaim (List ℕ))
     → AllOnBoard replay → AreLegal replay → Settled (IsSoOfMoves replay ply claim)
 settled_ply replay ply (Next word) on_board legal = settled_on replay ply word on_board legal
-settled_ply replay ply (Played word) on_board legal =
-    settled_reached replay ply word on_board legal
+settled_ply replay ply (Played word) on_board legal = settled_reached replay ply word on_board legal
 
 settled_position : (P : State) (claim : PositionClaim (List ℕ)) → AreOnBoard P.men
     → Settled (IsSoAt P claim)
@@ -240,8 +215,7 @@ settled_all heading replay ply P asked all legal on_board =
 
 -- the plies at which they hold
 settled_there : (heading : Heading) (replay : Replay) (conditions : Conditions) → AllOnBoard replay
-    → AreLegal replay
-    → (ply : ℕ) → Settled (HoldsThere heading replay conditions ply)
+    → AreLegal replay → (ply : ℕ) → Settled (HoldsThere heading replay conditions ply)
 settled_there heading replay conditions all legal ply =
     elim (slice_get replay.positions ply) as (λ o. slice_get replay.positions ply ≡ o
     → Settled (HoldsThere heading replay conditions ply)) [
@@ -290,8 +264,7 @@ module _ (Such : ℕ → Type 0) (size : ℕ) (settled : (ply : ℕ)
   settled_span ply (Count comparison count) =
       settled_like (λ compares. (all_listed.0, all_listed.1, compares))
       (λ holds.
-      subst (λ n. Compares comparison n count)
-      (one_number Such holds.0 all_listed.0 holds.1 all_listed.1) holds.2)
+      rw (← (one_number Such holds.0 all_listed.0 holds.1 all_listed.1)) holds.2)
       (settled_compared comparison (length all_listed.0) count)
 
   settled_spans : (ply : ℕ) (claims : List SpanClaim) → Settled (SpansHold Such ply claims)
@@ -317,8 +290,7 @@ settled_some heading replay ply P (alternative ∷ more) all legal on_board =
 
 pub each_position_meets : EachPositionMeetsOrDoesNot
 each_position_meets lines fen items replay is heading alternatives plies =
-    let all =
-    line_on_board (main_words items 0) is.start replay.positions replay.played
+    let all = line_on_board (main_words items 0) is.start replay.positions replay.played
     (start_on_board fen is.start is.is_start) is.line in
     let legal = line_legal (main_words items 0) is.start replay.positions replay.played is.line in
     elim (slice_get replay.positions plies) as (λ o. slice_get replay.positions plies ≡ o

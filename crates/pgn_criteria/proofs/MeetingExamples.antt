@@ -1,36 +1,21 @@
 -- Worked rows of lines, values, marks and men of criteria; and what these definitions refuse.
 use Rattle.std.proofs.Common.{◌≡◌, ◌+◌, ◌∙◌, ℕ, zero, suc, true, false, List, [], ◌∷◌, codes, None}
 use Rattle.std.proofs.Common.{Some, inl, inr, refl, sym, subst, arith}
-use Rattle.std.specs.List.{filter, slice_get}
-use Rattle.std.specs.declared.cmp.Ordering.TheVariants as order
-use Rattle.chess.specs.Public.Fen.{row}
-use Rattle.chess.specs.Public.Placements.{Placement}
-use Rattle.chess.specs.Public.Positions.{State, king_of, pawn_of}
-use Rattle.chess.specs.declared.board.man.Kind.{Kind}
-use Rattle.chess.specs.declared.board.man.Side.{Side}
-use Rattle.chess.specs.declared.board.man.Side.TheVariants.{White, Black}
-use Rattle.pgn_game.specs.Public.Replays.{Replay}
-use Rattle.pgn_criteria.specs.Public.ByMarks.{first_place, place_of_marks}
+use Rattle.std.specs.List.{filter}
+use Rattle.pgn_criteria.proofs.Common.{slice_get, row, Placement, State, king_of, Kind, Side, White}
+use Rattle.pgn_criteria.proofs.Common.{Black, Replay, first_place, place_of_marks, AreBlanks}
+use Rattle.pgn_criteria.proofs.Common.{side_text, comparison_text, is_move_byte, Spells, onto_first}
+use Rattle.pgn_criteria.proofs.Common.{FitsSide, FitsMaterial, count_of, limit_of, Holds, IsSoAt}
+use Rattle.pgn_criteria.proofs.Common.{Taken, FitsEitherWay, flipped_men, other_man, FitsMove}
+use Rattle.pgn_criteria.proofs.Common.{AreRanks, FitRanks, FitsPattern, IsPattern, no_conditions}
+use Rattle.pgn_criteria.proofs.Common.{with_condition, Condition, Game, Position, Move, Span}
+use Rattle.pgn_criteria.proofs.Common.{Stated, GameClaim, PositionCondition, MoveClaim, SpanClaim}
+use Rattle.pgn_criteria.proofs.Common.{Nothing, Or, Limits}
+use Rattle.chess.specs.Public.Positions.{pawn_of}
 use Rattle.pgn_criteria.specs.Public.Comparing.{is_number, order_by}
-use Rattle.pgn_criteria.specs.Public.Lines.{AreBlanks, side_text, comparison_text, is_move_byte}
-use Rattle.pgn_criteria.specs.Public.Lines.{Spells, onto_first}
-use Rattle.pgn_criteria.specs.Public.Materials.{Allows, FitsSide, FitsMaterial, count_of, limit_of}
-use Rattle.pgn_criteria.specs.Public.Materials.{squares_to}
-use Rattle.pgn_criteria.specs.Public.Meeting.{Holds, IsSoAt, Taken}
-use Rattle.pgn_criteria.specs.Public.Mirrors.{FitsEitherWay, flipped_men, other_man}
-use Rattle.pgn_criteria.specs.Public.MoveTexts.{FitsMove}
-use Rattle.pgn_criteria.specs.Public.Patterns.{AreRanks, FitRanks, FitsPattern, IsPattern}
+use Rattle.pgn_criteria.specs.Public.Materials.{Allows, squares_to}
+use Rattle.std.specs.declared.cmp.Ordering.TheVariants as order
 use Rattle.pgn_criteria.specs.declared.compare.Comparison.TheVariants as compared
-use Rattle.pgn_criteria.specs.Public.Conditions.{no_conditions, with_condition}
-use Rattle.pgn_criteria.specs.declared.condition.Condition.{Condition}
-use Rattle.pgn_criteria.specs.declared.condition.Condition.TheVariants.{Game, Position, Move, Span}
-use Rattle.pgn_criteria.specs.declared.condition.Stated.{Stated}
-use Rattle.pgn_criteria.specs.declared.condition.GameClaim.{GameClaim}
-use Rattle.pgn_criteria.specs.declared.condition.PositionCondition.{PositionCondition}
-use Rattle.pgn_criteria.specs.declared.condition.MoveClaim.{MoveClaim}
-use Rattle.pgn_criteria.specs.declared.condition.SpanClaim.{SpanClaim}
-use Rattle.pgn_criteria.specs.declared.line.Meaning.TheVariants.{Nothing, Or}
-use Rattle.pgn_criteria.specs.declared.material.Limits.{Limits}
 
 -- Lines.
 
@@ -68,8 +53,7 @@ condition_begins : (condition : Condition (List ℕ))
     → onto_first condition [] ≡ with_condition condition no_conditions ∷ []
 condition_begins condition = refl
 
-condition_comes_first : (first second : PositionCondition (List ℕ))
-    → onto_first (Position first)
+condition_comes_first : (first second : PositionCondition (List ℕ)) → onto_first (Position first)
     (with_condition (Position second) no_conditions ∷ no_conditions ∷ [])
     ≡ record { games = []; positions = first ∷ second ∷ []; moves = []; spans = [] }
     ∷ no_conditions ∷ []
@@ -148,8 +132,7 @@ no_third_way men pattern other flipped fits =
 -- Games.
 
 no_move_after_the_last : (replay : Replay) (plies : ℕ) (word : List ℕ)
-    → slice_get replay.played plies ≡ None
-    → FitsMove replay plies word → ⊥
+    → slice_get replay.played plies ≡ None → FitsMove replay plies word → ⊥
 no_move_after_the_last replay plies word none fits = let both : Some fits.move
     ≡ None = sym fits.played ∙ none in cc
 

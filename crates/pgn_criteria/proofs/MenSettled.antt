@@ -1,17 +1,9 @@
 -- Whether both sides have as many men of each kind as are allowed is settled.
-use Rattle.std.proofs.Common.{ℕ, inl, inr}
-use Rattle.std.proofs.lemmas.Bool.{cases_eq}
-use Rattle.chess.specs.Public.Placements.{Placement}
-use Rattle.chess.specs.declared.board.man.Side.{Side}
-use Rattle.chess.specs.declared.board.man.Side.TheVariants.{White, Black}
-use Rattle.chess.specs.declared.board.man.Kind.{Kind}
-use Rattle.chess.proofs.Settled.{Settled, settled_not, settled_both, settled_le}
+use Rattle.pgn_criteria.proofs.Common.{ℕ, inl, inr, cases_eq, Placement, Side, White, Black, Kind}
+use Rattle.pgn_criteria.proofs.Common.{Settled, settled_not, settled_both, settled_le, Limit}
+use Rattle.pgn_criteria.proofs.Common.{Exactly, AtLeast, AtMost, AnyNumber, Limits}
 use Rattle.chess.proofs.Searches.{search_kind}
 use Rattle.pgn_criteria.specs.Public.Materials.{Allows, count_of, limit_of, FitsSide, FitsMaterial}
-use Rattle.pgn_criteria.specs.declared.material.Limit.{Limit}
-use Rattle.pgn_criteria.specs.declared.material.Limit.TheVariants.{Exactly, AtLeast, AtMost}
-use Rattle.pgn_criteria.specs.declared.material.Limit.TheVariants.{AnyNumber}
-use Rattle.pgn_criteria.specs.declared.material.Limits.{Limits}
 
 settled_limit : (limit : Limit) (count : ℕ) → Settled (Allows limit count)
 settled_limit (Exactly n) count = cases_eq count n

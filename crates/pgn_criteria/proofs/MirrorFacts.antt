@@ -1,21 +1,15 @@
 -- Men with their sides exchanged, and with their files turned: who stands on which square.
-use Rattle.std.proofs.Common.{◌≡◌, ◌↔◌, ◌≤◌, ◌+◌, ◌-◌, ℕ, suc, List, [], ◌∷◌, Option, Some, None}
-use Rattle.std.proofs.Common.{refl, sym, ap, ◌∙◌, subst, inl, inr, arith}
-use Rattle.std.specs.Prelude.{map, option_map, count_by, reverse, if◌then◌else◌}
-use Rattle.std.proofs.lemmas.List.Sums.{sum_by-append}
+use Rattle.std.specs.Prelude.{map, reverse}
 use Rattle.std.proofs.lemmas.List.Folds.{fold-map}
-use Rattle.chess.specs.Public.Squares.{Place, IsOnBoard, square_at}
-use Rattle.chess.specs.Shared.SetFacts.{square_at-index_of}
+use Rattle.pgn_criteria.proofs.Common.{◌≡◌, ◌↔◌, ◌≤◌, ◌+◌, ◌-◌, ℕ, suc, List, [], ◌∷◌, Option, Some}
+use Rattle.pgn_criteria.proofs.Common.{None, refl, sym, ap, ◌∙◌, subst, inl, inr, arith, option_map}
+use Rattle.pgn_criteria.proofs.Common.{count_by, if◌then◌else◌, sum_by-append, Place, IsOnBoard}
+use Rattle.pgn_criteria.proofs.Common.{square_at, square_at-index_of, Placement, man_at, AreOnBoard}
+use Rattle.pgn_criteria.proofs.Common.{row, Man, White, Black, opposite-opposite, limit_of, is_man}
+use Rattle.pgn_criteria.proofs.Common.{count_of, FitsMaterial, other_man, across, beside, Limits}
 use Rattle.chess.specs.Shared.CellFacts.{man_at-men_of, on_board-men_of, same_men, on_board_or_not}
-use Rattle.chess.specs.Public.Placements.{Placement, man_at, AreOnBoard}
-use Rattle.chess.specs.Public.Fen.{row}
-use Rattle.chess.specs.declared.board.man.Man.{Man}
-use Rattle.chess.specs.declared.board.man.Side.TheVariants.{White, Black}
-use Rattle.chess.proofs.PlaceFacts.{opposite-opposite}
-use Rattle.pgn_criteria.specs.Public.Materials.{Allows, limit_of, is_man, squares_to, count_of}
-use Rattle.pgn_criteria.specs.Public.Materials.{FitsMaterial}
-use Rattle.pgn_criteria.specs.Public.Mirrors.{other_man, across, beside, mirrored_men, flipped_men}
-use Rattle.pgn_criteria.specs.declared.material.Limits.{Limits}
+use Rattle.pgn_criteria.specs.Public.Materials.{Allows, squares_to}
+use Rattle.pgn_criteria.specs.Public.Mirrors.{mirrored_men, flipped_men}
 use Rattle.pgn_criteria.proofs.CountFacts.{is_man-same, is_man-then, true_both}
 
 -- the man of the other side, or none
@@ -51,8 +45,7 @@ across_on s on =
     record {
       file_low = on.file_low;
       file_high = on.file_high;
-      rank_low =
-          omega arith;
+      rank_low = omega arith;
       rank_high = omega arith;
     }
 
@@ -63,8 +56,7 @@ beside_on s on =
     record {
       file_low = omega arith;
       file_high = omega arith;
-      rank_low =
-          on.rank_low;
+      rank_low = on.rank_low;
       rank_high = on.rank_high;
     }
 
@@ -142,8 +134,7 @@ mirrored_twice men on =
     (λ s on_s.
     mirrored_at (mirrored_men men) s on_s
     ∙ ap exchanged (mirrored_at men (across s) (across_on s on_s))
-    ∙ square_twice (man_at men (across (across s)))
-    ∙ ap (man_at men) (across_twice s on_s))
+    ∙ square_twice (man_at men (across (across s))) ∙ ap (man_at men) (across_twice s on_s))
 
 pub flipped_twice : (men : Placement) → AreOnBoard men → flipped_men (flipped_men men) ≡ men
 flipped_twice men on =
@@ -186,8 +177,7 @@ no_squares : (men : Placement) (man : Man) → count_by (is_man man) (squares_to
 unfolding squares_to
 no_squares men man = refl
 
-eight_rows : (men : Placement) (man : Man)
-    → count_of men man
+eight_rows : (men : Placement) (man : Man) → count_of men man
     ≡ (((((((count_by (is_man man) (row men 1) + count_by (is_man man) (row men 2))
     + count_by (is_man man) (row men 3))
     + count_by (is_man man) (row men 4)) + count_by (is_man man) (row men 5))

@@ -1,15 +1,11 @@
 -- The mirror of the mirror is the position itself, and alternatives of conditions with `either`
 -- hold of both.
-use Rattle.std.proofs.Common.{◌≡◌, ◌↔◌, ℕ, Bool, true, false, List, [], ◌∷◌, Option, Some, None}
-use Rattle.std.proofs.Common.{refl, sym, ap, ◌∙◌, subst, inl, inr}
-use Rattle.std.specs.Prelude.{if◌then◌else◌, option_map}
-use Rattle.chess.specs.Public.Squares.{Place, IsOnBoard}
-use Rattle.chess.specs.Public.Positions.{State}
-use Rattle.chess.proofs.PlaceFacts.{opposite-opposite}
+use Rattle.pgn_criteria.proofs.Common.{◌≡◌, ◌↔◌, ℕ, Bool, true, false, List, [], ◌∷◌, Option, Some}
+use Rattle.pgn_criteria.proofs.Common.{None, refl, sym, ap, ◌∙◌, subst, inl, inr, if◌then◌else◌}
+use Rattle.pgn_criteria.proofs.Common.{option_map, Place, IsOnBoard, State, opposite-opposite}
+use Rattle.pgn_criteria.proofs.Common.{Holds, EachHold, PositionsHold, is_turned, across, mirror}
+use Rattle.pgn_criteria.proofs.Common.{PositionCondition}
 use Rattle.pgn_criteria.specs.Public.Laws.{MirrorIsUndone, StandsOnBoard, AreTurned, SidesAreAlike}
-use Rattle.pgn_criteria.specs.Public.Meeting.{Holds, EachHold, PositionsHold, is_turned}
-use Rattle.pgn_criteria.specs.Public.Mirrors.{across, mirror}
-use Rattle.pgn_criteria.specs.declared.condition.PositionCondition.{PositionCondition}
 use Rattle.pgn_criteria.proofs.MirrorFacts.{mirrored_twice, across_twice}
 
 passed_twice : (square : Option Place) → ((s : Place) → square ≡ Some s → IsOnBoard s)

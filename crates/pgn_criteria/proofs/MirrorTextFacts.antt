@@ -1,27 +1,18 @@
 -- The text of a mirrored pattern is fitted by what its mirror fits the pattern.
-use Rattle.std.proofs.Common.{◌≡◌, ◌≢◌, ◌↔◌, ◌≤◌, ◌+◌, ◌-◌, ℕ, zero, suc, Bool, true, false, List}
-use Rattle.std.proofs.Common.{[], ◌∷◌, ◌++◌, Option, Some, None, IsTrue, refl, sym, ap, ◌∙◌, subst}
-use Rattle.std.proofs.Common.{append_assoc, arith}
-use Rattle.std.specs.Prelude.{map, replicate, ◌==◌, ◌||◌, if◌then◌else◌}
-use Rattle.std.specs.List.{list_all}
-use Rattle.std.proofs.lemmas.Bool.{eqb-true, eq-eqb, and_parts, and_from}
-use Rattle.std.proofs.lemmas.Bool.Decides.{nat_tests}
-use Rattle.std.proofs.lemmas.List.{map-append}
-use Rattle.chess.specs.Public.Placements.{Placement, opposite}
-use Rattle.chess.specs.Public.Letters.{man_letter}
-use Rattle.chess.specs.Public.Fen.{IsSquares, letter, step, parted_at, before_first, has_byte, row}
-use Rattle.chess.specs.declared.board.man.Man.{Man}
-use Rattle.chess.specs.declared.board.man.Side.{Side}
-use Rattle.chess.specs.declared.board.man.Side.TheVariants.{White, Black}
-use Rattle.chess.specs.declared.board.man.Kind.{Kind}
-use Rattle.chess.specs.declared.board.man.Kind.TheVariants.{King}
-use Rattle.chess.proofs.FieldFacts.{parted_by_run}
-use Rattle.pgn_criteria.specs.Public.Patterns.{AreMen, IsStretch, spelled, any, occupied, white}
-use Rattle.pgn_criteria.specs.Public.Patterns.{black, many, among, other, CanBeSplit, FitRanks}
-use Rattle.pgn_criteria.specs.Public.Patterns.{FitsPattern, AreRanks, IsPattern, items_where}
-use Rattle.pgn_criteria.specs.Private.Items.{is_letter, items_of}
-use Rattle.pgn_criteria.specs.Public.Mirrors.{other_man, mirrored_men}
-use Rattle.pgn_criteria.specs.Private.Turning.{other_letter, turned_ranks, turned}
+use Rattle.std.specs.Prelude.{map}
+use Rattle.pgn_criteria.proofs.Common.{◌≡◌, ◌≢◌, ◌↔◌, ◌≤◌, ◌+◌, ◌-◌, ℕ, zero, suc, Bool, true}
+use Rattle.pgn_criteria.proofs.Common.{false, List, [], ◌∷◌, ◌++◌, Option, Some, None, IsTrue, refl}
+use Rattle.pgn_criteria.proofs.Common.{sym, ap, ◌∙◌, subst, append_assoc, arith, replicate, ◌==◌}
+use Rattle.pgn_criteria.proofs.Common.{◌||◌, if◌then◌else◌, list_all, eqb-true, eq-eqb, and_parts}
+use Rattle.pgn_criteria.proofs.Common.{and_from, nat_tests, map-append, Placement, opposite}
+use Rattle.pgn_criteria.proofs.Common.{man_letter, IsSquares, letter, step, parted_at, before_first}
+use Rattle.pgn_criteria.proofs.Common.{has_byte, row, Man, Side, White, Black, Kind, King}
+use Rattle.pgn_criteria.proofs.Common.{parted_by_run, AreMen, IsStretch, CanBeSplit, FitRanks}
+use Rattle.pgn_criteria.proofs.Common.{FitsPattern, AreRanks, IsPattern, items_where, is_letter}
+use Rattle.pgn_criteria.proofs.Common.{items_of, other_man, mirrored_men, other_letter, turned}
+use Rattle.pgn_criteria.specs.Public.Patterns.{spelled, any, occupied, white, black, many, among}
+use Rattle.pgn_criteria.specs.Public.Patterns.{other}
+use Rattle.pgn_criteria.specs.Private.Turning.{turned_ranks}
 use Rattle.pgn_criteria.proofs.CountFacts.{true_both}
 use Rattle.pgn_criteria.proofs.SetFacts.{all_men, letter_in}
 use Rattle.pgn_criteria.proofs.MirrorFacts.{exchanged, man_twice, squares_twice, row_mirrored}
@@ -79,8 +70,7 @@ some_letters (b ∷ x) some = λ e. cc
 men_other : (letters : List ℕ) → AreMen letters → AreMen (map other_letter letters)
 men_other letters are = (some_letters letters are.0, all_letters letters are.1)
 
-has_other : (letters : List ℕ) (man : Man)
-    → has_byte (man_letter man) (map other_letter letters)
+has_other : (letters : List ℕ) (man : Man) → has_byte (man_letter man) (map other_letter letters)
     ≡ has_byte (man_letter (other_man man)) letters
 has_other [] man = refl
 has_other (a ∷ x) man =
@@ -139,9 +129,8 @@ squares_other _ _ (letter man) =
     subst (λ n. IsStretch (n ∷ []) (Some (other_man man) ∷ [])) (sym (letter_is man))
     (spelled (man_letter (other_man man)) (Some (other_man man) ∷ []) (letter (other_man man)))
 squares_other _ _ (step n low high) =
-    subst (λ m. IsStretch (m ∷ []) (map exchanged (replicate n None))) (sym (digit_kept n high))
-    (subst (IsStretch ((48 + n) ∷ [])) (sym (no_men_kept n))
-    (spelled (48 + n) (replicate n None) (step n low high)))
+    rw (digit_kept n high) (subst (IsStretch ((48 + n) ∷ [])) (sym (no_men_kept n)) (spelled (48 +
+    n) (replicate n None) (step n low high)))
 
 side_other : (man : Man) (side : Side) → man.side ≡ side → (other_man man).side ≡ opposite side
 side_other man side is = ap opposite is
@@ -169,14 +158,11 @@ stretch_other _ _ (among letters man are has) =
     let found : has_byte (man_letter own) (map other_letter letters) ≡ true =
     has_other letters own ∙ ap (λ (m : Man). has_byte (man_letter m) letters) (man_twice man)
     ∙ has in
-    subst (λ x. IsStretch (91 ∷ x) (Some own ∷ []))
-    (sym (map-append other_letter letters (93 ∷ [])))
-    (among (map other_letter letters) own (men_other letters are) found)
+    rw (map-append other_letter letters (93 ∷ [])) (among (map other_letter letters) own (men_other
+    letters are) found)
 stretch_other _ _ (other letters square are none) =
-    subst (λ x. IsStretch (91 ∷ 94 ∷ x) (exchanged square ∷ []))
-    (sym (map-append other_letter letters (93 ∷ [])))
-    (other (map other_letter letters) (exchanged square) (men_other letters are)
-    (none_other letters square none))
+    rw (map-append other_letter letters (93 ∷ [])) (other (map other_letter letters) (exchanged
+    square) (men_other letters are) (none_other letters square none))
 
 split_other : (items : List (List ℕ)) (squares : List (Option Man)) → CanBeSplit items squares
     → CanBeSplit (map (map other_letter) items) (map exchanged squares)
@@ -192,8 +178,7 @@ split_other (item ∷ items) squares (own, more, is, stretch, rest) = (
 rank_other : (rank : List ℕ) (squares : List (Option Man)) → CanBeSplit (items_of rank) squares
     → CanBeSplit (items_of (map other_letter rank)) (map exchanged squares)
 rank_other rank squares split =
-    subst (λ items. CanBeSplit items (map exchanged squares)) (sym (items_other false rank))
-    (split_other (items_of rank) squares split)
+    rw (items_other false rank) (split_other (items_of rank) squares split)
 
 -- ---- eight ranks
 
@@ -318,8 +303,7 @@ whole_more : (b : ℕ) (x : List ℕ) → (b == 47) ≡ false → IsWhole x → 
 whole_more b x differs is =
     ap (λ t. if t then [] ∷ parted_at 47 (map other_letter x)
     else before_first (other_letter b) (parted_at 47 (map other_letter x))) (same_test b 47
-    ∙ differs)
-    ∙ ap (before_first (other_letter b)) is
+    ∙ differs) ∙ ap (before_first (other_letter b)) is
 
 front_whole : (b : ℕ) (ranks : List (List ℕ)) → (b == 47) ≡ false → AllWhole ranks
     → AllWhole (before_first b ranks)
@@ -370,8 +354,7 @@ turned_parts text =
 to_mirror : (men : Placement) → AreTurned men (mirrored_men men)
 to_mirror men r low high =
     let back : 9 - (9 - r) ≡ r = omega arith in
-    row_mirrored men (9 - r) (omega arith) (omega arith)
-    ∙ ap (λ n. map exchanged (row men n)) back
+    row_mirrored men (9 - r) (omega arith) (omega arith) ∙ ap (λ n. map exchanged (row men n)) back
 
 from_mirror : (men : Placement) → AreTurned (mirrored_men men) men
 from_mirror men r low high =

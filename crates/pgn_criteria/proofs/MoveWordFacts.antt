@@ -2,15 +2,11 @@
 -- a position.
 use Rattle.std.proofs.Common.{◌≡◌, ◌≢◌, ◌<◌, ℕ, true, false, List, [], ◌∷◌, ◌++◌, length, refl, sym}
 use Rattle.std.proofs.Common.{ap, ◌∙◌, subst, inl, inr, append-nil, arith, length-append}
-use Rattle.std.specs.Prelude.{codes, ◌⊎◌, ◌≤◌, ◌+◌, ◌||◌, ◌==◌, if◌then◌else◌}
-use Rattle.std.specs.List.{list_all}
-use Rattle.std.proofs.lemmas.Bool.Decides.{nat_tests}
-use Rattle.pgn_criteria.specs.Public.Words.{is_blank}
-use Rattle.pgn_criteria.specs.Private.Reading.{run_of, after_run, after_blanks, after_word}
-use Rattle.pgn_criteria.specs.Public.Lines.{is_move_byte, IsMoveWord, IsMoveLike, AreMoveWords}
-use Rattle.pgn_criteria.specs.Public.Lines.{a_word, and_words, SpellsGame, SpellsMove}
-use Rattle.pgn_criteria.specs.declared.condition.GameClaim.TheVariants.{Moves}
-use Rattle.pgn_criteria.specs.declared.condition.MoveClaim.TheVariants.{Next, Played}
+use Rattle.std.specs.Prelude.{◌⊎◌, ◌≤◌, ◌+◌}
+use Rattle.pgn_criteria.proofs.Common.{codes, ◌||◌, ◌==◌, if◌then◌else◌, list_all, nat_tests}
+use Rattle.pgn_criteria.proofs.Common.{is_blank, run_of, after_run, after_blanks, after_word}
+use Rattle.pgn_criteria.proofs.Common.{is_move_byte, IsMoveWord, IsMoveLike, AreMoveWords, a_word}
+use Rattle.pgn_criteria.proofs.Common.{and_words, SpellsGame, SpellsMove, Moves, Next, Played}
 use Rattle.pgn_criteria.proofs.WordFacts.{run_whole}
 use Rattle.pgn_criteria.proofs.SolidFacts.{is_solid, AreSolid, BeginsSolid, EndsSolid, all_solid}
 use Rattle.pgn_criteria.proofs.SolidFacts.{solid_begins, solid_ends, begins_front, begins_some}
@@ -45,8 +41,7 @@ words_read x (a_word word is) =
     let alone = word_alone word (word_solid word is) in
     (subst IsMoveWord (sym alone.0) is, inl alone.1)
 words_read x (and_words word gap more is g are) =
-    let read =
-    word_read (word ++ (gap ++ more)) word gap more refl (word_solid word is) g
+    let read = word_read (word ++ (gap ++ more)) word gap more refl (word_solid word is) g
     (words_begin more are) in
     (subst IsMoveWord (sym read.0) is, inr (subst AreMoveWords (sym read.1) are))
 
@@ -57,8 +52,7 @@ last_word x is none =
 
 pub first_word : (x : List ℕ) → IsMoveWord (run_of x) → AreMoveWords (after_word x) → AreMoveWords x
 first_word x is are =
-    let spelled =
-    word_spelled x (run_of x) (after_word x) refl refl
+    let spelled = word_spelled x (run_of x) (after_word x) refl refl
     (begins_some (after_word x) (words_begin (after_word x) are)) in
     subst AreMoveWords (sym spelled.1)
     (and_words (run_of x) spelled.0 (after_word x) is spelled.2 are)
@@ -98,8 +92,7 @@ moves_read text words ((gap, is, g), are) =
 pub moves_spelled : (text words : List ℕ) → run_of text ≡ codes "moves" → words ≡ after_word text
     → AreMoveWords words → SpellsGame text (Moves words)
 moves_spelled text words run after are =
-    let spelled =
-    word_spelled text (codes "moves") words run (sym after)
+    let spelled = word_spelled text (codes "moves") words run (sym after)
     (begins_some words (words_begin words are)) in
     (spelled, are)
 

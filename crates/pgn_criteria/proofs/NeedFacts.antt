@@ -1,18 +1,11 @@
 -- Where a rank can be split, items of a fixed size take squares that are known.
-use Rattle.std.proofs.Common.{◌≡◌, ◌≤◌, ◌+◌, ◌-◌, ℕ, List, ◌∷◌, ◌++◌, length, drop, Option, refl}
-use Rattle.std.proofs.Common.{sym, ap, ◌∙◌, subst, arith, length-drop, length-append}
-use Rattle.std.proofs.Math.Seq.{drop-append_seam}
-use Rattle.std.proofs.lemmas.List.{drop-drop}
-use Rattle.chess.specs.declared.board.man.Man.{Man}
-use Rattle.pgn_criteria.specs.Public.Patterns.{CanBeSplit, IsStretch}
-use Rattle.pgn_criteria.specs.Private.Items.{Fits, Reads}
-use Rattle.pgn_criteria.specs.declared.rank.SquareTest.{SquareTest}
-use Rattle.pgn_criteria.specs.declared.rank.Item.{Item}
-use Rattle.pgn_criteria.specs.declared.rank.Item.TheVariants.{Run}
+use Rattle.pgn_criteria.proofs.Common.{◌≡◌, ◌≤◌, ◌+◌, ◌-◌, ℕ, List, ◌∷◌, ◌++◌, length, drop, Option}
+use Rattle.pgn_criteria.proofs.Common.{refl, sym, ap, ◌∙◌, subst, arith, length-drop, length-append}
+use Rattle.pgn_criteria.proofs.Common.{drop-append_seam, drop-drop, Man, CanBeSplit, IsStretch}
+use Rattle.pgn_criteria.proofs.Common.{Fits, Reads, SquareTest, Item, Run}
 
 pub count_taken : (text : List ℕ) (item : Item) (class : SquareTest) (count : ℕ) → Reads text item
-    → item ≡ Run class count
-    → (own : List (Option Man)) → IsStretch text own → length own ≡ count
+    → item ≡ Run class count → (own : List (Option Man)) → IsStretch text own → length own ≡ count
 count_taken text item class count reads run own stretch =
     (subst (λ i. Fits i own) run ((reads.1 own).0 stretch)).0
 

@@ -1,23 +1,17 @@
 -- Numbers of 1 to 18 digits.
-use Rattle.std.proofs.Common.{◌≡◌, ◌≤◌, ◌<◌, ◌+◌, ◌*◌, ◌-◌, ◌^◌, ℕ, suc, Bool, true, false, not}
-use Rattle.std.proofs.Common.{◌||◌, ◌&&◌, List, [], ◌∷◌, length, Option, Some, None, refl, sym, ap}
-use Rattle.std.proofs.Common.{◌∙◌, subst, inl, inr, zero-add, arith}
-use Rattle.std.specs.Prelude.{◌==◌, nat_le, if◌then◌else◌}
-use Rattle.std.specs.List.{list_all}
-use Rattle.std.proofs.lemmas.Bool.{cases_eq}
-use Rattle.std.proofs.lemmas.Bool.Decides.{nat_tests}
+use Rattle.std.proofs.Common.{◌||◌, ◌&&◌, zero-add}
 use Rattle.std.proofs.Math.Nat.{pow-le-pow_right}
-use Rattle.chess.specs.Public.Fen.{number_from}
+use Rattle.pgn_criteria.proofs.Common.{◌≡◌, ◌≤◌, ◌<◌, ◌+◌, ◌*◌, ◌-◌, ◌^◌, ℕ, suc, Bool, true, false}
+use Rattle.pgn_criteria.proofs.Common.{not, List, [], ◌∷◌, length, Option, Some, None, refl, ap}
+use Rattle.pgn_criteria.proofs.Common.{◌∙◌, inl, inr, arith, ◌==◌, nat_le, if◌then◌else◌, list_all}
+use Rattle.pgn_criteria.proofs.Common.{cases_eq, nat_tests, number_from, number_in, number_after}
 use Rattle.pgn_text.specs.Public.Bytes.{is_digit}
-use Rattle.pgn_criteria.specs.Public.Comparing.{number_in}
-use Rattle.pgn_criteria.specs.Private.Numbers.{number_after}
 
 -- a size from 1 to 18
 abbrev is_size : ℕ → Bool
 is_size n = nat_le 1 n && nat_le n 18
 
-size_end : (number digits : ℕ) → digits ≤ 18
-    → (if digits == 0 then None else Some number)
+size_end : (number digits : ℕ) → digits ≤ 18 → (if digits == 0 then None else Some number)
     ≡ (if (is_size (digits + 0) && true) then Some number else None)
 size_end number digits few =
     elim (cases_eq digits 0)
@@ -34,16 +28,13 @@ byte_step : (digits n : ℕ) (digit all : Bool) (rest : Option ℕ) (found : ℕ
     ≡ (if (is_size (digits + suc n) && (digit && all)) then Some found else None)
 byte_step digits n digit all rest found few goes = elim (cases_eq digits 18) [
   | inl same ↦
-      subst (λ d. (if (d == 18 || not digit) then None else rest)
-      ≡ (if (is_size (d + suc n) && (digit && all)) then Some found else None)) (sym same)
-      (rw (size_past n) refl)
+      rw same (rw (size_past n) refl)
   | inr other ↦
       let e : (digits == 18) ≡ false = grind (arith, nat_tests) in
       rw e (by_digit digit other)
 ]
   where
-    by_digit : (d : Bool) → (digits ≡ 18 → ⊥)
-        → (if (not d) then None else rest)
+    by_digit : (d : Bool) → (digits ≡ 18 → ⊥) → (if (not d) then None else rest)
         ≡ (if (is_size (digits + suc n) && (d && all)) then Some found else None)
     by_digit true other =
         let sum : (digits + 1) + n ≡ digits + suc n = omega arith in

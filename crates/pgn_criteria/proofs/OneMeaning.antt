@@ -1,46 +1,26 @@
 -- An accepted text has one meaning: its lines are cut in one way, and each kind of claim has its
 -- own first word, as a denied claim has.
-use Rattle.std.proofs.Common.{◌≡◌, ◌≤◌, ℕ, Bool, true, false, List, [], ◌∷◌, ◌++◌, length, get_or}
-use Rattle.std.proofs.Common.{refl, sym, ap, ◌∙◌, subst, inl, inr, arith}
-use Rattle.std.specs.Prelude.{codes, ◌+◌, ◌==◌, if◌then◌else◌}
-use Rattle.std.proofs.lemmas.List.{append_cancel_right}
-use Rattle.chess.specs.Public.Fen.{parted_at, number_from}
-use Rattle.chess.specs.declared.board.man.Side.{Side}
-use Rattle.chess.specs.declared.board.man.Side.TheVariants.{White, Black}
-use Rattle.chess.specs.declared.board.man.Kind.{Kind}
-use Rattle.chess.specs.declared.board.man.Kind.TheVariants.{King, Queen, Rook, Bishop, Knight, Pawn}
-use Rattle.pgn_criteria.specs.Private.Reading.{run_of, after_word, core_of, ReadsWord}
-use Rattle.pgn_criteria.specs.Public.Materials.{limit_of}
-use Rattle.pgn_criteria.specs.Public.Lines.{SpellsTag, SpellsGame, SpellsPosition, SpellsMove}
-use Rattle.pgn_criteria.specs.Public.Lines.{SpellsDays, SpellsSpan, SpellsTaken, SpellsTurned}
-use Rattle.pgn_criteria.specs.Public.Lines.{SpellsCondition, SpellsLimits, Spells, IsLine, AreLines}
-use Rattle.pgn_criteria.specs.Public.Lines.{side_text, relation_text, comparison_text}
-use Rattle.pgn_criteria.specs.Public.Lines.{alternatives_of, IsFirstBad}
+use Rattle.std.specs.Prelude.{◌+◌}
+use Rattle.pgn_criteria.proofs.Common.{◌≡◌, ◌≤◌, ℕ, Bool, true, false, List, [], ◌∷◌, ◌++◌, length}
+use Rattle.pgn_criteria.proofs.Common.{get_or, refl, sym, ap, ◌∙◌, subst, inl, inr, arith, codes}
+use Rattle.pgn_criteria.proofs.Common.{◌==◌, if◌then◌else◌, append_cancel_right, parted_at}
+use Rattle.pgn_criteria.proofs.Common.{number_from, Side, White, Black, Kind, King, Queen, Rook}
+use Rattle.pgn_criteria.proofs.Common.{Bishop, Knight, Pawn, run_of, after_word, core_of, ReadsWord}
+use Rattle.pgn_criteria.proofs.Common.{limit_of, SpellsTag, SpellsGame, SpellsPosition, SpellsMove}
+use Rattle.pgn_criteria.proofs.Common.{SpellsDays, SpellsSpan, SpellsTaken, SpellsTurned}
+use Rattle.pgn_criteria.proofs.Common.{SpellsCondition, SpellsLimits, Spells, IsLine, AreLines}
+use Rattle.pgn_criteria.proofs.Common.{side_text, relation_text, comparison_text, alternatives_of}
+use Rattle.pgn_criteria.proofs.Common.{IsFirstBad, Comparison, Relation, Has, Begins, Limits}
+use Rattle.pgn_criteria.proofs.Common.{Condition, Game, Position, Move, Span, ValueClaim, Text}
+use Rattle.pgn_criteria.proofs.Common.{Number, Date, GameClaim, Tag, Moves, Plies, Result}
+use Rattle.pgn_criteria.proofs.Common.{PositionClaim, Fen, Flip, Material, Turn, Check, Mate}
+use Rattle.pgn_criteria.proofs.Common.{Stalemate, MoveClaim, Next, Played, SpanClaim, For, Count}
+use Rattle.pgn_criteria.proofs.Common.{Meaning, Nothing, Or, Asks}
 use Rattle.pgn_criteria.specs.Public.Laws.{TextHasOneMeaning, TextHasOneAnswer}
 use Rattle.pgn_criteria.specs.Public.Laws.{MemoryIsTheOnlyFault}
-use Rattle.pgn_criteria.specs.declared.compare.Comparison.{Comparison}
-use Rattle.pgn_criteria.specs.declared.compare.Comparison.TheVariants as compared
-use Rattle.pgn_criteria.specs.declared.compare.Relation.{Relation}
 use Rattle.pgn_criteria.specs.declared.compare.Relation.TheVariants.{Equal, Unequal, Less}
 use Rattle.pgn_criteria.specs.declared.compare.Relation.TheVariants.{LessOrEqual, Greater}
-use Rattle.pgn_criteria.specs.declared.compare.Relation.TheVariants.{GreaterOrEqual, Has, Begins}
-use Rattle.pgn_criteria.specs.declared.material.Limits.{Limits}
-use Rattle.pgn_criteria.specs.declared.condition.Condition.{Condition}
-use Rattle.pgn_criteria.specs.declared.condition.Condition.TheVariants.{Game, Position, Move, Span}
-use Rattle.pgn_criteria.specs.declared.condition.ValueClaim.{ValueClaim}
-use Rattle.pgn_criteria.specs.declared.condition.ValueClaim.TheVariants.{Text, Number, Date}
-use Rattle.pgn_criteria.specs.declared.condition.GameClaim.{GameClaim}
-use Rattle.pgn_criteria.specs.declared.condition.GameClaim.TheVariants.{Tag, Moves, Plies, Result}
-use Rattle.pgn_criteria.specs.declared.condition.PositionClaim.{PositionClaim}
-use Rattle.pgn_criteria.specs.declared.condition.PositionClaim.TheVariants.{Fen, Flip, Material}
-use Rattle.pgn_criteria.specs.declared.condition.PositionClaim.TheVariants.{Turn, Check, Mate}
-use Rattle.pgn_criteria.specs.declared.condition.PositionClaim.TheVariants.{Stalemate}
-use Rattle.pgn_criteria.specs.declared.condition.MoveClaim.{MoveClaim}
-use Rattle.pgn_criteria.specs.declared.condition.MoveClaim.TheVariants.{Next, Played}
-use Rattle.pgn_criteria.specs.declared.condition.SpanClaim.{SpanClaim}
-use Rattle.pgn_criteria.specs.declared.condition.SpanClaim.TheVariants.{For, Count}
-use Rattle.pgn_criteria.specs.declared.line.Meaning.{Meaning}
-use Rattle.pgn_criteria.specs.declared.line.Meaning.TheVariants.{Nothing, Or, Asks}
+use Rattle.pgn_criteria.specs.declared.compare.Relation.TheVariants.{GreaterOrEqual}
 use Rattle.pgn_criteria.proofs.TurnFacts.{turn_read}
 use Rattle.pgn_criteria.proofs.FenFacts.{fen_read, flip_read}
 use Rattle.pgn_criteria.proofs.PliesFacts.{IsComparedRead, plies_read, counted_read, for_read}
@@ -55,6 +35,7 @@ use Rattle.pgn_criteria.proofs.ClaimFacts.{game_key, games_are, position_key, po
 use Rattle.pgn_criteria.proofs.ClaimFacts.{move_key, moves_are, span_key, spans_are, taken_own}
 use Rattle.pgn_criteria.proofs.ClaimFacts.{taken_read, taken_word, taken_either, same_key}
 use Rattle.pgn_criteria.proofs.ConditionFacts.{line_read, either_read, turned_own}
+use Rattle.pgn_criteria.specs.declared.compare.Comparison.TheVariants as compared
 
 -- texts of relations and sides are those of one
 abbrev pub relation_at : ℕ → Relation
@@ -96,8 +77,7 @@ same_limits a b each =
       queen = queen i;
       rook = rook i;
       bishop = bishop i;
-      knight =
-          knight i;
+      knight = knight i;
       pawn = pawn i;
     }
 
@@ -169,8 +149,7 @@ one_compared key text comparison other count number is has = (
 )
 
 one_fen : (text pattern other : List ℕ) → SpellsPosition text (Fen pattern)
-    → SpellsPosition text (Fen other)
-    → pattern ≡ other
+    → SpellsPosition text (Fen other) → pattern ≡ other
 one_fen text pattern other spells has =
     sym (fen_read text pattern spells).1 ∙ (fen_read text other has).1
 
@@ -204,8 +183,7 @@ one_game text (Tag names value) (Tag other claim) spells has =
 one_game text (Moves words) (Moves other) spells has =
     ap Moves (sym (moves_read text words spells).1 ∙ (moves_read text other has).1)
 one_game text (Plies comparison count) (Plies other number) spells has =
-    let same =
-    one_compared (codes "plies") text comparison other count number
+    let same = one_compared (codes "plies") text comparison other count number
     (plies_read text comparison count spells) (plies_read text other number has) in
     ap (λ x. Plies x count) same.0 ∙ ap (λ x. Plies other x) same.1
 one_game text (Result result) (Result other) spells has =
@@ -253,8 +231,7 @@ unfolding spans_are
 one_span text (For count) (For number) spells has =
     ap For ((for_read text count spells).1.value ∙ sym (for_read text number has).1.value)
 one_span text (Count comparison count) (Count other number) spells has =
-    let same =
-    one_compared (codes "count") text comparison other count number
+    let same = one_compared (codes "count") text comparison other count number
     (counted_read text comparison count spells) (counted_read text other number has) in
     ap (λ x. Count x count) same.0 ∙ ap (λ x. Count other x) same.1
 one_span text c d spells has =
@@ -270,15 +247,8 @@ HasKind text kind = (turned denied : Bool) × (after own : List ℕ)
     × (kind_at (total (run_of own)) ≡ kind)
 
 pub one_kind : (text : List ℕ) (a b : ℕ) → HasKind text a → HasKind text b → a ≡ b
-one_kind text a b (turned, denied, after, own, first, second, is) (
-  too,
-  also,
-  rest,
-  other,
-  one,
-  two,
-  has,
-) =
+one_kind text a b (turned, denied, after, own, first, second, is)
+    (too, also, rest, other, one, two, has) =
     let same = one_own (codes "either") text after rest turned too first one in
     let reads = subst (λ x. ReadsWord (codes "not") x also other) (sym same.1) two in
     let owns = one_own (codes "not") after own other denied also second reads in
@@ -416,13 +386,8 @@ one_line line first second is has =
 one_list : (lines : List (List ℕ)) (first second : List (Meaning (List ℕ))) → AreLines lines first
     → AreLines lines second → first ≡ second
 one_list [] first second is has = is ∙ sym has
-one_list (line ∷ lines) first second (own, more, is, own_is, are) (
-  other,
-  rest,
-  has,
-  other_is,
-  others,
-) =
+one_list (line ∷ lines) first second (own, more, is, own_is, are)
+    (other, rest, has, other_is, others) =
     is ∙ ap (λ x. x ∷ more) (one_line line own other own_is other_is)
     ∙ ap (λ x. other ∷ x) (one_list lines more rest are others) ∙ sym has
 
@@ -448,32 +413,16 @@ one_bad : (before after other rest : List (List ℕ)) (bad worse : List ℕ)
     (means others : List (Meaning (List ℕ))) → before ++ (bad ∷ after) ≡ other ++ (worse ∷ rest)
     → AreLines before means → AreLines other others
     → ((own : Meaning (List ℕ)) → IsLine bad own → ⊥)
-    → ((own : Meaning (List ℕ)) → IsLine worse own → ⊥)
-    → length before ≡ length other
+    → ((own : Meaning (List ℕ)) → IsLine worse own → ⊥) → length before ≡ length other
 one_bad [] after [] rest bad worse means others is are have none never = refl
-one_bad [] after (y ∷ other) rest bad worse means others is are (
-  own,
-  more,
-  has,
-  own_is,
-  have,
-) none never =
+one_bad [] after (y ∷ other) rest bad worse means others is are
+    (own, more, has, own_is, have) none never =
     let same : y ≡ bad = cc in absurd (none own (subst (λ x. IsLine x own) same own_is))
-one_bad (x ∷ before) after [] rest bad worse means others is (
-  own,
-  more,
-  has,
-  own_is,
-  are,
-) have none never =
+one_bad (x ∷ before) after [] rest bad worse means others is
+    (own, more, has, own_is, are) have none never =
     let same : x ≡ worse = cc in absurd (never own (subst (λ y. IsLine y own) same own_is))
-one_bad (x ∷ before) after (y ∷ other) rest bad worse means others is (
-  own,
-  more,
-  has,
-  own_is,
-  are,
-) (own_too, more_too, has_too, own_too_is, have) none never =
+one_bad (x ∷ before) after (y ∷ other) rest bad worse means others is
+    (own, more, has, own_is, are) (own_too, more_too, has_too, own_too_is, have) none never =
     let tails : before ++ (bad ∷ after) ≡ other ++ (worse ∷ rest) = cc in
     let same : length before ≡ length other =
     one_bad before after other rest bad worse more more_too tails are have none never in
@@ -481,15 +430,8 @@ one_bad (x ∷ before) after (y ∷ other) rest bad worse means others is (
 
 one_number : (lines : List (List ℕ)) (number other : ℕ) → IsFirstBad lines number
     → IsFirstBad lines other → number ≡ other
-one_number lines number other (before, after, bad, is, counted, good, none) (
-  before_too,
-  after_too,
-  bad_too,
-  has,
-  counted_too,
-  good_too,
-  never,
-) =
+one_number lines number other (before, after, bad, is, counted, good, none)
+    (before_too, after_too, bad_too, has, counted_too, good_too, never) =
     let same : length before ≡ length before_too =
     one_bad before after before_too after_too bad bad_too good.0 good_too.0 (sym is
     ∙ has) good.1 good_too.1 none never in

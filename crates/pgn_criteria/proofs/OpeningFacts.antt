@@ -1,29 +1,19 @@
 -- Conditions on the first moves of a game, decided by its opening.
-use Rattle.std.proofs.Common.{◌↔◌, ◌⊎◌, ◌+◌, ◌<◌, ◌≤◌, ◌≡◌, ℕ, zero, suc, List, [], ◌∷◌, length}
-use Rattle.std.proofs.Common.{map, Option, inl, inr, refl, sym, ap, subst, ◌∙◌, arith}
-use Rattle.std.specs.List.{slice_get}
-use Rattle.chess.specs.Public.Positions.{State}
+use Rattle.pgn_criteria.proofs.Common.{◌↔◌, ◌⊎◌, ◌+◌, ◌<◌, ◌≤◌, ◌≡◌, ℕ, zero, suc, List, [], ◌∷◌}
+use Rattle.pgn_criteria.proofs.Common.{length, map, Option, inl, inr, refl, sym, ap, subst, ◌∙◌}
+use Rattle.pgn_criteria.proofs.Common.{arith, slice_get, State, Replay, IsSomeReplay, Conditions}
+use Rattle.pgn_criteria.proofs.Common.{Heading, AllTaken, IsSoOfGame, IsSoOfMoves, AllHold}
+use Rattle.pgn_criteria.proofs.Common.{HoldsThere, IsMetBy, SomeHold, Meets, FitMoves, GoesOnBy}
+use Rattle.pgn_criteria.proofs.Common.{words_of, Compares, Comparison, AsksWithin, AllClaims}
+use Rattle.pgn_criteria.proofs.Common.{AllAskWithin, EachAsksWithin, on_positions, Stated}
+use Rattle.pgn_criteria.proofs.Common.{GameClaim, Moves, Plies, MoveClaim, Next, Played}
 use Rattle.pgn_text.specs.Public.Games.{Item}
 use Rattle.pgn_game.specs.Public.Openings.{IsOpening}
-use Rattle.pgn_game.specs.Public.Replays.{Replay, IsSomeReplay}
 use Rattle.pgn_game.proofs.Openings.{AgreeAt, opening_agrees}
-use Rattle.pgn_criteria.specs.Public.Conditions.{Conditions}
-use Rattle.pgn_criteria.specs.Public.Meeting.{Heading, AllTaken, IsSoOfGame, IsSoOfMoves, AllHold}
-use Rattle.pgn_criteria.specs.Public.Meeting.{HoldsThere, IsMetBy, SomeHold, Meets}
-use Rattle.pgn_criteria.specs.Public.MoveTexts.{FitMoves, GoesOnBy}
-use Rattle.pgn_criteria.specs.Public.Words.{words_of}
-use Rattle.pgn_criteria.specs.Public.Comparing.{Compares}
-use Rattle.pgn_criteria.specs.declared.compare.Comparison.{Comparison}
-use Rattle.pgn_criteria.specs.declared.compare.Comparison.TheVariants as compared
-use Rattle.pgn_criteria.specs.Private.Stages.{AsksWithin, AllClaims, EachIs, AllAskWithin}
-use Rattle.pgn_criteria.specs.Private.Stages.{EachAsksWithin, FitTheSame, on_positions}
-use Rattle.pgn_criteria.specs.declared.condition.Stated.{Stated}
-use Rattle.pgn_criteria.specs.declared.condition.GameClaim.{GameClaim}
-use Rattle.pgn_criteria.specs.declared.condition.GameClaim.TheVariants.{Moves, Plies}
-use Rattle.pgn_criteria.specs.declared.condition.MoveClaim.{MoveClaim}
-use Rattle.pgn_criteria.specs.declared.condition.MoveClaim.TheVariants.{Next, Played}
+use Rattle.pgn_criteria.specs.Private.Stages.{EachIs, FitTheSame}
 use Rattle.pgn_criteria.proofs.SpanFacts.{spans_same, no_spans_hold}
 use Rattle.pgn_criteria.proofs.TakenFacts.{all_same_taken, any_claims}
+use Rattle.pgn_criteria.specs.declared.compare.Comparison.TheVariants as compared
 
 -- where two replays agree before so many plies, the same words fit
 fit_on : (most plies : ℕ) (replay other : Replay)
@@ -181,8 +171,7 @@ goes_there replay other positions played plies word goes = record {
 }
 
 game_alike : (heading : Heading) (replay other : Replay) → replay.positions ≡ other.positions
-    → replay.played ≡ other.played
-    → (claim : GameClaim (List ℕ)) → IsSoOfGame heading replay claim
+    → replay.played ≡ other.played → (claim : GameClaim (List ℕ)) → IsSoOfGame heading replay claim
     → IsSoOfGame heading other claim
 game_alike heading replay other positions played (Moves words) so =
     fits_there replay other positions played 0 (words_of words) so
@@ -229,8 +218,7 @@ there_alike heading replay other positions played asked ply holds = (
 )
 
 some_alike : (heading : Heading) (replay other : Replay) → replay.positions ≡ other.positions
-    → replay.played ≡ other.played
-    → (ply : ℕ) (P : State) (alternatives : List Conditions)
+    → replay.played ≡ other.played → (ply : ℕ) (P : State) (alternatives : List Conditions)
     → SomeHold heading replay ply P alternatives → SomeHold heading other ply P alternatives
 some_alike heading replay other positions played ply P [] hold = hold
 some_alike heading replay other positions played ply P (asked ∷ more) (inl met) = inl (

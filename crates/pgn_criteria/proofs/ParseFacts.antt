@@ -1,22 +1,15 @@
 -- The lines of a text read one after the other, and the alternatives that they spell.
-use Rattle.std.proofs.Common.{◌≡◌, ◌≤◌, ◌<◌, ℕ, Bool, true, List, [], ◌∷◌, ◌++◌, refl, sym, ap, ◌∙◌}
-use Rattle.std.proofs.Common.{false, length, subst, append_assoc, append-nil, length-append, arith}
-use Rattle.std.specs.Prelude.{◌+◌, ◌==◌, if◌then◌else◌, Option, Some, None, MatchOption}
-use Rattle.chess.specs.Public.Fen.{parted_at, before_first}
-use Rattle.pgn_criteria.specs.Public.Lines.{SpellsGame, SpellsTaken, SpellsCondition, IsLine}
-use Rattle.pgn_criteria.specs.Public.Lines.{AreLines, alternatives_of, onto_first, SpellsCriteria}
-use Rattle.pgn_criteria.specs.Public.Lines.{IsFirstBad}
-use Rattle.pgn_criteria.specs.Private.Reading.{joined, with_open}
-use Rattle.pgn_criteria.specs.Private.Stages.{IsGood, AreGood, AllGood}
-use Rattle.pgn_criteria.specs.declared.condition.Condition.{Condition}
-use Rattle.pgn_criteria.specs.Public.Conditions.{Conditions, no_conditions, with_condition}
-use Rattle.pgn_criteria.specs.declared.condition.Condition.TheVariants.{Game, Position, Move, Span}
-use Rattle.pgn_criteria.specs.declared.condition.ValueClaim.TheVariants.{Text, Date}
-use Rattle.pgn_criteria.specs.declared.condition.GameClaim.{GameClaim}
-use Rattle.pgn_criteria.specs.declared.condition.GameClaim.TheVariants.{Tag}
+use Rattle.std.specs.Prelude.{◌+◌, Option, Some, None}
+use Rattle.pgn_criteria.proofs.Common.{◌≡◌, ◌≤◌, ◌<◌, ℕ, Bool, true, List, [], ◌∷◌, ◌++◌, refl, sym}
+use Rattle.pgn_criteria.proofs.Common.{ap, ◌∙◌, false, length, subst, append_assoc, append-nil}
+use Rattle.pgn_criteria.proofs.Common.{length-append, arith, ◌==◌, if◌then◌else◌, MatchOption}
+use Rattle.pgn_criteria.proofs.Common.{parted_at, before_first, SpellsGame, SpellsTaken}
+use Rattle.pgn_criteria.proofs.Common.{SpellsCondition, IsLine, AreLines, alternatives_of}
+use Rattle.pgn_criteria.proofs.Common.{onto_first, SpellsCriteria, IsFirstBad, joined, with_open}
+use Rattle.pgn_criteria.proofs.Common.{IsGood, AreGood, AllGood, Condition, Conditions}
+use Rattle.pgn_criteria.proofs.Common.{no_conditions, with_condition, Game, Position, Move, Span}
+use Rattle.pgn_criteria.proofs.Common.{Text, Date, GameClaim, Tag, Meaning, Nothing, Or, Asks}
 use Rattle.pgn_criteria.proofs.DayTextFacts.{days_good}
-use Rattle.pgn_criteria.specs.declared.line.Meaning.{Meaning}
-use Rattle.pgn_criteria.specs.declared.line.Meaning.TheVariants.{Nothing, Or, Asks}
 
 -- one line more
 pub are_more : (lines : List (List ℕ)) (means : List (Meaning (List ℕ))) (line : List ℕ)
@@ -85,8 +78,7 @@ up_start text =
       parts = refl;
       counted = refl;
       are = refl;
-      small =
-          omega arith;
+      small = omega arith;
     }
 
 pub up_more : (text rest line after : List ℕ) (number : ℕ) (own : Meaning (List ℕ))
@@ -153,8 +145,7 @@ joined_none a =
     λ i. record {
       games = append-nil a.games i;
       positions = append-nil a.positions i;
-      moves =
-          append-nil a.moves i;
+      moves = append-nil a.moves i;
       spans = append-nil a.spans i;
     }
 
@@ -195,8 +186,7 @@ built_start text (means, are) =
       are = refl;
       later = means;
       left = are;
-      same =
-          fresh;
+      same = fresh;
     }
   where
     fresh : (more : List (Meaning (List ℕ)))
@@ -205,8 +195,7 @@ built_start text (means, are) =
 
 -- so the next line has a meaning
 pub built_next : (text rest line : List ℕ) (done : List Conditions) (begun : Conditions)
-    → IsBuilt text rest done begun
-    → ((after : List (List ℕ)) × (parted_at 10 rest ≡ line ∷ after))
+    → IsBuilt text rest done begun → ((after : List (List ℕ)) × (parted_at 10 rest ≡ line ∷ after))
     → (means : Meaning (List ℕ)) × IsLine line means
 built_next text rest line done begun built (after, parts) =
     let left = subst (λ lines. AreLines lines built.later) parts built.left in (left.0, left.3)
@@ -216,15 +205,13 @@ pub record IsAdded (line : List ℕ) (old : List Conditions) (open_old : Conditi
     (new : List Conditions) (open_new : Conditions) : Type 0 where
   pub own : Meaning (List ℕ)
   pub is : IsLine line own
-  pub same : (more : List (Meaning (List ℕ)))
-      → with_open new open_new (alternatives_of more)
+  pub same : (more : List (Meaning (List ℕ))) → with_open new open_new (alternatives_of more)
       ≡ with_open old open_old (alternatives_of (own ∷ more))
 
 built_same : (text rest line : List ℕ) (done : List Conditions) (begun : Conditions)
     (new : List Conditions) (open_new : Conditions)
     → (built : IsBuilt text rest done begun) → (added : IsAdded line done begun new open_new)
-    → (more : List (Meaning (List ℕ)))
-    → alternatives_of ((built.means ++ (added.own ∷ [])) ++ more)
+    → (more : List (Meaning (List ℕ))) → alternatives_of ((built.means ++ (added.own ∷ [])) ++ more)
     ≡ with_open new open_new (alternatives_of more)
 built_same text rest line done begun new open_new built added more =
     ap alternatives_of (append_assoc built.means (added.own ∷ []) more)
@@ -321,8 +308,7 @@ lines_good : (lines : List (List ℕ)) (means : List (Meaning (List ℕ))) → A
     → AllGood (alternatives_of means)
 lines_good [] means none = subst (λ m. AllGood (alternatives_of m)) (sym none) (tt, tt)
 lines_good (line ∷ lines) means (own, more, is, own_is, are) =
-    subst (λ m. AllGood (alternatives_of m)) (sym is)
-    (with_own line own more own_is (lines_good lines more are))
+    rw is (with_own line own more own_is (lines_good lines more are))
 
 pub spelled_good : (text : List ℕ) (alternatives : List Conditions)
     → SpellsCriteria text alternatives → AllGood alternatives

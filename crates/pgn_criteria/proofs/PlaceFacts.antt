@@ -1,26 +1,21 @@
 -- Places between the squares of a rank that items reach.
-use Rattle.std.proofs.Common.{◌≡◌, ◌≢◌, ◌↔◌, ◌<◌, ◌≤◌, ◌+◌, ◌-◌, ◌*◌, ◌%◌, ◌^◌, bit_or, ℕ, suc}
-use Rattle.std.proofs.Common.{Bool, false, IsTrue, List, [], ◌∷◌, ◌++◌, length, take, drop, get_or}
-use Rattle.std.proofs.Common.{Option, None, refl, sym, ap, ◌∙◌, subst, arith, inl, inr, length-drop}
-use Rattle.std.proofs.Common.{length-append}
-use Rattle.std.proofs.Math.Seq.{drop-cons, drop-append_seam}
-use Rattle.std.proofs.lemmas.List.{take-append-drop, drop-drop, nil_from_length}
-use Rattle.std.proofs.lemmas.Bool.{cases_lt, cases_eq}
 use Rattle.std.proofs.lemmas.Nat.{or_lt}
 use Rattle.std.proofs.Math.Pow.{pow-lt}
-use Rattle.std.proofs.lemmas.Nat.Bits.{bit_at-zero, bit_at-pow_other, bit_at_set_same}
-use Rattle.std.proofs.lemmas.Nat.Bits.{bit_at_set_other, bit_at-trailing_zeros, bit_at_above}
-use Rattle.std.proofs.lemmas.Nat.Bits.{bit_at_mask_inside, bit_at_mask_below, bit_at_mask_above}
+use Rattle.std.proofs.lemmas.Nat.Bits.{bit_at-pow_other, bit_at_set_same, bit_at_set_other}
+use Rattle.std.proofs.lemmas.Nat.Bits.{bit_at-trailing_zeros, bit_at_above, bit_at_mask_inside}
+use Rattle.std.proofs.lemmas.Nat.Bits.{bit_at_mask_below, bit_at_mask_above}
 use Rattle.std.specs.Int.{trailing_zeros}
 use mir.Val.{bits}
 use mir.Syntax.{w16}
-use Rattle.chess.specs.declared.board.man.Man.{Man}
-use Rattle.pgn_criteria.specs.Public.Patterns.{CanBeSplit}
-use Rattle.pgn_criteria.specs.Private.Items.{items_of, IsOf, Fits, Reads, IsNextItem, HasNoItem}
-use Rattle.pgn_criteria.specs.Private.Items.{Has, IsAfter, Ends, Goes}
-use Rattle.pgn_criteria.specs.declared.rank.SquareTest.{SquareTest}
-use Rattle.pgn_criteria.specs.declared.rank.Item.{Item}
-use Rattle.pgn_criteria.specs.declared.rank.Item.TheVariants.{Run, Many}
+use Rattle.pgn_criteria.proofs.Common.{◌≡◌, ◌≢◌, ◌↔◌, ◌<◌, ◌≤◌, ◌+◌, ◌-◌, ◌*◌, ◌%◌, ◌^◌, bit_or, ℕ}
+use Rattle.pgn_criteria.proofs.Common.{suc, Bool, false, IsTrue, List, [], ◌∷◌, ◌++◌, length, take}
+use Rattle.pgn_criteria.proofs.Common.{drop, get_or, Option, None, refl, sym, ap, ◌∙◌, subst, arith}
+use Rattle.pgn_criteria.proofs.Common.{inl, inr, length-drop, length-append, drop-cons}
+use Rattle.pgn_criteria.proofs.Common.{drop-append_seam, take-append-drop, drop-drop}
+use Rattle.pgn_criteria.proofs.Common.{nil_from_length, cases_lt, cases_eq, bit_at-zero, Man}
+use Rattle.pgn_criteria.proofs.Common.{CanBeSplit, items_of, IsOf, Fits, Reads, IsNextItem}
+use Rattle.pgn_criteria.proofs.Common.{HasNoItem, IsAfter, Ends, Goes, SquareTest, Item, Run, Many}
+use Rattle.pgn_criteria.specs.Private.Items.{Has}
 use Rattle.pgn_criteria.proofs.SetFacts.{some_items}
 
 -- the square that the rest of the squares begins with
@@ -79,14 +74,8 @@ run_more class squares reached next left count items eight more reports = (
         let front : IsNext squares place square (own ++ rest) =
         next_square squares place square (own ++ rest) cut in
         let low : place < 8 = omega (arith, front.0) in
-        let here : Has next (place + 1) =
-        (reports (place + 1)).1 (
-          place,
-          refl,
-          low,
-          has,
-          subst (IsOf class) (sym front.1) fits.1.0,
-        ) in
+        let here : Has next (place + 1) = (reports (place + 1)).1
+        (place, refl, low, has, subst (IsOf class) (sym front.1) fits.1.0) in
         let size : length own ≡ count = omega (arith, fits.0) in
         let high : place + 1 ≤ 8 = omega arith in
         (place + 1, high, here, (own, rest, front.2, (size, fits.1.1), split))
@@ -181,8 +170,7 @@ place_kept class squares reached next end not_here reports place = (
     | inl below ↦ (reports place).1 (is.0, is.1, below, is.3, is.4)
     | inr above ↦
         let same : is.0 ≡ end = omega (arith, is.2) in
-        absurd (not_here (subst (λ b. Has reached b
-        × IsOf class (get_or squares b None)) same (is.3, is.4)))
+        absurd (not_here (rw (← same) (is.3, is.4)))
   ],
 )
 
@@ -196,8 +184,7 @@ place_added class squares reached next end low has_end is_end reports place =
     elim (cases_eq place (end + 1)) [
       | inl same ↦ (
         (λ has. let less : end < end + 1 = omega arith in (end, same, less, has_end, is_end)),
-        (λ is. subst (λ p. Has (bit_or next (1 * 2 ^ (end + 1) % 2 ^ bits w16)) p) (sym same)
-            (bit_at_set_same w16 next (end + 1) within)),
+        (λ is. rw same (bit_at_set_same w16 next (end + 1) within)),
       )
       | inr other ↦ (
         (λ has.
@@ -252,11 +239,7 @@ spread_places reached some below =
             let after : first ≤ place =
             elim (cases_lt is.0 first) [
               | inl before ↦ absurd (cc (found.2 is.0 before, is.3))
-              | inr from ↦ omega (
-                arith,
-                is.1,
-                from,
-              )
+              | inr from ↦ omega (arith, is.1, from)
             ] in
             let within : place < 9 = omega (arith, is.2) in
             bit_at_mask_inside first 9 place after within),

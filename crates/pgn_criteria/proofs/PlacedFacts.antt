@@ -1,13 +1,8 @@
 -- What the patterns of an alternative say where its conditions hold.
-use Rattle.std.proofs.Common.{◌⊎◌, inl, inr, ℕ, List, subst}
-use Rattle.chess.specs.Public.Moves.{HasMove}
-use Rattle.chess.specs.Public.Placements.{Placement, opposite}
-use Rattle.chess.specs.Public.Positions.{State, IsCheck}
-use Rattle.pgn_game.specs.Public.PlyCodes.{PlyCode}
-use Rattle.pgn_criteria.specs.Public.Mirrors.{mirrored_men}
-use Rattle.pgn_criteria.specs.Private.Stages.{AllOfPatterns, AllSaid, AreFixed, AreMirrored}
-use Rattle.pgn_criteria.specs.Private.PrefilterTests.{FitsPlaced, Nowhere}
-use Rattle.pgn_criteria.specs.declared.condition.PositionCondition.{PositionCondition}
+use Rattle.pgn_criteria.proofs.Common.{◌⊎◌, inl, inr, ℕ, List, subst, HasMove, Placement, opposite}
+use Rattle.pgn_criteria.proofs.Common.{State, IsCheck, PlyCode, mirrored_men, AllOfPatterns}
+use Rattle.pgn_criteria.proofs.Common.{AllSaid, AreFixed, AreMirrored, FitsPlaced, Nowhere}
+use Rattle.pgn_criteria.proofs.Common.{PositionCondition}
 use Rattle.pgn_criteria.proofs.EitherFacts.{each_plain, fixed_each, mirrored_said}
 use Rattle.pgn_criteria.proofs.SeenFacts.{all_position, stages_parted, patterns_said}
 use Rattle.pgn_criteria.proofs.StandFacts.{nowhere_of, nowhere_either}

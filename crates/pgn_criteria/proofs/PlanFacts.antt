@@ -1,22 +1,12 @@
 -- What is planned of patterns, in whichever way they are asked.
-use Rattle.std.proofs.Common.{◌≡◌, ◌↔◌, ℕ, Bool, true, List, [], ◌∷◌, ◌++◌, refl, sym}
-use Rattle.std.proofs.Common.{subst, inl, inr}
-use Rattle.std.proofs.lemmas.Result.{IfOk-weaker}
-use Rattle.std.specs.Prelude.{◌⊎◌, Result, IfOk}
-use Rattle.chess.specs.Public.Placements.{Placement}
-use Rattle.pgn_criteria.specs.Private.Layouts.{Laid, Lays}
-use Rattle.pgn_criteria.specs.Private.Planning.{IsSound, AreSound, AreSoundWays, AllEither}
-use Rattle.pgn_criteria.specs.Private.Planning.{NoneLaid, Plans}
-use Rattle.pgn_criteria.specs.Public.Mirrors.{flipped_men, FitsEitherWay}
-use Rattle.pgn_criteria.specs.Public.Patterns.{FitsPattern}
-use Rattle.chess.specs.declared.board.man.Side.TheVariants.{White}
-use Rattle.pgn_criteria.specs.Private.Stages.{SaysOfSeen, stage_of}
-use Rattle.pgn_criteria.specs.declared.condition.PositionClaim.{PositionClaim}
-use Rattle.pgn_criteria.specs.declared.meets.Stage.TheVariants.{Squares}
-use Rattle.pgn_criteria.specs.declared.layout.Layout.{Layout}
+use Rattle.std.specs.Prelude.{◌⊎◌, Result}
+use Rattle.pgn_criteria.proofs.Common.{◌≡◌, ◌↔◌, ℕ, Bool, true, List, [], ◌∷◌, ◌++◌, refl, sym}
+use Rattle.pgn_criteria.proofs.Common.{subst, inl, inr, IfOk-weaker, IfOk, Placement, Laid, Lays}
+use Rattle.pgn_criteria.proofs.Common.{AreSound, AreSoundWays, AllEither, NoneLaid, Plans}
+use Rattle.pgn_criteria.proofs.Common.{flipped_men, FitsEitherWay, FitsPattern, White, SaysOfSeen}
+use Rattle.pgn_criteria.proofs.Common.{stage_of, PositionClaim, Squares, Layout, Plan, Ways}
+use Rattle.pgn_criteria.specs.Private.Planning.{IsSound}
 use Rattle.pgn_criteria.specs.declared.layout.Look.{Look}
-use Rattle.pgn_criteria.specs.declared.plan.Plan.{Plan}
-use Rattle.pgn_criteria.specs.declared.plan.Ways.{Ways}
 
 -- a layout that was begun with nothing has just what was laid out
 pub laid_whole : (start layout : Layout) (pattern : List ℕ) → ((men : Placement) → Laid men start)
@@ -43,9 +33,7 @@ module _ (straight turned : Layout) (a b : Look) (pattern : List ℕ) (fits : (p
   straight_fits = subst (λ l. Laid p l ↔ FitsPattern p pattern) (sym at_a) (fits p)
 
   turned_fits : Laid p b.layout ↔ FitsPattern (flipped_men p) pattern
-  turned_fits =
-      subst (λ l. Laid p l ↔ FitsPattern (flipped_men p) pattern) (sym at_b)
-      (way_turned straight turned pattern fits same p)
+  turned_fits = rw at_b (way_turned straight turned pattern fits same p)
 
   pub either_way : (Laid p a.layout ⊎ Laid p b.layout) ↔ FitsEitherWay p pattern
   either_way = (
@@ -69,8 +57,7 @@ module _ (straight turned : Layout) (a b : Look) (pattern : List ℕ) (fits : (p
   )
 
 -- one more of each kind
-pub either_more : (men : Placement) (all : List Ways) (one : Ways)
-    → AllEither men (all ++ one ∷ [])
+pub either_more : (men : Placement) (all : List Ways) (one : Ways) → AllEither men (all ++ one ∷ [])
     ↔ (AllEither men all × (Laid men one.straight.layout ⊎ Laid men one.turned.layout))
 either_more men [] one = (λ stand. (tt, stand.0), λ both. (both.1, tt))
 either_more men (first ∷ more) one =

@@ -1,15 +1,9 @@
 -- Conditions on the number of plies: what spells one is read as it, and the other way round.
-use Rattle.std.proofs.Common.{◌≡◌, ◌≢◌, ◌≤◌, ℕ, true, List, [], ◌∷◌, ◌++◌, refl, sym, subst, arith}
-use Rattle.std.specs.Prelude.{codes}
-use Rattle.std.proofs.lemmas.Bool.Decides.{nat_tests}
-use Rattle.chess.specs.Public.Fen.{is_digit}
-use Rattle.pgn_criteria.specs.Private.Reading.{run_of, after_word}
-use Rattle.pgn_criteria.specs.Public.Lines.{SpellsGame, SpellsSpan, SpellsCompared, SpellsDigits}
-use Rattle.pgn_criteria.specs.Public.Lines.{SpellsCount, comparison_text}
-use Rattle.pgn_criteria.specs.declared.compare.Comparison.{Comparison}
-use Rattle.pgn_criteria.specs.declared.compare.Comparison.TheVariants.{Equal}
-use Rattle.pgn_criteria.specs.declared.condition.GameClaim.TheVariants.{Plies}
-use Rattle.pgn_criteria.specs.declared.condition.SpanClaim.TheVariants.{For, Count}
+use Rattle.pgn_criteria.proofs.Common.{◌≡◌, ◌≢◌, ◌≤◌, ℕ, true, List, [], ◌∷◌, ◌++◌, refl, sym}
+use Rattle.pgn_criteria.proofs.Common.{subst, arith, codes, nat_tests, is_digit, run_of, after_word}
+use Rattle.pgn_criteria.proofs.Common.{SpellsGame, SpellsSpan, SpellsDigits, SpellsCount}
+use Rattle.pgn_criteria.proofs.Common.{comparison_text, Comparison, Equal, Plies, For, Count}
+use Rattle.pgn_criteria.specs.Public.Lines.{SpellsCompared}
 use Rattle.pgn_criteria.proofs.SolidFacts.{is_solid, AreSolid, BeginsSolid, EndsSolid, all_solid}
 use Rattle.pgn_criteria.proofs.SolidFacts.{solid_begins, solid_ends, begins_front, front_some}
 use Rattle.pgn_criteria.proofs.SolidFacts.{word_read, word_spelled}
@@ -57,18 +51,15 @@ pub compared_read : (key text : List ℕ) (comparison : Comparison) (count : ℕ
     → SpellsCompared key text comparison count → IsComparedRead key text comparison count
 compared_read key text comparison count solid (first, second, digits, is, g, h, counted) =
     let sign = comparison_text comparison in
-    let one =
-    word_read text key first (sign
+    let one = word_read text key first (sign
     ++ (second ++ digits)) is solid g
     (begins_front sign (second ++ digits) (comparison_begins comparison)) in
-    let two =
-    word_read (after_word text) sign second digits one.1 (comparison_solid comparison) h
+    let two = word_read (after_word text) sign second digits one.1 (comparison_solid comparison) h
     (count_begins digits count counted) in
     record {
       key_is = one.0;
       sign_is = two.0;
-      count_is =
-          subst (λ x. SpellsCount x count) (sym two.1) counted;
+      count_is = subst (λ x. SpellsCount x count) (sym two.1) counted;
     }
 
 -- and a text of such words spells it
@@ -77,11 +68,9 @@ pub compared_spelled : (key text : List ℕ) (comparison : Comparison) (count : 
 compared_spelled key text comparison count read =
     let sign = comparison_text comparison in
     let digits = after_word (after_word text) in
-    let two =
-    word_spelled (after_word text) sign digits read.sign_is refl
+    let two = word_spelled (after_word text) sign digits read.sign_is refl
     (count_some digits count read.count_is) in
-    let one =
-    word_spelled text key (sign ++ (two.0 ++ digits)) read.key_is two.1
+    let one = word_spelled text key (sign ++ (two.0 ++ digits)) read.key_is two.1
     (front_some sign (two.0 ++ digits) (comparison_begins comparison)) in
     (one.0, two.0, digits, one.1, one.2, two.2, read.count_is)
 

@@ -1,13 +1,8 @@
 -- The squares on which a man has to stand and those on which he may, gathered.
 use Rattle.std.proofs.Common.{◌≡◌, ◌&&◌, not, Bool, true, false, Some, refl, subst, ◌∙◌}
-use Rattle.chess.specs.Public.Squares.{Place, same_square}
-use Rattle.chess.specs.Public.Placements.{Placement, man_at}
-use Rattle.chess.specs.Public.Sets.{Places, is_in}
-use Rattle.chess.specs.declared.board.man.Man.{Man}
-use Rattle.chess.proofs.PlaceFacts.{same_square-then}
-use Rattle.pgn_criteria.specs.Private.Layouts.{AreEmpty, IsRest}
-use Rattle.pgn_criteria.specs.Private.PrefilterTests.{StaysOn}
-use Rattle.pgn_criteria.specs.declared.prefilter.StandingSquares.{StandingSquares}
+use Rattle.pgn_criteria.proofs.Common.{Place, same_square, Placement, man_at, Places, is_in, Man}
+use Rattle.pgn_criteria.proofs.Common.{same_square-then, AreEmpty, StaysOn, StandingSquares}
+use Rattle.pgn_criteria.specs.Private.Layouts.{IsRest}
 
 still_in : (was same : Bool) → was ≡ true → (same ≡ true → ⊥) → (was && not same) ≡ true
 still_in true true e other = absurd (other refl)

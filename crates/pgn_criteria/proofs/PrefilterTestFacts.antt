@@ -1,23 +1,16 @@
 -- A man who is put on a square, or goes from it, has that square more or less.
 use Rattle.std.proofs.Common.{◌≡◌, ◌↔◌, ◌⊎◌, inl, inr, Bool, true, false, cond, Option, Some, None}
 use Rattle.std.proofs.Common.{ℕ, zero, suc, ◌<◌, ◌≤◌, arith, refl, sym, ap, subst, ◌∙◌}
-use Rattle.std.specs.Prelude.{◌==◌}
-use Rattle.std.proofs.lemmas.Bool.Decides.{nat_tests}
-use Rattle.chess.specs.Public.Squares.{Place, IsOnBoard, same_square}
-use Rattle.chess.specs.Public.Placements.{Placement, man_at, with_man}
-use Rattle.chess.specs.Public.Sets.{Places, is_in, IsSquaresOf}
+use Rattle.pgn_criteria.proofs.Common.{◌==◌, nat_tests, Place, IsOnBoard, same_square, Placement}
+use Rattle.pgn_criteria.proofs.Common.{man_at, with_man, Places, is_in, IsSquaresOf, Man}
+use Rattle.pgn_criteria.proofs.Common.{same_square-then, rook_from, rook_to, Side, White, Black}
+use Rattle.pgn_criteria.proofs.Common.{Wing, KingSide, numbered_man, AreTaken, IsPut}
 use Rattle.chess.specs.Shared.CellFacts.{man_at-same, man_at-other}
-use Rattle.chess.specs.declared.board.man.Man.{Man}
-use Rattle.chess.proofs.PlaceFacts.{same_square-then, same_square-same}
-use Rattle.chess.specs.Public.Positions.{rook_of, rook_from, rook_to}
+use Rattle.chess.proofs.PlaceFacts.{same_square-same}
+use Rattle.chess.specs.Public.Positions.{rook_of}
 use Rattle.chess.specs.Public.Moves.{with_rook}
-use Rattle.chess.specs.declared.board.man.Side.{Side}
-use Rattle.chess.specs.declared.board.man.Side.TheVariants.{White, Black}
-use Rattle.chess.specs.declared.board.man.Wing.{Wing}
-use Rattle.chess.specs.declared.board.man.Wing.TheVariants.{KingSide}
-use Rattle.pgn_game.specs.Public.PlyCodes.{man_number, numbered_castle, numbered_man}
+use Rattle.pgn_game.specs.Public.PlyCodes.{man_number, numbered_castle}
 use Rattle.pgn_game.proofs.PlyCodeFacts.{man_again, man_back}
-use Rattle.pgn_criteria.specs.Private.PrefilterTests.{AreTaken, IsPut}
 
 at_same : (men : Placement) (man : Man) (t s : Place) (x : Option Man) (his : Bool) → IsOnBoard t
     → ((his ≡ true) ↔ (x ≡ Some man)) → s ≡ t
@@ -217,8 +210,7 @@ comes_from men from to own k1 k2 k3 on put_to put_from are s here =
 -- a rook has castled
 pub rook_settles : (men : Placement) (side : Side) (wing : Wing) (k1 k2 k3 : Places)
     → IsPut (rook_from side wing) false k1 k2 → IsPut (rook_to side wing) true k2 k3
-    → AreTaken men k1
-    → AreTaken (with_rook side (Some wing) men) k3
+    → AreTaken men k1 → AreTaken (with_rook side (Some wing) men) k3
 rook_settles men side wing k1 k2 k3 p1 p2 are =
     comes (with_man men (rook_from side wing) None) (rook_to side wing) (rook_of side) k2 k3
     (to_on_board side wing) p2 (leaves men (rook_from side wing) k1 k2 p1 are)

@@ -1,21 +1,19 @@
 -- A record shows the heading of its game.
-use Rattle.std.proofs.Common.{◌≡◌, ℕ, List, [], ◌∷◌, ◌++◌, length, Option, Result, refl, sym, ap}
-use Rattle.std.proofs.Common.{◌∙◌, append_assoc, Bor}
-use Rattle.std.specs.Prelude.{option_map}
-use Rattle.std.specs.List.{flat_map, AllByRecursion}
+use Rattle.std.proofs.Common.{Result, Bor}
+use Rattle.std.specs.List.{flat_map}
 use Rattle.std.proofs.lemmas.List.Concat.{flat_map-cons}
-use Rattle.pgn_text.specs.Public.GameTexts.{GameText, tag_in}
+use Rattle.pgn_criteria.proofs.Common.{◌≡◌, ℕ, List, [], ◌∷◌, ◌++◌, length, Option, refl, sym, ap}
+use Rattle.pgn_criteria.proofs.Common.{◌∙◌, append_assoc, option_map, AllByRecursion, tag_in}
+use Rattle.pgn_criteria.proofs.Common.{Replay, Heading, heading_of, heading_of_raw}
+use Rattle.pgn_text.specs.Public.GameTexts.{GameText}
 use Rattle.pgn_game.specs.declared.pack.error.RecordError.{RecordError}
 use Rattle.pgn_game.specs.Public.PlyCodes.{code_bytes}
 use Rattle.pgn_game.specs.Public.PackedGames.{PackedGame, Tag, FitsTag, FitsRecord, IsPacked}
 use Rattle.pgn_game.specs.Public.PackedGames.{tag_bytes}
 use Rattle.pgn_game.specs.Public.PackReading.{IsRawOfGame, RawRecord, raw_of}
-use Rattle.pgn_game.specs.Public.Replays.{Replay}
 use Rattle.pgn_game.proofs.HeadFacts.{head_shows}
 use Rattle.pgn_game.proofs.TagSearch.{tag_again}
-use Rattle.pgn_criteria.specs.Public.Meeting.{Heading, heading_of}
-use Rattle.pgn_criteria.specs.Private.Records.{tag_before, tags_at, heading_of_raw}
-use Rattle.pgn_criteria.specs.Private.Records.{heading_of_packed}
+use Rattle.pgn_criteria.specs.Private.Records.{tag_before, tags_at, heading_of_packed}
 
 -- the tags of a record are those of its game
 tags_again : (tags : List Tag) (rest : List ℕ) → AllByRecursion FitsTag tags
@@ -36,8 +34,7 @@ pub raw_heading : (packed : PackedGame) → FitsRecord packed
     → heading_of_raw (raw_of packed) ≡ heading_of_packed packed
 raw_heading packed fits =
     let shows = head_shows packed fits in
-    let tags =
-    ap (λ (n : ℕ).
+    let tags = ap (λ (n : ℕ).
     tags_at n (flat_map tag_bytes packed.tags ++ flat_map code_bytes packed.plies)) shows.count
     ∙ tags_again packed.tags (flat_map code_bytes packed.plies) fits.tags in
     let result = shows.result in

@@ -1,11 +1,6 @@
 -- Conditions on the result: what spells one is read as it, and the other way round.
-use Rattle.std.proofs.Common.{◌≡◌, ◌≢◌, ℕ, List, [], ap, sym, ◌∙◌, refl, inl, inr}
-use Rattle.std.specs.Prelude.{codes}
-use Rattle.std.specs.List.{list_all}
-use Rattle.pgn_text.specs.Public.GameTexts.{IsResult}
-use Rattle.pgn_criteria.specs.Private.Reading.{run_of, after_word}
-use Rattle.pgn_criteria.specs.Public.Lines.{SpellsGame}
-use Rattle.pgn_criteria.specs.declared.condition.GameClaim.TheVariants.{Result}
+use Rattle.pgn_criteria.proofs.Common.{◌≡◌, ◌≢◌, ℕ, List, [], ap, sym, ◌∙◌, refl, inl, inr, codes}
+use Rattle.pgn_criteria.proofs.Common.{list_all, IsResult, run_of, after_word, SpellsGame, Result}
 use Rattle.pgn_criteria.proofs.SolidFacts.{is_solid, AreSolid, EndsSolid, solid_begins, solid_ends}
 use Rattle.pgn_criteria.proofs.SolidFacts.{word_read, word_spelled}
 

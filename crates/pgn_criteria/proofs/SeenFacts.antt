@@ -1,24 +1,16 @@
 -- What conditions say of one position, by what is seen of it.
-use Rattle.std.proofs.Common.{◌≡◌, ◌↔◌, if◌then◌else◌, ℕ, Bool, true, false, List, [], ◌∷◌, refl}
-use Rattle.std.proofs.Common.{sym, ◌∙◌, inl, inr}
-use Rattle.std.proofs.lemmas.Bool.{and_parts}
-use Rattle.chess.specs.Public.Moves.{HasMove}
-use Rattle.chess.specs.Public.Placements.{Placement, opposite}
-use Rattle.chess.specs.Public.Positions.{State, IsCheck}
-use Rattle.chess.specs.declared.board.man.Side.{Side}
-use Rattle.chess.specs.declared.board.man.Side.TheVariants.{White}
-use Rattle.pgn_criteria.specs.Public.Meeting.{is_turned, Holds, EachHold, PositionsHold}
-use Rattle.pgn_criteria.specs.Public.Mirrors.{mirrored_men, mirror, can_be_mirrored}
-use Rattle.pgn_criteria.specs.Private.Stages.{SaysOfSeen, OfSeen, AllSaid, EachOfSeen, AllOfSeen}
-use Rattle.pgn_criteria.specs.Private.Stages.{AllOfStage, AllOfPatterns, AllOfRest, ArePatterns}
-use Rattle.pgn_criteria.specs.Private.Stages.{stage_of}
+use Rattle.std.proofs.Common.{if◌then◌else◌}
+use Rattle.pgn_criteria.proofs.Common.{◌≡◌, ◌↔◌, ℕ, Bool, true, false, List, [], ◌∷◌, refl, sym}
+use Rattle.pgn_criteria.proofs.Common.{◌∙◌, inl, inr, and_parts, HasMove, Placement, opposite}
+use Rattle.pgn_criteria.proofs.Common.{State, IsCheck, Side, White, is_turned, Holds, EachHold}
+use Rattle.pgn_criteria.proofs.Common.{PositionsHold, mirrored_men, mirror, can_be_mirrored}
+use Rattle.pgn_criteria.proofs.Common.{SaysOfSeen, OfSeen, AllSaid, EachOfSeen, AllOfSeen}
+use Rattle.pgn_criteria.proofs.Common.{AllOfStage, AllOfPatterns, ArePatterns, stage_of, Squares}
+use Rattle.pgn_criteria.proofs.Common.{PositionCondition, PositionClaim, Fen, Flip, Material, Turn}
+use Rattle.pgn_criteria.proofs.Common.{Check, Mate, Stalemate}
+use Rattle.pgn_criteria.specs.Private.Stages.{AllOfRest}
 use Rattle.pgn_criteria.specs.declared.meets.Stage.{Stage}
-use Rattle.pgn_criteria.specs.declared.meets.Stage.TheVariants.{Squares, Men, Attacks, Replies}
-use Rattle.pgn_criteria.specs.declared.condition.PositionCondition.{PositionCondition}
-use Rattle.pgn_criteria.specs.declared.condition.PositionClaim.{PositionClaim}
-use Rattle.pgn_criteria.specs.declared.condition.PositionClaim.TheVariants.{Fen, Flip, Material}
-use Rattle.pgn_criteria.specs.declared.condition.PositionClaim.TheVariants.{Turn, Check, Mate}
-use Rattle.pgn_criteria.specs.declared.condition.PositionClaim.TheVariants.{Stalemate}
+use Rattle.pgn_criteria.specs.declared.meets.Stage.TheVariants.{Men, Attacks, Replies}
 use Rattle.pgn_criteria.proofs.TakenFacts.{same_taken}
 
 -- ---- stages
@@ -114,10 +106,8 @@ module _ (men : Placement) (turn : Side) (A B C D : Type 0) (check : A ↔ B) (s
       → SaysOfSeen men turn A C denied claim ↔ SaysOfSeen men turn B D denied claim
   one_said denied Check = same_taken denied check
   one_said denied Mate =
-      same_taken denied (
-        λ both. (check.0 both.0, stuck.0 both.1),
-        λ both. (check.1 both.0, stuck.1 both.1),
-      )
+      same_taken denied
+      (λ both. (check.0 both.0, stuck.0 both.1), λ both. (check.1 both.0, stuck.1 both.1))
   one_said denied Stalemate = same_taken denied (
     λ both. ((λ b. both.0 (check.1 b)), stuck.0 both.1),
     λ both. ((λ a. both.0 (check.0 a)), stuck.1 both.1),
@@ -134,8 +124,7 @@ each_said : (men others : Placement) (turn other : Side) (A B C D : Type 0)
     ↔ EachOfSeen men turn others other B D conditions
 each_said men others turn other A B C D [] check stuck = (λ all. tt, λ all. tt)
 each_said men others turn other A B C D (condition ∷ more) check stuck =
-    let here =
-    said (if is_turned condition then others else men) (if is_turned condition then other
+    let here = said (if is_turned condition then others else men) (if is_turned condition then other
     else turn) A B C D check stuck condition in
     let there = each_said men others turn other A B C D more check stuck in
     (λ all. (here.0 all.0, there.0 all.1), λ all. (here.1 all.0, there.1 all.1))

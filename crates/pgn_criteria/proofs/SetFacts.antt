@@ -2,31 +2,19 @@
 use Rattle.std.proofs.Common.{◌≡◌, ◌≢◌, ◌↔◌, ◌≤◌, ◌<◌, ◌-◌, ℕ, suc, Bool, true, false, List, []}
 use Rattle.std.proofs.Common.{◌∷◌, ◌++◌, length, take, drop, Option, Some, None, IsTrue, refl, sym}
 use Rattle.std.proofs.Common.{ap, ◌∙◌, subst, inl, inr, arith, if◌then◌else◌}
-use Rattle.std.specs.Prelude.{◌==◌, ◌||◌, ◌⊎◌, map}
-use Rattle.std.specs.List.{list_all}
-use Rattle.std.proofs.lemmas.Bool.{eqb-true, eq-eqb, and_parts, or_left}
-use Rattle.std.proofs.lemmas.List.{append_cancel_right}
-use Rattle.chess.specs.Public.Letters.{man_letter}
-use Rattle.chess.specs.Public.Fen.{IsSquares, before_first, has_byte}
+use Rattle.std.specs.Prelude.{◌⊎◌, map}
+use Rattle.std.proofs.lemmas.Bool.{or_left}
+use Rattle.pgn_criteria.proofs.Common.{◌==◌, ◌||◌, list_all, eqb-true, eq-eqb, and_parts}
+use Rattle.pgn_criteria.proofs.Common.{append_cancel_right, man_letter, IsSquares, before_first}
+use Rattle.pgn_criteria.proofs.Common.{has_byte, first_and_rest, rest_within, run_whole, Man, Side}
+use Rattle.pgn_criteria.proofs.Common.{White, Black, Kind, King, Queen, Rook, Bishop, Knight, Pawn}
+use Rattle.pgn_criteria.proofs.Common.{AreMen, IsStretch, CanBeSplit, items_where, AreItems}
+use Rattle.pgn_criteria.proofs.Common.{is_letter, IsItem, items_of, Fits, Reads, IsNextItem}
+use Rattle.pgn_criteria.proofs.Common.{HasNoItem, item_of, has_man, men_in, spelled, any, occupied}
+use Rattle.pgn_criteria.proofs.Common.{white, black, many, among, other, SquareTest, Among, Other}
+use Rattle.pgn_criteria.proofs.Common.{Item, Run, same_first}
 use Rattle.chess.specs.Shared.Runs.{run_of, after_run}
-use Rattle.chess.proofs.RestFacts.{first_and_rest, rest_within}
-use Rattle.chess.proofs.FieldFacts.{run_whole}
-use Rattle.chess.specs.declared.board.man.Man.{Man}
-use Rattle.chess.specs.declared.board.man.Side.{Side}
-use Rattle.chess.specs.declared.board.man.Side.TheVariants.{White, Black}
-use Rattle.chess.specs.declared.board.man.Kind.{Kind}
-use Rattle.chess.specs.declared.board.man.Kind.TheVariants.{King, Queen, Rook, Bishop, Knight, Pawn}
-use Rattle.pgn_criteria.specs.Public.Patterns.{AreMen, IsStretch, CanBeSplit, items_where}
-use Rattle.pgn_criteria.specs.Private.Items.{AreItems, is_letter, IsItem, items_of, Fits, Reads}
-use Rattle.pgn_criteria.specs.Private.Items.{IsNextItem, HasNoItem, item_of, has_man, men_in}
-use Rattle.pgn_criteria.specs.Public.Patterns.IsStretch.{spelled, any, occupied, white, black, many}
-use Rattle.pgn_criteria.specs.Public.Patterns.IsStretch.{among, other}
-use Rattle.pgn_criteria.specs.declared.rank.SquareTest.{SquareTest}
-use Rattle.pgn_criteria.specs.declared.rank.SquareTest.TheVariants.{Among, Other}
-use Rattle.pgn_criteria.specs.declared.rank.Item.{Item}
-use Rattle.pgn_criteria.specs.declared.rank.Item.TheVariants.{Run}
 use Rattle.pgn_criteria.proofs.ItemFacts.{item_exact, no_stretch, some_stretch}
-use Rattle.pgn_game.proofs.Cells.{same_first}
 
 -- the first byte of an item, and those after it
 abbrev pub first_of : List ℕ → ℕ
@@ -173,8 +161,7 @@ among_fits letters [] are fits = absurd (omega (arith, fits.0))
 among_fits letters (square ∷ next ∷ more) are fits = absurd (omega (arith, fits.0))
 among_fits letters (square ∷ []) are fits =
     let one = fits.1.0 in
-    subst (λ s. IsStretch (91 ∷ (letters ++ 93 ∷ [])) (s ∷ [])) (sym one.1)
-    (among letters one.0 are (subst IsTrue (named letters one.0) one.2))
+    rw one.1 (among letters one.0 are (subst IsTrue (named letters one.0) one.2))
 
 pub among_read : (letters : List ℕ) → AreMen letters
     → Reads (91 ∷ (letters ++ 93 ∷ [])) (Run (Among (men_in letters)) 1)
@@ -226,8 +213,7 @@ other_read letters are = (
             (
               (λ man has is.
                   not_there letters man none.1
-                  (subst (λ x. (own : Man) → none.1 ≡ Some own
-                  → has_byte (man_letter own) x ≡ false) same none.5) has is),
+                  (rw (← same) none.5) has is),
               tt,
             ),
           )
@@ -277,16 +263,14 @@ pub set_next : (x after : List ℕ) (c : ℕ) (class : SquareTest) → after_run
 set_next x after c class cut reads =
     record {
       text = 91 ∷ (run_of 93 x ++ 93 ∷ []);
-      cut =
-          ap (before_first 91) (set_cut x after c cut);
+      cut = ap (before_first 91) (set_cut x after c cut);
       reads = reads;
     }
 
 pub set_fails : (x after : List ℕ) (c : ℕ) → after_run 93 x ≡ c ∷ after
     → (IsItem (91 ∷ (run_of 93 x ++ 93 ∷ [])) → ⊥) → HasNoItem (91 ∷ x)
 set_fails x after c end no_item text more cut item =
-    let same =
-    same_first (91 ∷ (run_of 93 x ++ 93 ∷ [])) text (items_of after) more
+    let same = same_first (91 ∷ (run_of 93 x ++ 93 ∷ [])) text (items_of after) more
     (sym (ap (before_first 91) (set_cut x after c end)) ∙ cut) in
     no_item (subst IsItem (sym same) item)
 
@@ -306,8 +290,7 @@ byte_next b x item differs is =
     record {
       text = b ∷ [];
       cut = byte_cut b x (differs_by b differs);
-      reads =
-          (some_stretch b item is, item_exact b item is);
+      reads = (some_stretch b item is, item_exact b item is);
     }
 
 pub byte_fails : (b : ℕ) (x : List ℕ) → b ≢ 91 → item_of b ≡ None → HasNoItem (b ∷ x)
@@ -322,8 +305,7 @@ pub some_items : (b : ℕ) (x : List ℕ) → (text : List ℕ) × (more : List 
     × (items_of (b ∷ x) ≡ text ∷ more)
 some_items b x =
     elim (b == 91) as (λ t. (text : List ℕ) × (more : List (List ℕ))
-    × ((if t then before_first b (items_where true x) else (b ∷ []) ∷ items_of x)
-    ≡ text ∷ more)) [
+    × ((if t then before_first b (items_where true x) else (b ∷ []) ∷ items_of x) ≡ text ∷ more)) [
       | true ↦ front b (items_where true x)
       | false ↦ (b ∷ [], items_of x, refl)
     ]

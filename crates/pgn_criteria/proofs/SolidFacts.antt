@@ -1,15 +1,11 @@
 -- Bytes from 33 on are neither blanks nor carriage returns. All bytes of words, patterns and limits
 -- are such, so a line is cut at its gaps.
-use Rattle.std.proofs.Common.{◌≡◌, ◌≢◌, ℕ, Bool, true, false, List, [], ◌∷◌, ◌++◌, refl, sym, ap}
-use Rattle.std.proofs.Common.{◌∙◌, IsTrue, append_assoc, append-nil, arith}
-use Rattle.std.specs.Prelude.{if◌then◌else◌, ◌==◌, nat_le}
-use Rattle.std.specs.List.{list_all}
-use Rattle.std.proofs.lemmas.Bool.{eqb-true, and_parts, and_from}
-use Rattle.std.proofs.lemmas.Bool.Decides.{nat_tests}
-use Rattle.chess.specs.Public.Fen.{parted_at, before_first}
-use Rattle.pgn_criteria.specs.Public.Words.{is_blank}
-use Rattle.pgn_criteria.specs.Private.Reading.{run_of, after_run, after_blanks, after_word}
-use Rattle.pgn_criteria.specs.Public.Lines.{AreBlanks, IsGap}
+use Rattle.pgn_criteria.proofs.Common.{◌≡◌, ◌≢◌, ℕ, Bool, true, false, List, [], ◌∷◌, ◌++◌, refl}
+use Rattle.pgn_criteria.proofs.Common.{sym, ap, ◌∙◌, IsTrue, append_assoc, append-nil, arith}
+use Rattle.pgn_criteria.proofs.Common.{if◌then◌else◌, ◌==◌, nat_le, list_all, eqb-true, and_parts}
+use Rattle.pgn_criteria.proofs.Common.{and_from, nat_tests, parted_at, before_first, is_blank}
+use Rattle.pgn_criteria.proofs.Common.{run_of, after_run, after_blanks, after_word, AreBlanks}
+use Rattle.pgn_criteria.specs.Public.Lines.{IsGap}
 use Rattle.pgn_criteria.proofs.WordFacts.{run_whole, begins_word}
 
 -- a byte that is no blank and no carriage return
@@ -162,8 +158,7 @@ word_alone word solid =
 
 -- a word, a gap and what follows: read
 pub word_read : (text word gap rest : List ℕ) → text ≡ word ++ (gap ++ rest) → AreSolid word
-    → IsGap gap → BeginsSolid rest
-    → (run_of text ≡ word) × (after_word text ≡ rest)
+    → IsGap gap → BeginsSolid rest → (run_of text ≡ word) × (after_word text ≡ rest)
 word_read text word gap rest is solid g begins =
     let at = at_gap gap rest g in
     let front = run_front word (gap ++ rest) solid in (
@@ -180,8 +175,7 @@ not_joined text (b ∷ x) after some same =
 
 -- and spelled
 pub word_spelled : (text word rest : List ℕ) → run_of text ≡ word → after_word text ≡ rest
-    → rest ≢ []
-    → (gap : List ℕ) × (text ≡ word ++ (gap ++ rest)) × IsGap gap
+    → rest ≢ [] → (gap : List ℕ) × (text ≡ word ++ (gap ++ rest)) × IsGap gap
 word_spelled text word rest run after some =
     let f = blank_front (after_run text) in
     let tail : after_run text ≡ f.0 ++ rest = f.1 ∙ ap (λ x. f.0 ++ x) after in (

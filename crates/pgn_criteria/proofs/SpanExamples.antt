@@ -1,15 +1,9 @@
 -- What the definitions say of `for` and `count`, that every reader can check.
-use Rattle.std.proofs.Common.{◌≡◌, ◌≤◌, ◌+◌, ℕ, [], ◌∷◌, length, Some, refl, inl, inr, arith}
-use Rattle.std.proofs.lemmas.Bool.{cases_lt}
-use Rattle.std.specs.List.{slice_get}
-use Rattle.chess.specs.Public.Positions.{State}
-use Rattle.pgn_game.specs.Public.Replays.{Replay}
-use Rattle.pgn_criteria.specs.Public.Meeting.{Heading, HoldsThere, Ascend, IsAmong, AreAll}
-use Rattle.pgn_criteria.specs.Public.Meeting.{SpanHolds, SpansHold}
-use Rattle.pgn_criteria.specs.declared.compare.Comparison.TheVariants.{Equal, Less, GreaterOrEqual}
-use Rattle.pgn_criteria.specs.Public.Conditions.{no_conditions, with_condition}
-use Rattle.pgn_criteria.specs.declared.condition.Condition.TheVariants.{Span}
-use Rattle.pgn_criteria.specs.declared.condition.SpanClaim.TheVariants.{For, Count}
+use Rattle.pgn_criteria.proofs.Common.{◌≡◌, ◌≤◌, ◌+◌, ℕ, [], ◌∷◌, length, Some, refl, inl, inr}
+use Rattle.pgn_criteria.proofs.Common.{arith, cases_lt, slice_get, State, Replay, Heading}
+use Rattle.pgn_criteria.proofs.Common.{HoldsThere, Ascend, IsAmong, AreAll, SpanHolds, SpansHold}
+use Rattle.pgn_criteria.proofs.Common.{Equal, Less, GreaterOrEqual, no_conditions, with_condition}
+use Rattle.pgn_criteria.proofs.Common.{Span, For, Count}
 use Rattle.pgn_criteria.proofs.SpanFacts.{one_number}
 
 -- the other conditions hold after 2, 3 and 5 plies
@@ -50,8 +44,7 @@ all_three : AreAll Fits (2 ∷ 3 ∷ 5 ∷ [])
 all_three =
     record {
       ascend = (omega arith, (omega arith, (omega arith, tt)));
-      exactly =
-          λ ply. (λ among. among, λ such. such);
+      exactly = λ ply. (λ among. among, λ such. such);
     }
 
 three_in_all : (ply : ℕ) → SpanHolds Fits ply (Count Equal 3)

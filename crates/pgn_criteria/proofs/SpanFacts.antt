@@ -3,17 +3,11 @@ use Rattle.std.proofs.Common.{◌≡◌, ◌↔◌, ◌⊎◌, ◌≤◌, ◌<�
 use Rattle.std.proofs.Common.{false, List, [], ◌∷◌, length, get_or, slice_set, Option, Some, None}
 use Rattle.std.proofs.Common.{IsTrue, subst, sym, ap, ◌∙◌, refl, inl, inr, arith}
 use Rattle.std.proofs.lemmas.List.{get_or-set_same, get_or-set_other}
-use Rattle.std.proofs.lemmas.Bool.{cases_lt}
 use Rattle.std.specs.Option.{SomeIff, IfSome}
-use Rattle.pgn_game.specs.Public.Replays.{Replay}
-use Rattle.pgn_criteria.specs.Public.Comparing.{Compares}
-use Rattle.pgn_criteria.specs.Public.Meeting.{Ascend, IsAmong, AreAll, SpanHolds, SpansHold}
-use Rattle.pgn_criteria.specs.Private.Stages.{FitsAt, FitsAbout, IsRun, AreSoMany, SpansStand}
-use Rattle.pgn_criteria.specs.Private.Stages.{AreNoCounts}
-use Rattle.pgn_criteria.specs.Public.Conditions.{Conditions}
-use Rattle.pgn_criteria.specs.declared.compare.Comparison.{Comparison}
-use Rattle.pgn_criteria.specs.declared.condition.SpanClaim.{SpanClaim}
-use Rattle.pgn_criteria.specs.declared.condition.SpanClaim.TheVariants.{For, Count}
+use Rattle.pgn_criteria.proofs.Common.{cases_lt, Replay, Compares, Ascend, IsAmong, AreAll}
+use Rattle.pgn_criteria.proofs.Common.{SpanHolds, SpansHold, FitsAt, FitsAbout, IsRun, SpansStand}
+use Rattle.pgn_criteria.proofs.Common.{AreNoCounts, Conditions, Comparison, SpanClaim, For, Count}
+use Rattle.pgn_criteria.specs.Private.Stages.{AreSoMany}
 
 -- ---- all plies that are such
 
@@ -137,8 +131,7 @@ none_before Such least many from none = record {
     lower (first ∷ more) up = (let low = up.0 in omega (arith, low), up.1)
 
 pub counted_before : (Such : ℕ → Type 0) (least many : ℕ) (is : Bool) → (IsTrue is ↔ Such least)
-    → AreFrom Such (least + 1) many
-    → AreFrom Such least (many + (if is then 1 else 0))
+    → AreFrom Such (least + 1) many → AreFrom Such least (many + (if is then 1 else 0))
 counted_before Such least many true reports from = one_before Such least many from (reports.0 refl)
 counted_before Such least many false reports from =
     let same : many ≡ many + 0 = omega arith in
@@ -191,8 +184,7 @@ count_stands : (Such : ℕ → Type 0) (ply many : ℕ) (comparison : Comparison
     → Compares comparison many count ↔ SpanHolds Such ply (Count comparison count)
 count_stands Such ply many comparison count all = (
   λ stands. (all.0, all.1, subst (λ n. Compares comparison n count) (sym all.2) stands),
-  λ holds. subst (λ n. Compares comparison n count) (one_number Such holds.0 all.0 holds.1 all.1
-      ∙ all.2) holds.2,
+  λ holds. rw (← (one_number Such holds.0 all.0 holds.1 all.1 ∙ all.2)) holds.2,
 )
 
 -- the number of all is asked for by `count` alone
@@ -269,8 +261,7 @@ module _ (old now : List Bool) (About : ℕ → Type 0) (at : ℕ) (is : Bool) (
         let kept = left at (omega arith) in (
           λ t. elim (here.0 (sym put ∙ t))
               [ inl own ↦ inl (sym kept ∙ own) | inr about ↦ inr about ],
-          λ either. put
-              ∙ elim either
+          λ either. put ∙ elim either
               [ inl own ↦ here.1 (inl (kept ∙ own)) | inr about ↦ here.1 (inr about) ],
         ))
   ]

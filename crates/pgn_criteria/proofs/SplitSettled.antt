@@ -1,25 +1,16 @@
 -- Whether squares can be split among items, and so whether a position fits a pattern, is settled.
-use Rattle.std.proofs.Common.{◌≡◌, ◌⊎◌, ℕ, ◌-◌, List, [], ◌∷◌, ◌++◌, length, Option, Some, None}
-use Rattle.std.proofs.Common.{IsTrue, refl, sym, ap, subst, inl, inr}
-use Rattle.std.proofs.lemmas.Bool.{cases_eq}
-use Rattle.std.proofs.lemmas.Option.{same_Some}
-use Rattle.chess.specs.Public.Placements.{Placement}
-use Rattle.chess.specs.Public.Fen.{row, parted_at}
-use Rattle.chess.specs.declared.board.man.Man.{Man}
-use Rattle.chess.proofs.Settled.{Settled, settled_like, settled_both, settled_three, settled_either}
-use Rattle.chess.proofs.Settled.{settled_le, settled_held, settled_not, settled_true, cases_option}
-use Rattle.chess.proofs.Settled.{cases_bytes}
-use Rattle.chess.proofs.Searches.{cases_side, cases_man}
-use Rattle.pgn_criteria.specs.Public.Patterns.{AreMen, IsStretch, CanBeSplit, FitRanks, FitsPattern}
-use Rattle.pgn_criteria.specs.Private.Items.{is_letter, IsItem, items_of}
-use Rattle.pgn_criteria.specs.Private.Items.{IsOf, EachOf, Fits, Reads, item_of, has_man, men_in}
-use Rattle.pgn_criteria.specs.declared.rank.SquareTest.{SquareTest}
-use Rattle.pgn_criteria.specs.declared.rank.SquareTest.TheVariants.{Empty, This, Not, Any, Occupied}
-use Rattle.pgn_criteria.specs.declared.rank.SquareTest.TheVariants.{Of, Among, Other}
-use Rattle.pgn_criteria.specs.declared.rank.Item.{Item}
-use Rattle.pgn_criteria.specs.declared.rank.Item.TheVariants.{Run, Many}
-use Rattle.pgn_criteria.specs.Public.Patterns.IsStretch.{spelled, among, other}
-use Rattle.std.specs.List.{list_all}
+use Rattle.pgn_criteria.proofs.Common.{◌≡◌, ◌⊎◌, ℕ, ◌-◌, List, [], ◌∷◌, ◌++◌, length, Option, Some}
+use Rattle.pgn_criteria.proofs.Common.{None, IsTrue, refl, sym, ap, subst, inl, inr, cases_eq}
+use Rattle.pgn_criteria.proofs.Common.{same_Some, Placement, row, parted_at, Man, Settled}
+use Rattle.pgn_criteria.proofs.Common.{settled_like, settled_both, settled_either, settled_le}
+use Rattle.pgn_criteria.proofs.Common.{settled_held, settled_not, settled_true, cases_bytes}
+use Rattle.pgn_criteria.proofs.Common.{cases_side, AreMen, IsStretch, CanBeSplit, FitRanks}
+use Rattle.pgn_criteria.proofs.Common.{FitsPattern, is_letter, IsItem, items_of, IsOf, EachOf, Fits}
+use Rattle.pgn_criteria.proofs.Common.{Reads, item_of, has_man, men_in, SquareTest, Empty, This}
+use Rattle.pgn_criteria.proofs.Common.{Not, Any, Occupied, Of, Among, Other, Item, Run, Many}
+use Rattle.pgn_criteria.proofs.Common.{spelled, among, other, list_all}
+use Rattle.chess.proofs.Settled.{settled_three, cases_option}
+use Rattle.chess.proofs.Searches.{cases_man}
 use Rattle.pgn_criteria.proofs.ItemFacts.{item_exact, no_stretch}
 use Rattle.pgn_criteria.proofs.SetFacts.{first_of, rest_of, among_read, other_read, no_set}
 use Rattle.pgn_criteria.proofs.SetFacts.{same_after}
@@ -85,8 +76,7 @@ settled_apart [] own no_men =
     settled_no (91 ∷ 93 ∷ []) own (no_set [] no_men (λ letters is are. cc))
 settled_apart (b ∷ letters) own no_men = elim (cases_eq b 94) [
   | inl same ↦
-      subst (λ n. Settled (IsStretch (91 ∷ n ∷ (letters ++ 93 ∷ [])) own)) (sym same)
-      (settled_other letters own (subst (λ n. AreMen (n ∷ letters) → ⊥) same no_men)
+      rw same (settled_other letters own (subst (λ n. AreMen (n ∷ letters) → ⊥) same no_men)
       (settled_men letters))
   | inr differs ↦ settled_no (91 ∷ b
       ∷ (letters ++ 93 ∷ [])) own
@@ -129,8 +119,7 @@ empty_item _ _ _ e = cc
 settled_long : (item : List ℕ) (own : List (Option Man)) (b c : ℕ) (x : List ℕ) → item ≡ b ∷ c ∷ x
     → Settled (item ≡ 91 ∷ (inside_of item ++ 93 ∷ [])) → Settled (IsStretch item own)
 settled_long item own b c x e (inl is) =
-    subst (λ y. Settled (IsStretch y own)) (sym is)
-    (settled_set (inside_of item) own (settled_men (inside_of item)))
+    rw is (settled_set (inside_of item) own (settled_men (inside_of item)))
 settled_long item own b c x e (inr none) =
     inr (λ stretch. none (bracketed item own stretch b c x e))
 
@@ -177,12 +166,7 @@ settled_parted (square ∷ squares) F each =
     settled_like
     (λ h. elim h [
       | inl none ↦ ([], square ∷ squares, refl, none)
-      | inr p ↦ (
-        square ∷ p.0,
-        p.1,
-        ap (λ t. square ∷ t) p.2,
-        p.3,
-      )
+      | inr p ↦ (square ∷ p.0, p.1, ap (λ t. square ∷ t) p.2, p.3)
     ])
     (λ p. part_some F square squares p.0 p.1 p.2 p.3)
     (settled_either (each [] (square ∷ squares))

@@ -1,28 +1,17 @@
 -- Conditions on a game are what they say of the game alone and what they say of a position.
-use Rattle.std.proofs.Common.{◌≡◌, ◌↔◌, ◌+◌, ◌++◌, ◌<◌, ℕ, Bool, true, false, List, []}
-use Rattle.std.proofs.Common.{◌∷◌, length, get_or, Option, Some, None, IsTrue, refl, sym, ◌∙◌}
-use Rattle.std.proofs.Common.{subst, inl, inr, arith}
-use Rattle.std.proofs.lemmas.Option.{slice_get_within, slice_get-get_or, get_or_from_slice_get}
+use Rattle.std.proofs.lemmas.Option.{slice_get-get_or, get_or_from_slice_get}
 use Rattle.std.specs.Prelude.{◌⊎◌}
-use Rattle.std.specs.Option.{unwrap_or}
-use Rattle.std.specs.List.{slice_get}
-use Rattle.chess.specs.Public.Moves.{HasMove}
-use Rattle.chess.specs.Public.Placements.{Placement}
-use Rattle.chess.specs.Public.Positions.{State, IsCheck}
-use Rattle.chess.specs.declared.board.man.Side.{Side}
-use Rattle.pgn_game.specs.Public.Replays.{Replay}
-use Rattle.pgn_criteria.specs.Public.Conditions.{Conditions}
-use Rattle.pgn_criteria.specs.Public.Meeting.{Heading, Taken, AllTaken, IsSoOfGame, IsSoOfMoves}
-use Rattle.pgn_criteria.specs.Public.Meeting.{PositionsHold, AllHold, HoldsThere, SpansHold}
-use Rattle.pgn_criteria.specs.Public.Meeting.{IsMetBy, SomeHold, Meets, AreMet, IsFirst}
-use Rattle.pgn_criteria.specs.Private.Stages.{AllClaims, AllOfGame, SaysOfHeading, AllOfHeading}
-use Rattle.pgn_criteria.specs.Private.Stages.{IsFreeOfMoves, AreFreeOfMoves, AsksWithin}
-use Rattle.pgn_criteria.specs.Private.Stages.{AllAskWithin, AllOfPly, AllOfSeen, on_positions}
-use Rattle.pgn_criteria.specs.Private.Stages.{FitsAt, FitsAbout, IsFirstBefore}
-use Rattle.pgn_criteria.specs.Public.Walks.{IsSeenOf}
-use Rattle.pgn_criteria.specs.declared.condition.Stated.{Stated}
-use Rattle.pgn_criteria.specs.declared.condition.GameClaim.{GameClaim}
-use Rattle.pgn_criteria.specs.declared.condition.GameClaim.TheVariants.{Moves, Plies}
+use Rattle.pgn_criteria.proofs.Common.{◌≡◌, ◌↔◌, ◌+◌, ◌++◌, ◌<◌, ℕ, Bool, true, false, List, []}
+use Rattle.pgn_criteria.proofs.Common.{◌∷◌, length, get_or, Option, Some, None, IsTrue, refl, sym}
+use Rattle.pgn_criteria.proofs.Common.{◌∙◌, subst, inl, inr, arith, slice_get_within, unwrap_or}
+use Rattle.pgn_criteria.proofs.Common.{slice_get, HasMove, Placement, State, IsCheck, Side, Replay}
+use Rattle.pgn_criteria.proofs.Common.{Conditions, Heading, Taken, AllTaken, IsSoOfGame}
+use Rattle.pgn_criteria.proofs.Common.{IsSoOfMoves, PositionsHold, AllHold, HoldsThere, SpansHold}
+use Rattle.pgn_criteria.proofs.Common.{IsMetBy, SomeHold, Meets, AreMet, IsFirst, AllClaims}
+use Rattle.pgn_criteria.proofs.Common.{AllOfHeading, IsFreeOfMoves, AreFreeOfMoves, AsksWithin}
+use Rattle.pgn_criteria.proofs.Common.{AllAskWithin, AllOfSeen, on_positions, FitsAt, FitsAbout}
+use Rattle.pgn_criteria.proofs.Common.{IsFirstBefore, IsSeenOf, Stated, GameClaim, Moves, Plies}
+use Rattle.pgn_criteria.specs.Private.Stages.{AllOfGame, SaysOfHeading, AllOfPly}
 use Rattle.pgn_criteria.proofs.SeenFacts.{all_position}
 use Rattle.pgn_criteria.proofs.WalkFacts.{seen_said}
 use Rattle.pgn_criteria.proofs.SpanFacts.{spans_same, no_spans_hold}
@@ -37,8 +26,7 @@ one_of_heading heading replay denied claim free reports = reports
 
 games_of_heading : (heading : Heading) (replay : Replay)
     (games : List (Stated (GameClaim (List ℕ)))) → AllClaims IsFreeOfMoves games
-    → AllOfHeading heading games
-    → AllTaken (IsSoOfGame heading replay) games
+    → AllOfHeading heading games → AllTaken (IsSoOfGame heading replay) games
 games_of_heading heading replay [] free reports = tt
 games_of_heading heading replay (one ∷ more) free reports = (
   one_of_heading heading replay one.is_denied one.claim free.0 reports.0,
@@ -155,8 +143,7 @@ spans_there heading replay conditions of_game ply =
 met_parted : (heading : Heading) (replay : Replay) (ply : ℕ) (P : State) (conditions : Conditions)
     → IsMetBy heading replay ply P conditions
     ↔ (AllOfGame heading replay conditions × PositionsHold P conditions.positions
-    × AllOfPly replay ply conditions
-    × SpansHold (FitsAt replay conditions) ply conditions.spans)
+    × AllOfPly replay ply conditions × SpansHold (FitsAt replay conditions) ply conditions.spans)
 met_parted heading replay ply P conditions =
     let parts = all_parted heading replay ply P conditions in (
       λ met. let said = parts.0 met.0 in
@@ -176,12 +163,8 @@ one_meets heading replay plies conditions of_game (fits, spans) =
       position = fits.0;
       here = fits.1;
       hold =
-          inl ((met_parted heading replay plies fits.0 conditions).1 (
-            of_game,
-            fits.2,
-            fits.3,
-            spans,
-          ));
+          inl ((met_parted heading replay plies fits.0 conditions).1
+          (of_game, fits.2, fits.3, spans));
     }
 
 one_holds : (heading : Heading) (replay : Replay) (ply : ℕ) (P : State) (conditions : Conditions)
@@ -198,14 +181,12 @@ game_of heading replay plies conditions met =
 pub fits_of : (heading : Heading) (replay : Replay) (plies : ℕ) (conditions : Conditions)
     → Meets heading replay plies (conditions ∷ []) → FitsAbout replay conditions plies
 fits_of heading replay plies conditions met =
-    let all =
-    (met_parted heading replay plies met.position conditions).0
+    let all = (met_parted heading replay plies met.position conditions).0
     (one_holds heading replay plies met.position conditions met.hold) in
     ((met.position, met.here, all.1, all.2), all.3)
 
 pub both_parts : (heading : Heading) (replay : Replay) (plies : ℕ) (conditions : Conditions)
-    (first r : Bool) → IsTrue first
-    → (IsTrue first ↔ AllOfGame heading replay conditions)
+    (first r : Bool) → IsTrue first → (IsTrue first ↔ AllOfGame heading replay conditions)
     → (IsTrue r ↔ FitsAbout replay conditions plies)
     → IsTrue r ↔ Meets heading replay plies (conditions ∷ [])
 both_parts heading replay plies conditions first r holds of_game of_ply = (
@@ -214,16 +195,14 @@ both_parts heading replay plies conditions first r holds of_game of_ply = (
 )
 
 pub first_part_fails : (heading : Heading) (replay : Replay) (plies : ℕ) (conditions : Conditions)
-    (first : Bool) → first ≡ false
-    → (IsTrue first ↔ AllOfGame heading replay conditions)
+    (first : Bool) → first ≡ false → (IsTrue first ↔ AllOfGame heading replay conditions)
     → IsTrue first ↔ Meets heading replay plies (conditions ∷ [])
 first_part_fails heading replay plies conditions first fails of_game =
     (λ t. absurd (cc), λ met. of_game.1 (game_of heading replay plies conditions met))
 
 -- one alternative more
 one_more : (heading : Heading) (replay : Replay) (plies : ℕ) (a : Conditions)
-    (more : List Conditions)
-    → Meets heading replay plies (a ∷ more)
+    (more : List Conditions) → Meets heading replay plies (a ∷ more)
     → Meets heading replay plies (a ∷ []) ⊎ Meets heading replay plies more
 one_more heading replay plies a more met = elim met.hold [
   | inl all ↦ inl (record { position = met.position; here = met.here; hold = inl all })
@@ -322,8 +301,7 @@ hold_after heading replay ply P (first ∷ before) more hold =
     inr (hold_after heading replay ply P before more hold)
 
 hold_either : (heading : Heading) (replay : Replay) (ply : ℕ) (P : State) (before : List Conditions)
-    (more : List Conditions)
-    → SomeHold heading replay ply P (before ++ more)
+    (more : List Conditions) → SomeHold heading replay ply P (before ++ more)
     → SomeHold heading replay ply P before ⊎ SomeHold heading replay ply P more
 hold_either heading replay ply P [] more hold = inr hold
 hold_either heading replay ply P (first ∷ before) more hold = elim hold [
@@ -347,8 +325,7 @@ module _ (heading : Heading) (replay : Replay) (before more : List Conditions) w
       record {
         position = met.position;
         here = met.here;
-        hold =
-            hold_before heading replay ply met.position before more met.hold;
+        hold = hold_before heading replay ply met.position before more met.hold;
       }
 
   met_after : (ply : ℕ) → Meets heading replay ply more → Meets heading replay ply (before ++ more)
@@ -356,8 +333,7 @@ module _ (heading : Heading) (replay : Replay) (before more : List Conditions) w
       record {
         position = met.position;
         here = met.here;
-        hold =
-            hold_after heading replay ply met.position before more met.hold;
+        hold = hold_after heading replay ply met.position before more met.hold;
       }
 
 -- the least of the best so far and of the first ply of one more alternative
@@ -365,8 +341,7 @@ pub next_best : (heading : Heading) (replay : Replay) (before : List Conditions)
     (more : List Conditions) (min max : ℕ) (best found : Option ℕ)
     → IsFirst (λ plies. Meets heading replay plies before) min max best
     → IsFirstBefore (λ plies. Meets heading replay plies more) min (unwrap_or best (max + 1))
-    found
-    → IsFirst (λ plies. Meets heading replay plies (before ++ more)) min max
+    found → IsFirst (λ plies. Meets heading replay plies (before ++ more)) min max
     (elim found [ None ↦ best | Some plies ↦ Some plies ])
 next_best heading replay before more min max best found first here = go best found first here
   where
@@ -376,8 +351,7 @@ next_best heading replay before more min max best found first here = go best fou
 
     go : (best found : Option ℕ) → IsFirst (λ plies. Meets heading replay plies before) min max best
         → IsFirstBefore (λ plies. Meets heading replay plies more) min (unwrap_or best (max + 1))
-        found
-        → IsFirst (λ plies. Meets heading replay plies (before ++ more)) min max
+        found → IsFirst (λ plies. Meets heading replay plies (before ++ more)) min max
         (elim found [ None ↦ best | Some plies ↦ Some plies ])
     go None None first here =
         λ n low high met. elim (either n met)
@@ -388,8 +362,7 @@ next_best heading replay before more min max best found first here = go best fou
       (record {
         position = here.2.position;
         here = here.2.here;
-        hold =
-            hold_after heading replay plies here.2.position before more here.2.hold;
+        hold = hold_after heading replay plies here.2.position before more here.2.hold;
       }),
       λ m low less met.
           let past = here.1 in
@@ -402,8 +375,7 @@ next_best heading replay before more min max best found first here = go best fou
       (record {
         position = first.2.position;
         here = first.2.here;
-        hold =
-            hold_before heading replay best first.2.position before more first.2.hold;
+        hold = hold_before heading replay best first.2.position before more first.2.hold;
       }),
       λ m low less met. elim (either m met)
           [ inl old ↦ first.3 m low less old | inr new ↦ here m low less new ],
@@ -414,8 +386,7 @@ next_best heading replay before more min max best found first here = go best fou
       (record {
         position = here.2.position;
         here = here.2.here;
-        hold =
-            hold_after heading replay plies here.2.position before more here.2.hold;
+        hold = hold_after heading replay plies here.2.position before more here.2.hold;
       }),
       λ m low less met.
           let past = here.1 in
@@ -463,8 +434,7 @@ kept_one heading replay ply P before rest own most of_game within =
 
 pub dropped_one : (heading : Heading) (replay : Replay) (ply : ℕ) (P : State)
     (before rest : List Conditions) (own : Conditions) (r : Bool) → r ≡ false
-    → (IsTrue r ↔ AllOfGame heading replay own)
-    → SomeHold heading replay ply P (before ++ rest)
+    → (IsTrue r ↔ AllOfGame heading replay own) → SomeHold heading replay ply P (before ++ rest)
     ↔ SomeHold heading replay ply P (before ++ own ∷ rest)
 dropped_one heading replay ply P before rest own r fails reports = (
   λ hold. elim (hold_either heading replay ply P before rest hold) [
@@ -490,14 +460,12 @@ same_plies heading replay alternatives others same ply = (
   λ met. record {
     position = met.position;
     here = met.here;
-    hold =
-        (same ply met.position).0 met.hold;
+    hold = (same ply met.position).0 met.hold;
   },
   λ met. record {
     position = met.position;
     here = met.here;
-    hold =
-        (same ply met.position).1 met.hold;
+    hold = (same ply met.position).1 met.hold;
   },
 )
 

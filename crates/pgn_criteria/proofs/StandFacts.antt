@@ -1,14 +1,10 @@
 -- What is kept while one man is followed through the codes of a game.
-use Rattle.std.proofs.Common.{◌≡◌, ◌⊎◌, inl, inr, ◌-◌, ◌≤◌, ◌<◌, ℕ, List, [], ◌∷◌, length, take}
-use Rattle.std.proofs.Common.{drop, get_or, arith, subst, refl, sym, ap, ◌∙◌}
-use Rattle.std.proofs.lemmas.List.{take_all, length-drop}
-use Rattle.chess.specs.Public.Placements.{Placement}
-use Rattle.chess.specs.Shared.SetFacts.{is_in-empty}
-use Rattle.chess.specs.Public.Sets.{Places, is_in, no_places, IsSquaresOf}
-use Rattle.chess.specs.declared.board.man.Man.{Man}
-use Rattle.pgn_game.specs.Public.PlyCodes.{PlyCode, code_of, moved}
-use Rattle.pgn_criteria.specs.Public.Prefilters.{codes_in}
-use Rattle.pgn_criteria.specs.Private.PrefilterTests.{AreTaken, Nowhere}
+use Rattle.std.proofs.lemmas.List.{length-drop}
+use Rattle.pgn_criteria.proofs.Common.{◌≡◌, ◌⊎◌, inl, inr, ◌-◌, ◌≤◌, ◌<◌, ℕ, List, [], ◌∷◌, length}
+use Rattle.pgn_criteria.proofs.Common.{take, drop, get_or, arith, refl, ap, ◌∙◌, take_all}
+use Rattle.pgn_criteria.proofs.Common.{Placement, is_in-empty, Places, is_in, IsSquaresOf, Man}
+use Rattle.pgn_criteria.proofs.Common.{PlyCode, code_of, moved, codes_in, AreTaken, Nowhere}
+use Rattle.chess.specs.Public.Sets.{no_places}
 
 -- no square is known to be taken
 pub none_taken : (men : Placement) (taken : Places) → taken ≡ no_places → AreTaken men taken
@@ -52,8 +48,7 @@ pub ends : (fact : Placement → Type 0) (man : Man) (squares taken : Places) (m
     (codes rest : List ℕ) → IsFollowed fact man men codes squares taken rest → length rest < 3
     → Nowhere fact men (codes_in codes)
 ends fact man squares taken men codes rest way short =
-    way.nowhere (subst (λ (left : List PlyCode).
-    Nowhere fact way.now left) (sym (below rest short)) way.not_here)
+    way.nowhere (rw (below rest short) way.not_here)
 
 -- the men after one more ply
 abbrev pub next_men : Placement → List ℕ → Placement
@@ -71,13 +66,7 @@ goes_on fact man squares squares' taken taken' men codes rest rest' long same wa
       his = his;
       known = known;
       not_here = never;
-      nowhere =
-          λ none. way.nowhere (subst (λ (left : List PlyCode).
-          Nowhere fact way.now left) (sym (three rest long)) (
-            way.not_here,
-            subst (λ (left : List ℕ). Nowhere fact (next_men way.now rest) (codes_in left)) same
-                none,
-          ));
+      nowhere = λ none. way.nowhere (rw (three rest long) (way.not_here, rw (← same) none));
     }
 
 -- what is left after so many bytes

@@ -1,24 +1,20 @@
 -- Whether the value of a tag stands in a relation to a text is settled.
 use Rattle.std.proofs.Common.{◌≡◌, ◌↔◌, ◌==◌, ◌<◌, ℕ, length, Option, Some, None, Bool, true, false}
 use Rattle.std.proofs.Common.{List, [], ◌∷◌, IsTrue, refl, sym, ap, inl, inr, arith}
-use Rattle.std.proofs.lemmas.Bool.{eqb-true, cases_lt}
-use Rattle.std.proofs.lemmas.Bool.Decides.{nat_tests}
 use Rattle.std.specs.declared.cmp.Ordering.{Ordering}
-use Rattle.std.specs.declared.cmp.Ordering.TheVariants as order
-use Rattle.chess.proofs.Settled.{Settled, settled_like, settled_not, settled_true, settled_le}
-use Rattle.pgn_text.specs.Public.Strings.{IsContents}
-use Rattle.pgn_text.specs.Shared.StringTexts.{contents_front, value_of}
+use Rattle.pgn_criteria.proofs.Common.{eqb-true, cases_lt, nat_tests, Settled, settled_like}
+use Rattle.pgn_criteria.proofs.Common.{settled_not, settled_true, settled_le, IsContents, value_of}
+use Rattle.pgn_criteria.proofs.Common.{order_of, Allows, Stands, Compares, IsNumber, number_in}
+use Rattle.pgn_criteria.proofs.Common.{Comparison, Relation, Has, Begins}
+use Rattle.pgn_text.specs.Shared.StringTexts.{contents_front}
 use Rattle.pgn_text.proofs.Values.{is_contents-none, is_contents-some}
-use Rattle.pgn_criteria.specs.Public.Comparing.{order_of, Allows, Stands, Compares, IsNumber}
-use Rattle.pgn_criteria.specs.Public.Comparing.{number_in}
-use Rattle.pgn_criteria.specs.declared.compare.Comparison.{Comparison}
-use Rattle.pgn_criteria.specs.declared.compare.Comparison.TheVariants as compared
-use Rattle.pgn_criteria.specs.declared.compare.Relation.{Relation}
 use Rattle.pgn_criteria.specs.declared.compare.Relation.TheVariants.{Equal, Unequal, Less}
 use Rattle.pgn_criteria.specs.declared.compare.Relation.TheVariants.{LessOrEqual, Greater}
-use Rattle.pgn_criteria.specs.declared.compare.Relation.TheVariants.{GreaterOrEqual, Has, Begins}
+use Rattle.pgn_criteria.specs.declared.compare.Relation.TheVariants.{GreaterOrEqual}
 use Rattle.pgn_criteria.proofs.CompareFacts.{stands_so, number_so, number_missing}
 use Rattle.pgn_criteria.proofs.WithinFacts.{begins_next, has_next, has_at_once, has_nothing}
+use Rattle.std.specs.declared.cmp.Ordering.TheVariants as order
+use Rattle.pgn_criteria.specs.declared.compare.Comparison.TheVariants as compared
 
 -- where a test of the first fact is one of the second, the second is settled with the first
 pub settled_by : {A B : Type 0} → ((r : Bool) → (IsTrue r ↔ A) → IsTrue r ↔ B) → Settled A

@@ -1,21 +1,14 @@
 -- Conditions on a tag: what spells one is read as it, and the other way round.
-use Rattle.std.proofs.Common.{◌≡◌, ◌≢◌, ℕ, true, List, [], ◌∷◌, ◌++◌, refl, sym, IsTrue, ap, ◌∙◌}
-use Rattle.std.proofs.Common.{length, drop, arith}
-use Rattle.std.specs.Prelude.{codes}
-use Rattle.std.specs.List.{list_all}
-use Rattle.std.proofs.lemmas.Bool.Decides.{nat_tests}
 use Rattle.std.proofs.lemmas.List.{length-append}
-use Rattle.chess.specs.Public.Fen.{parted_at}
+use Rattle.pgn_criteria.proofs.Common.{◌≡◌, ◌≢◌, ℕ, true, List, [], ◌∷◌, ◌++◌, refl, sym, IsTrue}
+use Rattle.pgn_criteria.proofs.Common.{ap, ◌∙◌, length, drop, arith, codes, list_all, nat_tests}
+use Rattle.pgn_criteria.proofs.Common.{parted_at, IsContents, after_word, SpellsNamed, SpellsTag}
+use Rattle.pgn_criteria.proofs.Common.{SpellsDigits, SpellsDays, AreNames, CanBeCompared}
+use Rattle.pgn_criteria.proofs.Common.{relation_text, comparison_text, Comparison, Relation, Has}
+use Rattle.pgn_criteria.proofs.Common.{Text, Number, Date, Days}
 use Rattle.pgn_text.specs.Public.Bytes.{is_name_byte}
-use Rattle.pgn_text.specs.Public.Strings.{IsContents}
-use Rattle.pgn_criteria.specs.Private.Reading.{after_word, ReadsNamed}
-use Rattle.pgn_criteria.specs.Public.Lines.{SpellsNamed, SpellsTag, SpellsDigits, SpellsDays}
-use Rattle.pgn_criteria.specs.Public.Lines.{AreNames, CanBeCompared, relation_text, comparison_text}
-use Rattle.pgn_criteria.specs.declared.compare.Comparison.{Comparison}
-use Rattle.pgn_criteria.specs.declared.compare.Relation.{Relation}
-use Rattle.pgn_criteria.specs.declared.compare.Relation.TheVariants.{Equal, Has}
-use Rattle.pgn_criteria.specs.declared.condition.ValueClaim.TheVariants.{Text, Number, Date}
-use Rattle.pgn_criteria.specs.declared.dates.Days.{Days}
+use Rattle.pgn_criteria.specs.Private.Reading.{ReadsNamed}
+use Rattle.pgn_criteria.specs.declared.compare.Relation.TheVariants.{Equal}
 use Rattle.pgn_criteria.proofs.PliesFacts.{comparison_solid, comparison_begins, count_begins}
 use Rattle.pgn_criteria.proofs.PliesFacts.{count_some}
 use Rattle.pgn_criteria.proofs.DayTextFacts.{days_some, days_begin}
@@ -64,16 +57,8 @@ names_begin names are = solid_begins names (names_some names are) (names_solid n
 pub named_read : (key text names operator own : List ℕ) → AreSolid key → AreSolid operator
     → BeginsSolid operator → BeginsSolid own → SpellsNamed key text names operator own
     → ReadsNamed key text names operator own
-named_read key text names operator own solid sign begins rest (
-  first,
-  second,
-  third,
-  is,
-  g,
-  h,
-  k,
-  are,
-) =
+named_read key text names operator own solid sign begins rest
+    (first, second, third, is, g, h, k, are) =
     let compared = operator ++ (third ++ own) in
     let named = names ++ (second ++ compared) in
     let one = word_read text key first named is solid g
@@ -100,11 +85,8 @@ named_spelled key text names operator own begins some reads =
 pub named_once : (key text names other operator sign own more : List ℕ)
     → ReadsNamed key text names operator own → ReadsNamed key text other sign more
     → (names ≡ other) × (operator ≡ sign) × (own ≡ more)
-named_once key text names other operator sign own more is has = (
-  sym is.name_is ∙ has.name_is,
-  sym is.operator_is ∙ has.operator_is,
-  sym is.own_is ∙ has.own_is,
-)
+named_once key text names other operator sign own more is has =
+    (sym is.name_is ∙ has.name_is, sym is.operator_is ∙ has.operator_is, sym is.own_is ∙ has.own_is)
 
 -- the operator and what follows it are these
 named_as : (key text names operator sign own more : List ℕ)
@@ -123,12 +105,8 @@ pub tag_read : (text names : List ℕ) (relation : Relation) (contents : List �
     → ReadsNamed (codes "tag") text names (relation_text relation) (quoted contents)
 tag_read text names relation contents spells =
     named_read (codes "tag") text names (relation_text relation) (quoted contents) refl
-    (relation_solid relation) (relation_begins relation) (
-      34,
-      contents ++ 34 ∷ [],
-      refl,
-      refl,
-    ) spells.0
+    (relation_solid relation) (relation_begins relation)
+    (34, contents ++ 34 ∷ [], refl, refl) spells.0
 
 pub tag_spelled : (text names operator string : List ℕ) (relation : Relation)
     (contents : List ℕ) → ReadsNamed (codes "tag") text names operator string
@@ -143,8 +121,7 @@ tag_spelled text names operator string relation contents reads sign own good fit
 
 -- a number of which the digits end the text
 pub number_read : (text names : List ℕ) (comparison : Comparison) (number : ℕ)
-    → SpellsTag text names (Number comparison number)
-    → (digits : List ℕ)
+    → SpellsTag text names (Number comparison number) → (digits : List ℕ)
     × ReadsNamed (codes "number") text names (comparison_text comparison) digits
     × SpellsDigits 9 digits number
 number_read text names comparison number (digits, named, counted) =

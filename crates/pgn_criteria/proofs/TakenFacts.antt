@@ -1,8 +1,6 @@
 -- Facts that are taken as they are, or denied.
-use Rattle.std.proofs.Common.{◌↔◌, Bool, true, false, List, [], ◌∷◌}
-use Rattle.pgn_criteria.specs.Public.Meeting.{Taken, AllTaken}
-use Rattle.pgn_criteria.specs.Private.Stages.{AllClaims}
-use Rattle.pgn_criteria.specs.declared.condition.Stated.{Stated}
+use Rattle.pgn_criteria.proofs.Common.{◌↔◌, Bool, true, false, List, [], ◌∷◌, Taken, AllTaken}
+use Rattle.pgn_criteria.proofs.Common.{AllClaims, Stated}
 
 -- what is taken of facts that are the same is the same
 pub same_taken : {A B : Type 0} (denied : Bool) → A ↔ B → Taken denied A ↔ Taken denied B
@@ -12,8 +10,7 @@ same_taken true same = (λ none b. none (same.1 b), λ none a. none (same.0 a))
 -- and so it is of all claims of a list
 pub all_same_taken : {C : Type 0} (Such A B : C → Type 0)
     → ((claim : C) → Such claim → A claim ↔ B claim) → (stated : List (Stated C))
-    → AllClaims Such stated
-    → AllTaken A stated ↔ AllTaken B stated
+    → AllClaims Such stated → AllTaken A stated ↔ AllTaken B stated
 all_same_taken Such A B same [] such = (λ all. tt, λ all. tt)
 all_same_taken Such A B same (one ∷ more) such =
     let here = same_taken one.is_denied (same one.claim such.0) in

@@ -1,11 +1,7 @@
 -- Conditions on the turn: what spells one is read as it, and the other way round.
-use Rattle.std.proofs.Common.{◌≡◌, ◌≢◌, ℕ, List, [], refl, sym, ◌∙◌}
 use Rattle.std.specs.Prelude.{codes, Option, Some, None, MatchOption}
-use Rattle.chess.specs.declared.board.man.Side.{Side}
-use Rattle.chess.specs.declared.board.man.Side.TheVariants.{White, Black}
-use Rattle.pgn_criteria.specs.Private.Reading.{run_of, after_word}
-use Rattle.pgn_criteria.specs.Public.Lines.{side_text, SpellsPosition}
-use Rattle.pgn_criteria.specs.declared.condition.PositionClaim.TheVariants.{Turn}
+use Rattle.pgn_criteria.proofs.Common.{◌≡◌, ◌≢◌, ℕ, List, [], refl, sym, ◌∙◌, Side, White, Black}
+use Rattle.pgn_criteria.proofs.Common.{run_of, after_word, side_text, SpellsPosition, Turn}
 use Rattle.pgn_criteria.proofs.SolidFacts.{AreSolid, EndsSolid, solid_begins, solid_ends, word_read}
 use Rattle.pgn_criteria.proofs.SolidFacts.{word_spelled}
 

@@ -1,17 +1,10 @@
 -- What conditions say of what is seen of a position is what they say of the position; and a step by
 -- the code of a move keeps that.
-use Rattle.std.proofs.Common.{◌↔◌, ℕ, List, refl, sym, ap, subst, ◌∙◌}
-use Rattle.chess.specs.Public.Moves.{HasMove}
-use Rattle.chess.specs.Public.Placements.{Placement, opposite}
-use Rattle.chess.specs.Public.Positions.{State, IsCheck}
-use Rattle.chess.specs.declared.board.man.Side.{Side}
-use Rattle.pgn_game.specs.Public.PlyCodes.{moved}
+use Rattle.pgn_criteria.proofs.Common.{◌↔◌, ℕ, List, refl, sym, ap, subst, ◌∙◌, HasMove, Placement}
+use Rattle.pgn_criteria.proofs.Common.{opposite, State, IsCheck, Side, moved, AllOfSeen}
+use Rattle.pgn_criteria.proofs.Common.{PositionsHold, IsSeenOf, PositionCondition}
 use Rattle.pgn_game.proofs.PlyCodeFacts.{moved_after}
 use Rattle.pgn_criteria.specs.Public.Laws.{StepShowsNextPosition}
-use Rattle.pgn_criteria.specs.Private.Stages.{AllOfSeen}
-use Rattle.pgn_criteria.specs.Public.Meeting.{PositionsHold}
-use Rattle.pgn_criteria.specs.Public.Walks.{IsSeenOf}
-use Rattle.pgn_criteria.specs.declared.condition.PositionCondition.{PositionCondition}
 use Rattle.pgn_criteria.proofs.SeenFacts.{all_said, all_position}
 
 -- a position is seen as it is

@@ -1,17 +1,14 @@
 -- Values that begin with a text, and that have it within them.
-use Rattle.std.proofs.Common.{◌≡◌, ◌≢◌, ◌≤◌, ◌-◌, ℕ, true, false, List, [], ◌∷◌, ◌++◌, length}
-use Rattle.std.proofs.Common.{get_or, take, drop, refl, sym, ap, ◌∙◌, subst, arith}
-use Rattle.std.proofs.lemmas.Bool.Decides.{nat_tests}
 use Rattle.std.specs.Prelude.{Option, Some, None, IsTrue, ◌==◌, ◌&&◌, not, flat_map, ◌↔◌}
-use Rattle.std.specs.List.{list_all}
 use Rattle.std.specs.Option.{option_eq}
 use Rattle.std.specs.Iterator.{YieldsFirst}
-use Rattle.std.proofs.lemmas.Bool.{and_parts}
-use Rattle.std.proofs.lemmas.List.{take_all, length-drop}
+use Rattle.std.proofs.lemmas.List.{length-drop}
+use Rattle.pgn_criteria.proofs.Common.{◌≡◌, ◌≢◌, ◌≤◌, ◌-◌, ℕ, true, false, List, [], ◌∷◌, ◌++◌}
+use Rattle.pgn_criteria.proofs.Common.{length, get_or, take, drop, refl, sym, ap, ◌∙◌, arith}
+use Rattle.pgn_criteria.proofs.Common.{nat_tests, list_all, and_parts, take_all, Allows, Has}
+use Rattle.pgn_criteria.proofs.Common.{Begins, Sign, Single, Escaped, spelled_sign, IsContents}
 use Rattle.pgn_text.specs.Public.Bytes.{is_plain}
-use Rattle.pgn_criteria.specs.Public.Comparing.{Allows}
-use Rattle.pgn_criteria.specs.declared.compare.Relation.TheVariants.{Has, Begins}
-use Rattle.pgn_text.specs.Public.Strings.{Sign, Single, Escaped, spelled_sign, is_sign, IsContents}
+use Rattle.pgn_text.specs.Public.Strings.{is_sign}
 
 -- ---- contents without the first byte of their value
 
@@ -42,8 +39,7 @@ pub after_escape : (contents : List ℕ) → IsContents contents → get_or cont
     → IsContents (take (length contents - 2) (drop 2 contents))
 after_escape contents (signs, is, all) first =
     rw (take_all (length contents - 2) (drop 2 contents) (omega (arith, length-drop 2 contents)))
-    (subst (λ c. IsContents (drop 2 c)) (sym is)
-    (escape_dropped signs all (ap (λ c. get_or c 0 0) (sym is) ∙ first)))
+    (rw is (escape_dropped signs all (ap (λ c. get_or c 0 0) (sym is) ∙ first)))
 
 pub after_byte : (contents : List ℕ) → IsContents contents
     → (2 ≤ length contents → get_or contents 0 0 ≡ 92
@@ -51,10 +47,7 @@ pub after_byte : (contents : List ℕ) → IsContents contents
     → IsContents (take (length contents - 1) (drop 1 contents))
 after_byte contents (signs, is, all) other =
     rw (take_all (length contents - 1) (drop 1 contents) (omega (arith, length-drop 1 contents)))
-    (subst (λ c. IsContents (drop 1 c)) (sym is)
-    (byte_dropped signs all
-    (subst (λ c. 2 ≤ length c → get_or c 0 0 ≡ 92
-    → (get_or c 1 0 ≢ 34) × (get_or c 1 0 ≢ 92)) is other)))
+    (rw is (byte_dropped signs all (rw (← is) other)))
 
 -- ---- a value that begins with a text
 
@@ -73,8 +66,7 @@ pub begins_next : (given text given_after text_after : List ℕ) (byte : ℕ)
 begins_next given text given_after text_after byte is means = (
   (λ begun. (
     begun.0,
-    is ∙ ap (λ (xs : List ℕ). byte ∷ xs) begun.1
-        ∙ ap (λ (xs : List ℕ). xs ++ begun.0) (sym means),
+    is ∙ ap (λ (xs : List ℕ). byte ∷ xs) begun.1 ∙ ap (λ (xs : List ℕ). xs ++ begun.0) (sym means),
   )),
   (λ begun. (begun.0, ap (drop 1) (sym is ∙ begun.1 ∙ ap (λ (xs : List ℕ). xs ++ begun.0) means))),
 )

@@ -1,11 +1,10 @@
-use Rattle.std.proofs.Common.{◌≡◌, ◌+◌, ◌∷◌, [], true, length, drop, subst, sym, ap, ◌∙◌, arith}
-use Rattle.std.proofs.Math.Seq.{drop-length}
-use Rattle.pgn_criteria.specs.Private.Stages.{OfPattern, AllOfPatterns, seen, stage_of}
-use Rattle.pgn_criteria.specs.declared.meets.Stage.TheVariants.{Squares}
+use Rattle.pgn_criteria.proofs.Common.{◌≡◌, ◌+◌, ◌∷◌, [], true, length, drop, subst, sym, ap, ◌∙◌}
+use Rattle.pgn_criteria.proofs.Common.{arith, drop-length, AllOfPatterns, seen, stage_of, Squares}
+use Rattle.pgn_criteria.specs.Private.Stages.{OfPattern}
 use Rattle.pgn_criteria.proofs.MeetFacts.{alternatives_from, all_seen}
 use Rattle.pgn_criteria.proofs.LayoutFacts.{lays_step, lays_end}
-use Rattle.pgn_criteria.proofs.alternative.plan_all.Goals as goal
 use Rattle.pgn_criteria.proofs.alternative.plan_all.Goals.{then-branch, else-branch}
+use Rattle.pgn_criteria.proofs.alternative.plan_all.Goals as goal
 
 pub loop-condition-preserved : goal.loop-condition-preserved
 loop-condition-preserved c =

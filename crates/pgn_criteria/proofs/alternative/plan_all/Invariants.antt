@@ -1,6 +1,4 @@
-use Rattle.std.proofs.Common.{drop, map}
-use Rattle.pgn_criteria.specs.Private.Planning.{Plans}
-use Rattle.pgn_criteria.specs.Private.Stages.{AllOfPatterns, seen}
+use Rattle.pgn_criteria.proofs.Common.{drop, map, Plans, AllOfPatterns, seen}
 use Rattle.pgn_criteria.proofs.alternative.plan_all.Given as goal
 
 abbrev pub invariant-loop-condition : goal.invariant-loop-condition

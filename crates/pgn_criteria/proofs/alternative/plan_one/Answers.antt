@@ -1,6 +1,4 @@
-use Rattle.std.proofs.Common.{true, false, refl, ap}
-use Rattle.pgn_criteria.specs.Private.Stages.{position_seen}
-use Rattle.pgn_criteria.specs.declared.condition.PositionClaim.TheVariants.{Fen, Flip}
+use Rattle.pgn_criteria.proofs.Common.{true, false, refl, ap, position_seen, Fen, Flip}
 use Rattle.pgn_criteria.proofs.PlanFacts.{planned_claim}
 use Rattle.pgn_criteria.proofs.alternative.plan_one.Goals as goal
 

@@ -1,6 +1,5 @@
-use Rattle.std.proofs.Common.{◌≡◌, ◌+◌, ◌∷◌, [], length, drop, map, sym, subst, ap, ◌∙◌, arith}
-use Rattle.std.proofs.Math.Seq.{drop-length}
-use Rattle.pgn_criteria.specs.Private.Stages.{AllSaid, seen}
+use Rattle.pgn_criteria.proofs.Common.{◌≡◌, ◌+◌, ◌∷◌, [], length, drop, map, sym, subst, ap, ◌∙◌}
+use Rattle.pgn_criteria.proofs.Common.{arith, drop-length, AllSaid, seen}
 use Rattle.pgn_criteria.proofs.ByMarkFacts.{has_all, said_on}
 use Rattle.pgn_criteria.proofs.MeetFacts.{alternatives_from}
 use Rattle.pgn_criteria.proofs.by_marks.marks_of_all.Goals as goal

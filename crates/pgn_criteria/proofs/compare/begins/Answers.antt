@@ -1,9 +1,5 @@
-use Rattle.std.proofs.Common.{◌≡◌, ◌∷◌, sym, ◌∙◌}
 use Rattle.std.specs.Prelude.{◌↔◌}
-use Rattle.pgn_text.specs.Shared.StringTexts.{value_of}
-use Rattle.pgn_text.proofs.Values.{one_value}
-use Rattle.pgn_criteria.specs.Public.Comparing.{Allows}
-use Rattle.pgn_criteria.specs.declared.compare.Relation.TheVariants.{Begins}
+use Rattle.pgn_criteria.proofs.Common.{◌≡◌, ◌∷◌, sym, ◌∙◌, value_of, one_value, Allows, Begins}
 use Rattle.pgn_criteria.proofs.WithinFacts.{same_next, begins_next}
 use Rattle.pgn_criteria.proofs.compare.begins.Goals as goal
 

@@ -1,7 +1,4 @@
-use Rattle.std.proofs.Common.{◌↔◌}
-use Rattle.pgn_text.specs.Shared.StringTexts.{value_of}
-use Rattle.pgn_criteria.specs.Public.Comparing.{Allows}
-use Rattle.pgn_criteria.specs.declared.compare.Relation.TheVariants.{Begins}
+use Rattle.pgn_criteria.proofs.Common.{◌↔◌, value_of, Allows, Begins}
 use Rattle.pgn_criteria.proofs.compare.begins.Given as goal
 
 abbrev pub invariant-loop-byte : goal.invariant-loop-byte

@@ -1,8 +1,5 @@
-use Rattle.std.proofs.Common.{◌≡◌, true, refl, drop}
 use Rattle.std.specs.Prelude.{◌↔◌}
-use Rattle.pgn_text.specs.Shared.StringTexts.{value_of}
-use Rattle.pgn_criteria.specs.Public.Comparing.{Allows}
-use Rattle.pgn_criteria.specs.declared.compare.Relation.TheVariants.{Has, Begins}
+use Rattle.pgn_criteria.proofs.Common.{◌≡◌, true, refl, drop, value_of, Allows, Has, Begins}
 use Rattle.pgn_criteria.proofs.WithinFacts.{has_next, has_at_once}
 use Rattle.pgn_criteria.proofs.compare.has.Goals as goal
 

@@ -1,8 +1,4 @@
-use Rattle.std.proofs.Common.{◌↔◌, length}
-use Rattle.pgn_text.specs.Public.Strings.{IsContents}
-use Rattle.pgn_text.specs.Shared.StringTexts.{value_of}
-use Rattle.pgn_criteria.specs.Public.Comparing.{Allows}
-use Rattle.pgn_criteria.specs.declared.compare.Relation.TheVariants.{Has}
+use Rattle.pgn_criteria.proofs.Common.{◌↔◌, length, IsContents, value_of, Allows, Has}
 use Rattle.pgn_criteria.proofs.compare.has.Given as goal
 
 abbrev pub invariant-loop-rest : goal.invariant-loop-rest

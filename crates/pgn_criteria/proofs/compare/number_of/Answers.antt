@@ -1,7 +1,4 @@
-use Rattle.std.proofs.Common.{◌≡◌, ap, sym, ◌∙◌, arith}
-use Rattle.pgn_text.specs.Shared.StringTexts.{value_of}
-use Rattle.pgn_text.proofs.Values.{one_value}
-use Rattle.pgn_criteria.specs.Private.Numbers.{number_after}
+use Rattle.pgn_criteria.proofs.Common.{◌≡◌, ap, sym, ◌∙◌, arith, value_of, one_value, number_after}
 use Rattle.pgn_criteria.proofs.NumberFacts.{number_found, tenfold, digit_small}
 use Rattle.pgn_criteria.proofs.compare.number_of.Goals as goal
 
@@ -26,8 +23,7 @@ overflow_mul-number c =
 
 pub overflow_add-number : goal.overflow_add-number
 overflow_add-number c =
-    let bound =
-    tenfold c.loop-byte.number c.loop-byte.digits c.loop-byte.invariant.few
+    let bound = tenfold c.loop-byte.number c.loop-byte.digits c.loop-byte.invariant.few
     c.if-digits-eq18.false c.loop-byte.invariant.small in
     let digit = digit_small c.in-Some.byte (sym (c.if-not-is_digit.ensures)) in
     omega (arith, bound, digit, c.from.ensures)

@@ -1,7 +1,4 @@
-use Rattle.std.proofs.Common.{◌≡◌, ◌≤◌, ◌<◌, ◌^◌}
-use Rattle.pgn_text.specs.Shared.StringTexts.{value_of}
-use Rattle.pgn_criteria.specs.Public.Comparing.{number_in}
-use Rattle.pgn_criteria.specs.Private.Numbers.{number_after}
+use Rattle.pgn_criteria.proofs.Common.{◌≡◌, ◌≤◌, ◌<◌, ◌^◌, value_of, number_in, number_after}
 use Rattle.pgn_criteria.proofs.compare.number_of.Given as goal
 
 abbrev pub invariant-loop-byte : goal.invariant-loop-byte

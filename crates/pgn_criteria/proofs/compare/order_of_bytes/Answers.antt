@@ -1,9 +1,7 @@
-use Rattle.std.proofs.Common.{◌≡◌, refl, ◌∙◌}
 use Rattle.std.specs.Ordering.{nat_cmp}
 use Rattle.std.proofs.lemmas.Iterator.Search.{cmp_from_yields_List}
 use Rattle.std.proofs.lemmas.Iterator.Consumers.{YieldsList-from_first}
-use Rattle.pgn_text.specs.Shared.StringTexts.{value_of}
-use Rattle.pgn_text.proofs.Values.{one_value}
+use Rattle.pgn_criteria.proofs.Common.{◌≡◌, refl, ◌∙◌, value_of, one_value}
 use Rattle.pgn_criteria.proofs.compare.order_of_bytes.Goals as goal
 
 pub returns : goal.returns

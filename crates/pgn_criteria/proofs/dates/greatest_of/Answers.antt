@@ -1,5 +1,4 @@
-use Rattle.std.proofs.Common.{◌∷◌, [], arith}
-use Rattle.pgn_criteria.specs.Public.Dates.{MayWrite}
+use Rattle.pgn_criteria.proofs.Common.{◌∷◌, [], arith, MayWrite}
 use Rattle.pgn_criteria.proofs.DateFacts.{greatest_found, greatest_next}
 use Rattle.pgn_criteria.proofs.dates.greatest_of.Goals as goal
 

@@ -1,5 +1,4 @@
-use Rattle.std.proofs.Common.{◌≤◌, ◌<◌, ◌∷◌, [], ℕ}
-use Rattle.pgn_criteria.specs.Public.Dates.{MayWrite}
+use Rattle.pgn_criteria.proofs.Common.{◌≤◌, ◌<◌, ◌∷◌, [], ℕ, MayWrite}
 use Rattle.pgn_criteria.proofs.dates.greatest_of.Given as goal
 
 abbrev pub invariant-loop-number : goal.invariant-loop-number

@@ -2,8 +2,7 @@ use Rattle.std.proofs.Common.{refl}
 use Rattle.pgn_criteria.proofs.dates.last_day.Goals as goal
 
 pub returns-in_err-year : goal.returns-in_err-year
-returns-in_err-year c =
-    rw c.from_residual.ensures λ day may. c.in_err-year.ensures day.year may.0
+returns-in_err-year c = rw c.from_residual.ensures λ day may. c.in_err-year.ensures day.year may.0
 
 pub returns-in_err-month : goal.returns-in_err-month
 returns-in_err-month c =

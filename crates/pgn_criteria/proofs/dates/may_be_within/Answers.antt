@@ -1,6 +1,4 @@
-use Rattle.std.proofs.Common.{refl, subst, arith}
-use Rattle.pgn_criteria.specs.Public.Dates.{MayWrite}
-use Rattle.pgn_criteria.specs.Private.DateEnds.{year_text}
+use Rattle.pgn_criteria.proofs.Common.{refl, subst, arith, MayWrite, year_text}
 use Rattle.pgn_criteria.proofs.dates.may_be_within.Goals as goal
 
 pub returns-then-not-may_be_year : goal.returns-then-not-may_be_year
@@ -33,20 +31,9 @@ returns c =
         record {
           year = c.args.days.year;
           month = c.in-Some.field-0;
-          day =
-              c.in-Some-least_of.field-0;
+          day = c.in-Some-least_of.field-0;
         },
-        (
-          year,
-          refl,
-          month.2,
-          omega arith,
-          omega arith,
-          refl,
-          day.2,
-          omega arith,
-          omega arith,
-        ),
+        (year, refl, month.2, omega arith, omega arith, refl, day.2, omega arith, omega arith),
         (refl, month.0, month.1, day.0, day.1),
       )),
       (λ it. refl),

@@ -1,6 +1,4 @@
-use Rattle.std.proofs.Common.{subst}
-use Rattle.pgn_criteria.specs.Private.Stages.{position_seen}
-use Rattle.pgn_criteria.specs.Public.Meeting.{IsSoAt}
+use Rattle.pgn_criteria.proofs.Common.{subst, position_seen, IsSoAt}
 use Rattle.pgn_criteria.proofs.doubt.men_doubt.Goals as goal
 
 pub returns-in-Material : goal.returns-in-Material

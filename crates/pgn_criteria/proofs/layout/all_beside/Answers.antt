@@ -14,9 +14,8 @@ loop-asked-preserved c =
     let conditions : take (i + 1) all ≡ take i all ++ (asked ∷ []) =
     alternatives_to all i asked c.loop-asked-test.true c.asked-item.is in
     subst (λ x. AreTurned x (take (i + 1) all)) (sym c.in_ok-push.ensures.items)
-    (subst (λ y. AreTurned (before ++ (one ∷ [])) y) (sym conditions)
-    (turned_more before (take i all) one asked c.loop-asked.invariant c.beside.ensures.class
-    c.beside.ensures.square c.beside.ensures.on_board))
+    (rw conditions (turned_more before (take i all) one asked c.loop-asked.invariant
+    c.beside.ensures.class c.beside.ensures.square c.beside.ensures.on_board))
 
 pub returns : goal.returns
 returns c =

@@ -1,5 +1,4 @@
-use Rattle.std.proofs.Common.{◌↔◌, drop}
-use Rattle.pgn_criteria.specs.Private.Layouts.{AllStand}
+use Rattle.pgn_criteria.proofs.Common.{◌↔◌, drop, AllStand}
 use Rattle.pgn_criteria.proofs.layout.all_stand.Given as goal
 
 abbrev pub invariant-loop-asked : goal.invariant-loop-asked

@@ -1,5 +1,4 @@
-use Rattle.std.proofs.Common.{◌≡◌, length, reverse}
-use Rattle.pgn_criteria.specs.Private.Reading.{after_blanks}
+use Rattle.pgn_criteria.proofs.Common.{◌≡◌, length, reverse, after_blanks}
 use Rattle.pgn_criteria.proofs.line.before_blanks.Given as goal
 
 abbrev pub invariant-loop-rest : goal.invariant-loop-rest

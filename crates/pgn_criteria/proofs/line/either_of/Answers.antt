@@ -1,6 +1,5 @@
-use Rattle.std.proofs.Common.{◌≡◌, true, false, sym, ap, ◌∙◌}
-use Rattle.pgn_criteria.specs.Public.Lines.{SpellsPosition}
-use Rattle.pgn_criteria.specs.Private.Stages.{position_seen}
+use Rattle.pgn_criteria.proofs.Common.{◌≡◌, true, false, sym, ap, ◌∙◌, SpellsPosition}
+use Rattle.pgn_criteria.proofs.Common.{position_seen}
 use Rattle.pgn_criteria.proofs.ClaimFacts.{positions_are, same_key, can_by_key, can_read}
 use Rattle.pgn_criteria.proofs.ClaimFacts.{can_be_seen}
 use Rattle.pgn_criteria.proofs.line.either_of.Goals as goal

@@ -1,8 +1,6 @@
-use Rattle.std.proofs.Common.{◌≡◌, ℕ, List, sym, subst}
-use Rattle.std.specs.Prelude.{codes, Option, Some, None, MatchOption}
-use Rattle.pgn_criteria.specs.Public.Lines.{SpellsPosition}
-use Rattle.pgn_criteria.specs.Private.Reading.{run_of, after_word}
-use Rattle.pgn_criteria.specs.declared.condition.PositionClaim.TheVariants.{Fen, Flip}
+use Rattle.std.specs.Prelude.{Option, Some, None}
+use Rattle.pgn_criteria.proofs.Common.{◌≡◌, ℕ, List, sym, subst, codes, MatchOption, SpellsPosition}
+use Rattle.pgn_criteria.proofs.Common.{run_of, after_word, Fen, Flip}
 use Rattle.pgn_criteria.proofs.FenFacts.{flip_read, flip_spelled}
 use Rattle.pgn_criteria.proofs.line.flip_of.Goals as goal
 

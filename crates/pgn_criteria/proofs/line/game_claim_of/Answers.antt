@@ -1,13 +1,7 @@
-use Rattle.std.proofs.Common.{ℕ, List}
-use Rattle.std.specs.Prelude.{Option, Some, None, MatchOption}
-use Rattle.pgn_criteria.specs.Public.Lines.{SpellsTag, SpellsGame}
-use Rattle.pgn_criteria.specs.Private.Stages.{game_seen}
-use Rattle.pgn_criteria.specs.declared.compare.Comparison.{Comparison}
-use Rattle.pgn_criteria.specs.declared.compare.Relation.{Relation}
-use Rattle.pgn_criteria.specs.declared.condition.ValueClaim.TheVariants.{Text, Number, Date}
-use Rattle.pgn_criteria.specs.declared.dates.Days.{Days}
-use Rattle.pgn_criteria.specs.declared.condition.GameClaim.{GameClaim}
-use Rattle.pgn_criteria.specs.declared.condition.GameClaim.TheVariants.{Tag, Moves, Plies, Result}
+use Rattle.std.specs.Prelude.{Option, Some, None}
+use Rattle.pgn_criteria.proofs.Common.{ℕ, List, MatchOption, SpellsTag, SpellsGame, game_seen}
+use Rattle.pgn_criteria.proofs.Common.{Comparison, Relation, Text, Number, Date, Days, GameClaim}
+use Rattle.pgn_criteria.proofs.Common.{Tag, Moves, Plies, Result}
 use Rattle.pgn_criteria.proofs.line.game_claim_of.Goals as goal
 
 -- a text that is no claim of five forms is one on the text of a tag, or none
@@ -18,8 +12,7 @@ or_tag : {T : Type 0} (bytes : T → List ℕ) (text : List ℕ) (found : Option
     → ((names : List ℕ) (comparison : Comparison) (number : ℕ)
     → SpellsTag text names (Number comparison number) → ⊥)
     → ((names : List ℕ) (comparison : Comparison) (days : Days)
-    → SpellsTag text names (Date comparison days) → ⊥)
-    → MatchOption found
+    → SpellsTag text names (Date comparison days) → ⊥) → MatchOption found
     ((names contents : List ℕ) (relation : Relation) → SpellsTag text names (Text relation contents)
     → ⊥)
     (λ f. SpellsGame text (game_seen bytes f))

@@ -1,5 +1,4 @@
-use Rattle.pgn_criteria.specs.Public.Lines.{SpellsGame}
-use Rattle.pgn_criteria.specs.Private.Stages.{game_seen}
+use Rattle.pgn_criteria.proofs.Common.{SpellsGame, game_seen}
 use Rattle.pgn_criteria.proofs.ClaimFacts.{games_are, taken_read, taken_spelled}
 use Rattle.pgn_criteria.proofs.line.game_of.Goals as goal
 

@@ -1,12 +1,6 @@
-use Rattle.std.proofs.Common.{rules, ◌≡◌, ◌≢◌, ℕ, List, sym, ◌∙◌, subst}
-use Rattle.std.specs.Prelude.{codes}
-use Rattle.std.specs.Cmp.Lexicographic.{same_text}
-use Rattle.pgn_criteria.specs.Public.Lines.{IsLine, Spells, SpellsCondition}
-use Rattle.pgn_criteria.specs.Private.Reading.{core_of}
-use Rattle.pgn_criteria.specs.Private.Stages.{condition_seen}
-use Rattle.pgn_criteria.specs.declared.condition.Condition.{Condition}
-use Rattle.pgn_criteria.specs.declared.line.Meaning.{Meaning}
-use Rattle.pgn_criteria.specs.declared.line.Meaning.TheVariants.{Nothing, Or, Asks}
+use Rattle.pgn_criteria.proofs.Common.{rules, ◌≡◌, ◌≢◌, ℕ, List, sym, ◌∙◌, subst, codes, same_text}
+use Rattle.pgn_criteria.proofs.Common.{IsLine, Spells, SpellsCondition, core_of, condition_seen}
+use Rattle.pgn_criteria.proofs.Common.{Condition, Meaning, Nothing, Or, Asks}
 use Rattle.pgn_criteria.proofs.ConditionFacts.{line_read, line_spelled}
 use Rattle.pgn_criteria.proofs.line.meaning_of.Goals as goal
 
@@ -17,8 +11,7 @@ means_it line text means is spells = line_spelled line means (subst (λ x. Spell
 
 -- a line whose core spells nothing else means nothing
 means_none : (line text : List ℕ) → text ≡ core_of line → (Spells text Nothing → ⊥)
-    → text ≢ codes "or"
-    → ((condition : Condition (List ℕ)) → SpellsCondition text condition → ⊥)
+    → text ≢ codes "or" → ((condition : Condition (List ℕ)) → SpellsCondition text condition → ⊥)
     → (means : Meaning (List ℕ)) → IsLine line means → ⊥
 means_none line text is skipped or asked means line_is =
     none means (subst (λ x. Spells x means) (sym is) (line_read line means line_is))

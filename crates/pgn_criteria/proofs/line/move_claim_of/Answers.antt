@@ -1,7 +1,4 @@
-use Rattle.std.proofs.Common.{ℕ, List}
-use Rattle.pgn_criteria.specs.Public.Lines.{SpellsMove}
-use Rattle.pgn_criteria.specs.declared.condition.MoveClaim.{MoveClaim}
-use Rattle.pgn_criteria.specs.declared.condition.MoveClaim.TheVariants.{Next, Played}
+use Rattle.pgn_criteria.proofs.Common.{ℕ, List, SpellsMove, MoveClaim, Next, Played}
 use Rattle.pgn_criteria.proofs.line.move_claim_of.Goals as goal
 
 none : (text : List ℕ) → ((word : List ℕ) → SpellsMove text (Next word) → ⊥)

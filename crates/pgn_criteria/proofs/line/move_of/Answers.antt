@@ -1,5 +1,4 @@
-use Rattle.pgn_criteria.specs.Public.Lines.{SpellsMove}
-use Rattle.pgn_criteria.specs.Private.Stages.{move_seen}
+use Rattle.pgn_criteria.proofs.Common.{SpellsMove, move_seen}
 use Rattle.pgn_criteria.proofs.ClaimFacts.{moves_are, taken_read, taken_spelled}
 use Rattle.pgn_criteria.proofs.line.move_of.Goals as goal
 

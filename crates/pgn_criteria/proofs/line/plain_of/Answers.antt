@@ -1,6 +1,4 @@
-use Rattle.std.proofs.Common.{refl}
-use Rattle.pgn_criteria.specs.Public.Lines.{SpellsPosition}
-use Rattle.pgn_criteria.specs.Private.Stages.{position_seen}
+use Rattle.pgn_criteria.proofs.Common.{refl, SpellsPosition, position_seen}
 use Rattle.pgn_criteria.proofs.ClaimFacts.{positions_are, taken_read, taken_spelled}
 use Rattle.pgn_criteria.proofs.line.plain_of.Goals as goal
 

@@ -1,13 +1,7 @@
-use Rattle.std.proofs.Common.{◌≢◌, ℕ, List}
-use Rattle.std.specs.Prelude.{codes, Option, Some, None, MatchOption}
-use Rattle.chess.specs.declared.board.man.Side.{Side}
-use Rattle.pgn_criteria.specs.Public.Lines.{SpellsPosition}
-use Rattle.pgn_criteria.specs.Private.Stages.{position_seen}
-use Rattle.pgn_criteria.specs.declared.material.Limits.{Limits}
-use Rattle.pgn_criteria.specs.declared.condition.PositionClaim.{PositionClaim}
-use Rattle.pgn_criteria.specs.declared.condition.PositionClaim.TheVariants.{Fen, Flip, Material}
-use Rattle.pgn_criteria.specs.declared.condition.PositionClaim.TheVariants.{Turn, Check, Mate}
-use Rattle.pgn_criteria.specs.declared.condition.PositionClaim.TheVariants.{Stalemate}
+use Rattle.std.specs.Prelude.{Option, Some, None}
+use Rattle.pgn_criteria.proofs.Common.{◌≢◌, ℕ, List, codes, MatchOption, Side, SpellsPosition}
+use Rattle.pgn_criteria.proofs.Common.{position_seen, Limits, PositionClaim, Fen, Flip, Material}
+use Rattle.pgn_criteria.proofs.Common.{Turn, Check, Mate, Stalemate}
 use Rattle.pgn_criteria.proofs.line.position_claim_of.Goals as goal
 
 -- a text that is no claim of four kinds is one of one word, or none

@@ -1,11 +1,8 @@
-use Rattle.std.proofs.Common.{◌≡◌, ◌≢◌, ℕ, Bool, true, false, List, IsTrue, sym, subst}
-use Rattle.std.specs.Prelude.{codes, Option, Some, None, MatchOption}
-use Rattle.pgn_criteria.specs.Public.Lines.{SpellsPosition, SpellsTaken, SpellsTurned}
-use Rattle.pgn_criteria.specs.Public.Mirrors.{can_be_mirrored}
-use Rattle.pgn_criteria.specs.Private.Reading.{run_of, after_word}
-use Rattle.pgn_criteria.specs.Private.Stages.{position_seen}
-use Rattle.pgn_criteria.specs.declared.condition.PositionCondition.{PositionCondition}
-use Rattle.pgn_criteria.specs.declared.condition.PositionClaim.{PositionClaim}
+use Rattle.std.specs.Prelude.{Option, Some, None}
+use Rattle.pgn_criteria.proofs.Common.{◌≡◌, ◌≢◌, ℕ, Bool, true, false, List, IsTrue, sym, subst}
+use Rattle.pgn_criteria.proofs.Common.{codes, MatchOption, SpellsPosition, SpellsTaken}
+use Rattle.pgn_criteria.proofs.Common.{SpellsTurned, can_be_mirrored, run_of, after_word}
+use Rattle.pgn_criteria.proofs.Common.{position_seen, PositionCondition, PositionClaim}
 use Rattle.pgn_criteria.proofs.ClaimFacts.{positions_are, taken_either}
 use Rattle.pgn_criteria.proofs.ConditionFacts.{either_read, either_spelled}
 use Rattle.pgn_criteria.proofs.line.position_of.Goals as goal
@@ -23,8 +20,7 @@ turned : {T : Type 0} (bytes : T
     (λ f. SpellsTurned text f.is_either f.is_denied (position_seen bytes f.claim))
 turned bytes text own (Some f) run is reports =
     let claim = position_seen bytes f.claim in
-    subst (λ e. SpellsTurned text e f.is_denied claim) (sym reports.0)
-    (either_spelled text own f.is_denied claim run is reports.1 reports.2)
+    rw reports.0 (either_spelled text own f.is_denied claim run is reports.1 reports.2)
 turned bytes text own None run is none =
     λ condition. by condition.is_either condition.is_denied condition.claim
   where
@@ -47,9 +43,7 @@ plain : {T : Type 0} (bytes : T → List ℕ) (text : List ℕ) (found : Option 
     → MatchOption found ((own : PositionCondition (List ℕ))
     → SpellsTurned text own.is_either own.is_denied own.claim → ⊥)
     (λ f. SpellsTurned text f.is_either f.is_denied (position_seen bytes f.claim))
-plain bytes text (Some f) other reports =
-    subst (λ e. SpellsTurned text e f.is_denied (position_seen bytes f.claim)) (sym reports.0)
-    reports.1
+plain bytes text (Some f) other reports = rw reports.0 reports.1
 plain bytes text None other none =
     λ condition. by condition.is_either condition.is_denied condition.claim
   where

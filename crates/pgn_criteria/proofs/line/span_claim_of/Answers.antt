@@ -1,8 +1,4 @@
-use Rattle.std.proofs.Common.{ℕ, List}
-use Rattle.pgn_criteria.specs.Public.Lines.{SpellsSpan}
-use Rattle.pgn_criteria.specs.declared.compare.Comparison.{Comparison}
-use Rattle.pgn_criteria.specs.declared.condition.SpanClaim.{SpanClaim}
-use Rattle.pgn_criteria.specs.declared.condition.SpanClaim.TheVariants.{For, Count}
+use Rattle.pgn_criteria.proofs.Common.{ℕ, List, SpellsSpan, Comparison, SpanClaim, For, Count}
 use Rattle.pgn_criteria.proofs.line.span_claim_of.Goals as goal
 
 none : (text : List ℕ) → ((count : ℕ) → SpellsSpan text (For count) → ⊥)

@@ -20,8 +20,7 @@ loop-rest-preserved c =
           (λ both. let yes = c.shows.ensures.1 both in let no = c.if-shows.false in
           absurd (cc)) later);
       met = λ set needs turn.
-          let here =
-          eight_met c.args.check c.args.stuck rest _ c.loop-rest-test.true
+          let here = eight_met c.args.check c.args.stuck rest _ c.loop-rest-test.true
           (rest_after 24 rest _ refl)
           (λ both. let yes = c.shows.ensures.1 both in let no = c.if-shows.false in
           absurd (cc)) set needs turn in

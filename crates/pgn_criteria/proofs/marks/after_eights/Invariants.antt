@@ -1,10 +1,5 @@
-use Rattle.std.proofs.Common.{ℕ, List, length}
-use Rattle.std.specs.List.{AllByRecursion}
-use Rattle.chess.specs.declared.board.man.Side.{Side}
-use Rattle.pgn_game.specs.Public.PlyCodes.{PlyCode}
-use Rattle.pgn_criteria.specs.Public.ByMarks.{NoneMeets, IsNextMet}
-use Rattle.pgn_criteria.specs.Public.Prefilters.{codes_in}
-use Rattle.pgn_criteria.specs.Private.Marks.{LacksMarks, Needs}
+use Rattle.pgn_criteria.proofs.Common.{ℕ, List, length, AllByRecursion, Side, PlyCode, NoneMeets}
+use Rattle.pgn_criteria.proofs.Common.{IsNextMet, codes_in, LacksMarks, Needs}
 use Rattle.pgn_criteria.proofs.marks.after_eights.Given as goal
 
 abbrev pub invariant-loop-rest : goal.invariant-loop-rest

@@ -1,6 +1,4 @@
-use Rattle.std.proofs.Common.{map}
-use Rattle.pgn_criteria.specs.Private.Stages.{seen}
-use Rattle.pgn_criteria.specs.Public.Prefilters.{codes_in}
+use Rattle.pgn_criteria.proofs.Common.{map, seen, codes_in}
 use Rattle.pgn_criteria.proofs.MarkFacts.{shown_nowhere}
 use Rattle.pgn_criteria.proofs.marks.marks_are_shown.Goals as goal
 
@@ -12,8 +10,7 @@ returns g c = λ none.
     (g.S.Seen.men S) (g.S.Seen.turn S) (g.S.Seen.checked S) (g.S.Seen.stuck S)
     (codes_in c.args.plies.now)
     (λ both.
-    let yes =
-    c.shows.ensures.1 (
+    let yes = c.shows.ensures.1 (
       (λ t. c.is_checked.ensures.1 (both.0 t)),
       (λ t. c.is_stuck.ensures.1 (both.1 t)),
     ) in

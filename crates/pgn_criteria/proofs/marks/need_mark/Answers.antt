@@ -1,5 +1,4 @@
-use Rattle.std.proofs.Common.{◌+◌, drop, sym, ◌∙◌}
-use Rattle.pgn_criteria.specs.Private.Stages.{seen}
+use Rattle.pgn_criteria.proofs.Common.{◌+◌, drop, sym, ◌∙◌, seen}
 use Rattle.pgn_criteria.proofs.MarkFacts.{one_needs}
 use Rattle.pgn_criteria.proofs.MeetFacts.{alternatives_from}
 use Rattle.pgn_criteria.proofs.marks.need_mark.Goals as goal

@@ -1,7 +1,4 @@
-use Rattle.std.proofs.Common.{length}
-use Rattle.std.specs.List.{AllByRecursion}
-use Rattle.pgn_criteria.specs.Public.Prefilters.{codes_in}
-use Rattle.pgn_criteria.specs.Private.Marks.{LacksMarks}
+use Rattle.pgn_criteria.proofs.Common.{length, AllByRecursion, codes_in, LacksMarks}
 use Rattle.pgn_criteria.proofs.marks.some_ply_shows.Given as goal
 
 abbrev pub invariant-loop-rest : goal.invariant-loop-rest

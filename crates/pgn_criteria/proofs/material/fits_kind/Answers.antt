@@ -1,7 +1,6 @@
-use Rattle.std.proofs.Common.{◌↔◌, IsTrue, ◌∙◌, subst}
-use Rattle.chess.specs.declared.board.man.Man.{Man}
+use Rattle.pgn_criteria.proofs.Common.{◌↔◌, IsTrue, ◌∙◌, subst, Man, count_of}
 use Rattle.pgn_criteria.specs.Private.Counting.{FitsKind}
-use Rattle.pgn_criteria.specs.Public.Materials.{Allows, count_of}
+use Rattle.pgn_criteria.specs.Public.Materials.{Allows}
 use Rattle.pgn_criteria.proofs.CountFacts.{counted}
 use Rattle.pgn_criteria.proofs.material.fits_kind.Goals as goal
 

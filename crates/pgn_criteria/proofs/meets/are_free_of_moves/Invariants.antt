@@ -1,5 +1,4 @@
-use Rattle.std.proofs.Common.{◌↔◌, drop, map}
-use Rattle.pgn_criteria.specs.Private.Stages.{AllClaims, IsFreeOfMoves, game_seen, stated}
+use Rattle.pgn_criteria.proofs.Common.{◌↔◌, drop, map, AllClaims, IsFreeOfMoves, game_seen, stated}
 use Rattle.pgn_criteria.proofs.meets.are_free_of_moves.Given as goal
 
 abbrev pub invariant-loop-condition : goal.invariant-loop-condition

@@ -1,6 +1,5 @@
-use Rattle.std.proofs.Common.{◌↔◌, drop, map}
-use Rattle.pgn_criteria.specs.Public.Meeting.{AllTaken, IsSoOfGame}
-use Rattle.pgn_criteria.specs.Private.Stages.{AllClaims, IsGood, game_seen, stated}
+use Rattle.pgn_criteria.proofs.Common.{◌↔◌, drop, map, AllTaken, IsSoOfGame, AllClaims, IsGood}
+use Rattle.pgn_criteria.proofs.Common.{game_seen, stated}
 use Rattle.pgn_criteria.proofs.meets.are_of_game.Given as goal
 
 abbrev pub invariant-loop-condition : goal.invariant-loop-condition

@@ -1,6 +1,4 @@
-use Rattle.std.proofs.Common.{◌↔◌, drop, map}
-use Rattle.pgn_criteria.specs.Public.Meeting.{AllTaken, IsSoOfMoves}
-use Rattle.pgn_criteria.specs.Private.Stages.{move_seen, stated}
+use Rattle.pgn_criteria.proofs.Common.{◌↔◌, drop, map, AllTaken, IsSoOfMoves, move_seen, stated}
 use Rattle.pgn_criteria.proofs.meets.are_of_ply.Given as goal
 
 abbrev pub invariant-loop-condition : goal.invariant-loop-condition

@@ -1,5 +1,4 @@
-use Rattle.std.proofs.Common.{◌↔◌, drop, map}
-use Rattle.pgn_criteria.specs.Private.Stages.{AllOfStage, seen}
+use Rattle.pgn_criteria.proofs.Common.{◌↔◌, drop, map, AllOfStage, seen}
 use Rattle.pgn_criteria.proofs.meets.are_of_stage.Given as goal
 
 abbrev pub invariant-loop-condition : goal.invariant-loop-condition

@@ -1,5 +1,4 @@
-use Rattle.std.proofs.Common.{◌↔◌, drop, map}
-use Rattle.pgn_criteria.specs.Private.Stages.{ArePatterns, seen}
+use Rattle.pgn_criteria.proofs.Common.{◌↔◌, drop, map, ArePatterns, seen}
 use Rattle.pgn_criteria.proofs.meets.are_patterns.Given as goal
 
 abbrev pub invariant-loop-condition : goal.invariant-loop-condition

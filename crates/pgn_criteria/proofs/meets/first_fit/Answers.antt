@@ -1,7 +1,5 @@
-use Rattle.std.proofs.Common.{◌≡◌, IsTrue, subst, inl, inr, arith}
-use Rattle.std.proofs.lemmas.Bool.{cases_lt}
-use Rattle.std.proofs.lemmas.Option.{slice_get_within}
-use Rattle.pgn_criteria.specs.Private.Stages.{FitsAt}
+use Rattle.pgn_criteria.proofs.Common.{◌≡◌, IsTrue, subst, inl, inr, arith, cases_lt}
+use Rattle.pgn_criteria.proofs.Common.{slice_get_within, FitsAt}
 use Rattle.pgn_criteria.proofs.meets.first_fit.Goals as goal
 
 pub returns-then-fits_at : goal.returns-then-fits_at
@@ -19,8 +17,7 @@ loop-plies-preserved c = record {
     | inl before ↦ c.loop-plies.invariant.none n low before fits
     | inr here ↦
         let same : n ≡ c.loop-plies.plies = omega arith in
-        let met : IsTrue c.fits_at.result =
-        c.fits_at.ensures.1
+        let met : IsTrue c.fits_at.result = c.fits_at.ensures.1
         (subst (FitsAt c.args.replayed.now c.args.alternative.now) same fits) in
         absurd (cc (met, c.if-fits_at.false))
   ];

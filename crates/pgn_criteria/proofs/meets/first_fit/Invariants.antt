@@ -1,5 +1,4 @@
-use Rattle.std.proofs.Common.{◌≤◌, ◌<◌, ◌-◌, ℕ}
-use Rattle.pgn_criteria.specs.Private.Stages.{FitsAt}
+use Rattle.pgn_criteria.proofs.Common.{◌≤◌, ◌<◌, ◌-◌, ℕ, FitsAt}
 use Rattle.pgn_criteria.proofs.meets.first_fit.Given as goal
 
 abbrev pub invariant-loop-plies : goal.invariant-loop-plies

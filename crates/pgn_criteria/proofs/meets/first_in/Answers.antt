@@ -1,6 +1,5 @@
-use Rattle.std.proofs.Common.{◌≡◌, length, take, subst, sym, ap, ◌∙◌, arith}
-use Rattle.std.proofs.Math.Seq.{take-length}
-use Rattle.pgn_criteria.specs.Public.Meeting.{heading_of, Heading, Meets, IsFirst}
+use Rattle.pgn_criteria.proofs.Common.{◌≡◌, length, take, subst, ap, ◌∙◌, arith, take-length}
+use Rattle.pgn_criteria.proofs.Common.{heading_of, Heading, Meets, IsFirst}
 use Rattle.pgn_criteria.proofs.MeetFacts.{good_from, alternatives_to}
 use Rattle.pgn_criteria.proofs.meets.first_in.Goals as goal
 
@@ -20,10 +19,7 @@ loop-alternative-preserved c =
       good = (good_from all i own c.loop-alternative-test.true c.alternative-item.is
           c.loop-alternative.invariant.good).1;
       first =
-          subst (λ x.
-          IsFirst (λ plies. Meets heading c.args.replayed.now plies x) c.args.min c.args.max
-          c.sooner-best.result)
-          (sym (alternatives_to all i own c.loop-alternative-test.true c.alternative-item.is))
+          rw (alternatives_to all i own c.loop-alternative-test.true c.alternative-item.is)
           (c.sooner-best.ensures (take i all) c.loop-alternative.invariant.first);
     }
 

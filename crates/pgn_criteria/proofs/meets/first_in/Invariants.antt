@@ -1,6 +1,4 @@
-use Rattle.std.proofs.Common.{take, drop}
-use Rattle.pgn_criteria.specs.Public.Meeting.{heading_of, Meets, IsFirst}
-use Rattle.pgn_criteria.specs.Private.Stages.{AllGood}
+use Rattle.pgn_criteria.proofs.Common.{take, drop, heading_of, Meets, IsFirst, AllGood}
 use Rattle.pgn_criteria.proofs.meets.first_in.Given as goal
 
 abbrev pub invariant-loop-alternative : goal.invariant-loop-alternative

@@ -1,14 +1,11 @@
-use Rattle.std.proofs.Common.{◌≡◌, ℕ, [], Option, Some, None}
-use Rattle.pgn_game.specs.Public.Replays.{Replay}
-use Rattle.pgn_criteria.specs.Private.Stages.{FitsAt, FitsAbout, IsFirstBefore}
-use Rattle.pgn_criteria.specs.Public.Conditions.{Conditions}
+use Rattle.pgn_criteria.proofs.Common.{◌≡◌, ℕ, [], Option, Some, None, Replay, FitsAt, FitsAbout}
+use Rattle.pgn_criteria.proofs.Common.{IsFirstBefore, Conditions}
 use Rattle.pgn_criteria.proofs.SpanFacts.{no_spans_hold}
 use Rattle.pgn_criteria.proofs.meets.first_of.Goals as goal
 
 -- without `for` and `count` nothing more is asked
 first_fits : (replay : Replay) (conditions : Conditions) (from end : ℕ) (found : Option ℕ)
-    → conditions.spans ≡ []
-    → IsFirstBefore (FitsAt replay conditions) from end found
+    → conditions.spans ≡ [] → IsFirstBefore (FitsAt replay conditions) from end found
     → IsFirstBefore (FitsAbout replay conditions) from end found
 first_fits replay conditions from end None none first = λ n low less fits. first n low less fits.0
 first_fits replay conditions from end (Some n) none first = (

@@ -1,6 +1,4 @@
-use Rattle.std.proofs.Common.{◌↔◌, length}
-use Rattle.chess.specs.Public.Fen.{parted_at}
-use Rattle.pgn_criteria.specs.Public.Meeting.{HasOneOf}
+use Rattle.pgn_criteria.proofs.Common.{◌↔◌, length, parted_at, HasOneOf}
 use Rattle.pgn_criteria.specs.Private.Stages.{value_seen}
 use Rattle.pgn_criteria.proofs.meets.has_one_of.Given as goal
 

@@ -1,7 +1,4 @@
-use Rattle.std.proofs.Common.{◌↔◌, IsTrue, not, subst, sym}
-use Rattle.std.specs.Bool.{beq}
 use Rattle.pgn_criteria.specs.Public.Meeting.{Heading}
-use Rattle.pgn_criteria.specs.Private.Stages.{SaysOfHeading, game_seen}
 use Rattle.pgn_criteria.proofs.MeetFacts.{reports_taken}
 use Rattle.pgn_criteria.proofs.meets.is_of_heading.Goals as goal
 
@@ -10,15 +7,11 @@ returns-in-Tag g c =
     let heading : Heading = g.H.Headed.heading c.args.game.now in
     let denied = c.args.condition.now.is_denied in
     let reports = rw c.deref.ensures.value at c.has_one_of.ensures in
-    subst (λ k. IsTrue (not (beq c.has_one_of.result denied))
-    ↔ SaysOfHeading heading denied (game_seen (λ text. text.items) k)) (sym c.in-Tag.is)
-    (reports_taken denied c.has_one_of.result reports)
+    rw c.in-Tag.is (reports_taken denied c.has_one_of.result reports)
 
 pub returns-in-Result : goal.returns-in-Result
 returns-in-Result g c =
     let heading : Heading = g.H.Headed.heading c.args.game.now in
     let denied = c.args.condition.now.is_denied in
     let reports = rw c.deref-in-Result.ensures.value at c.ends_with.ensures in
-    subst (λ k. IsTrue (not (beq c.ends_with.result denied))
-    ↔ SaysOfHeading heading denied (game_seen (λ text. text.items) k)) (sym c.in-Result.is)
-    (reports_taken denied c.ends_with.result reports)
+    rw c.in-Result.is (reports_taken denied c.ends_with.result reports)

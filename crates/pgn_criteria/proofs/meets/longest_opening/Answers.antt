@@ -1,5 +1,4 @@
-use Rattle.std.proofs.Common.{map, sym, subst, arith}
-use Rattle.pgn_criteria.specs.Private.Stages.{AllClaims, AsksWithin, game_seen, stated}
+use Rattle.pgn_criteria.proofs.Common.{arith, game_seen}
 use Rattle.pgn_criteria.proofs.MeetFacts.{alternatives_from}
 use Rattle.pgn_criteria.proofs.OpeningFacts.{asks_more}
 use Rattle.pgn_criteria.proofs.meets.longest_opening.Goals as goal
@@ -11,8 +10,7 @@ loop-condition-preserved c n above rest =
     let own = c.condition-item.result in
     let front = alternatives_from all i own c.loop-condition-test.true c.condition-item.is in
     c.loop-condition.invariant n (omega (arith, above, c.larger-most.ensures))
-    (subst (λ cs. AllClaims (AsksWithin n) (map (stated (game_seen (λ text. text.items))) cs))
-    (sym front) (
+    (rw front (
       asks_more c.opening_of.result n (omega (arith, above, c.larger-most.ensures))
           (game_seen (λ text. text.items) own.claim) c.opening_of.ensures,
       rest,

@@ -1,10 +1,8 @@
-use Rattle.std.proofs.Common.{◌≤◌, ℕ, drop, map}
-use Rattle.pgn_criteria.specs.Private.Stages.{AllClaims, AsksWithin, game_seen, stated}
+use Rattle.pgn_criteria.proofs.Common.{◌≤◌, ℕ, drop, map, AllClaims, AsksWithin, game_seen, stated}
 use Rattle.pgn_criteria.proofs.meets.longest_opening.Given as goal
 
 abbrev pub invariant-loop-condition : goal.invariant-loop-condition
 invariant-loop-condition l =
-    (n : ℕ) → l.most ≤ n
-    → AllClaims (AsksWithin n)
+    (n : ℕ) → l.most ≤ n → AllClaims (AsksWithin n)
     (map (stated (game_seen (λ text. text.items))) (drop l.condition-index l.conditions))
     → AllClaims (AsksWithin n) (map (stated (game_seen (λ text. text.items))) l.conditions)

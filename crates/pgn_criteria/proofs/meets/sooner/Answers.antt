@@ -1,7 +1,4 @@
-use Rattle.std.proofs.Common.{◌∷◌, ◌+◌, [], None, Some, subst}
-use Rattle.std.specs.Option.{unwrap_or}
-use Rattle.pgn_criteria.specs.Public.Meeting.{heading_of, Heading, Meets}
-use Rattle.pgn_criteria.specs.Private.Stages.{IsFirstBefore}
+use Rattle.pgn_criteria.proofs.Common.{◌∷◌, ◌+◌, [], None, Some, unwrap_or, heading_of, Heading}
 use Rattle.pgn_criteria.proofs.StageFacts.{next_best, fits_first, no_first}
 use Rattle.pgn_criteria.proofs.meets.sooner.Goals as goal
 
@@ -20,12 +17,9 @@ returns-in-Some c before first =
     let own = c.args.alternative.now ∷ [] in
     next_best heading c.args.replayed.now before own c.args.bounds.min c.args.bounds.max c.args.best
     (Some c.in-Some.plies) first
-    (subst (λ end.
-    IsFirstBefore (λ plies. Meets heading c.args.replayed.now plies own) c.args.bounds.min end
-    (Some c.in-Some.plies)) c.unwrap_or-end.ensures
-    (fits_first heading c.args.replayed.now c.args.alternative.now c.args.bounds.min
-    c.unwrap_or-end.result (Some c.in-Some.plies)
-    (c.is_of_game.ensures.0 c.if-not-is_of_game.false) c.in-Some.ensures))
+    (rw (← c.unwrap_or-end.ensures) (fits_first heading c.args.replayed.now c.args.alternative.now
+    c.args.bounds.min c.unwrap_or-end.result (Some c.in-Some.plies) (c.is_of_game.ensures.0
+    c.if-not-is_of_game.false) c.in-Some.ensures))
 
 pub returns-in-None : goal.returns-in-None
 returns-in-None c before first =
@@ -33,9 +27,6 @@ returns-in-None c before first =
     let own = c.args.alternative.now ∷ [] in
     next_best heading c.args.replayed.now before own c.args.bounds.min c.args.bounds.max c.args.best
     None first
-    (subst (λ end.
-    IsFirstBefore (λ plies. Meets heading c.args.replayed.now plies own) c.args.bounds.min end
-    None) c.unwrap_or-end.ensures
-    (fits_first heading c.args.replayed.now c.args.alternative.now c.args.bounds.min
-    c.unwrap_or-end.result None (c.is_of_game.ensures.0 c.if-not-is_of_game.false)
+    (rw (← c.unwrap_or-end.ensures) (fits_first heading c.args.replayed.now c.args.alternative.now
+    c.args.bounds.min c.unwrap_or-end.result None (c.is_of_game.ensures.0 c.if-not-is_of_game.false)
     c.in-None.ensures))

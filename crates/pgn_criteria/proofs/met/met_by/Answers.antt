@@ -1,8 +1,6 @@
-use Rattle.std.proofs.Common.{◌≡◌, ◌++◌, ◌∷◌, [], Bool, List, length, take, drop, sym, ap, ◌∙◌}
-use Rattle.std.proofs.Common.{subst, arith}
-use Rattle.std.proofs.Math.Seq.{take-length}
 use Rattle.std.proofs.lemmas.List.{take_at}
-use Rattle.pgn_criteria.specs.Public.Meeting.{Heading, AreMet}
+use Rattle.pgn_criteria.proofs.Common.{◌≡◌, ◌++◌, ◌∷◌, [], Bool, List, length, take, drop, sym, ap}
+use Rattle.pgn_criteria.proofs.Common.{◌∙◌, subst, arith, take-length, Heading, AreMet}
 use Rattle.pgn_criteria.proofs.MeetFacts.{good_from, alternatives_to}
 use Rattle.pgn_criteria.proofs.met.met_by.Goals as goal
 
@@ -24,17 +22,14 @@ loop-alternative-preserved g c =
           c.loop-alternative.invariant.good).1;
       so_far =
           let new = c.add_alternative.new.met in
-          let whole : List Bool =
-          take c.loop-alternative.met.len (new
+          let whole : List Bool = take c.loop-alternative.met.len (new
           ++ drop (length new) c.loop-alternative.met.items) in
           let is : whole ≡ new =
           take_at new (drop (length new) c.loop-alternative.met.items) c.loop-alternative.met.len
           (c.add_alternative.auto.met ∙ c.deref_mut.ensures.len) in
-          subst (λ x. AreMet heading replay x whole)
-          (sym (alternatives_to all i own c.loop-alternative-test.true c.alternative-item.is))
-          (subst (AreMet heading replay (take i all ++ own ∷ [])) (sym is)
-          (c.add_alternative.ensures (take i all)
-          (subst (AreMet heading replay (take i all)) (sym c.deref_mut.ensures.value)
+          rw (alternatives_to all i own c.loop-alternative-test.true c.alternative-item.is) (subst
+          (AreMet heading replay (take i all ++ own ∷ [])) (sym is) (c.add_alternative.ensures (take
+          i all) (subst (AreMet heading replay (take i all)) (sym c.deref_mut.ensures.value)
           c.loop-alternative.invariant.so_far)));
     }
 

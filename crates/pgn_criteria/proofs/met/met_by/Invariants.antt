@@ -1,6 +1,4 @@
-use Rattle.std.proofs.Common.{take, drop}
-use Rattle.pgn_criteria.specs.Public.Meeting.{AreMet}
-use Rattle.pgn_criteria.specs.Private.Stages.{AllGood}
+use Rattle.pgn_criteria.proofs.Common.{take, drop, AreMet, AllGood}
 use Rattle.pgn_criteria.proofs.met.met_by.Given as goal
 
 abbrev pub invariant-loop-alternative : goal.invariant-loop-alternative

@@ -1,5 +1,4 @@
-use Rattle.std.proofs.Common.{rules, ◌≡◌, ◌<◌, ◌∷◌, [], OnOk, MatchOption, length, subst}
-use Rattle.chess.specs.Public.Fen.{parted_at}
+use Rattle.pgn_criteria.proofs.Common.{rules, ◌≡◌, ◌<◌, ◌∷◌, length, parted_at}
 use Rattle.pgn_criteria.proofs.MirrorTextFacts.{ranks_added}
 use Rattle.pgn_criteria.proofs.ParseFacts.{part_shorter}
 use Rattle.pgn_criteria.proofs.mirror.+add_ranks.Goals as goal
@@ -9,9 +8,7 @@ add_ranks-requires t c =
     let text = c.args.ranks.now in
     let first = c.next_part.result.0.now in
     let parts : parted_at 47 text ≡ first ∷ parted_at 47 c.in-Some.after.now =
-    subst (λ o.
-    MatchOption o (parted_at 47 text ≡ first ∷ []) (λ rest. parted_at 47 text
-    ≡ first ∷ parted_at 47 rest.now)) c.in-Some.is c.next_part.ensures in
+    rw c.in-Some.is at c.next_part.ensures in
     let less : length c.in-Some.after.now < length text =
     part_shorter 47 text first c.in-Some.after.now parts in
     search rules
@@ -21,10 +18,7 @@ returns t c =
     let text = c.args.ranks.now in
     let first = c.next_part.result.0.now in
     let parts : parted_at 47 text ≡ first ∷ parted_at 47 c.in-Some.after.now =
-    subst (λ o.
-    MatchOption o (parted_at 47 text ≡ first ∷ []) (λ rest. parted_at 47 text
-    ≡ first ∷ parted_at 47 rest.now)) c.in-Some.is c.next_part.ensures in
-    subst (λ x. OnOk c.add_rank-2.result (c.add_rank-2.new.text.items ≡ x))
-    (ranks_added c.args.text.now.items c.add_ranks.new.text.items c.push.new.self.items text first
-    c.in-Some.after.now parts c.in_ok-add_ranks.ensures c.in_ok-push.ensures.items)
+    rw c.in-Some.is at c.next_part.ensures in
+    rw (ranks_added c.args.text.now.items c.add_ranks.new.text.items c.push.new.self.items text
+    first c.in-Some.after.now parts c.in_ok-add_ranks.ensures c.in_ok-push.ensures.items) at
     c.add_rank-2.ensures

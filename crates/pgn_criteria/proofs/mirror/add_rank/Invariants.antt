@@ -1,5 +1,4 @@
-use Rattle.std.proofs.Common.{◌≡◌, ◌++◌, map, take}
-use Rattle.pgn_criteria.specs.Private.Turning.{other_letter}
+use Rattle.pgn_criteria.proofs.Common.{◌≡◌, ◌++◌, map, take, other_letter}
 use Rattle.pgn_criteria.proofs.mirror.add_rank.Given as goal
 
 abbrev pub invariant-loop-byte : goal.invariant-loop-byte

@@ -1,9 +1,6 @@
-use Rattle.std.proofs.Common.{◌≡◌, ◌+◌, ◌++◌, ◌∷◌, [], ℕ, List, Vec, Global, length, map, take, sym}
-use Rattle.std.proofs.Common.{ap, ◌∙◌, subst, arith}
-use Rattle.std.proofs.lemmas.List.{map-append}
-use Rattle.std.proofs.Math.Seq.{take-length}
-use Rattle.pgn_criteria.specs.Private.Stages.{AreMirrored, seen}
-use Rattle.pgn_criteria.specs.declared.condition.PositionCondition.{PositionCondition}
+use Rattle.pgn_criteria.proofs.Common.{◌≡◌, ◌+◌, ◌++◌, ◌∷◌, [], ℕ, List, Vec, Global, length, map}
+use Rattle.pgn_criteria.proofs.Common.{take, ap, ◌∙◌, subst, arith, map-append, take-length}
+use Rattle.pgn_criteria.proofs.Common.{AreMirrored, seen, PositionCondition}
 use Rattle.pgn_criteria.proofs.EitherFacts.{mirrored_more}
 use Rattle.pgn_criteria.proofs.MeetFacts.{alternatives_to}
 use Rattle.pgn_criteria.proofs.mirror.all_mirrored.Goals as goal
@@ -23,10 +20,8 @@ loop-condition-preserved c =
     let conditions : map view (take (i + 1) all) ≡ map view (take i all) ++ (view condition ∷ []) =
     ap (map view) (alternatives_to all i condition c.loop-condition-test.true c.condition-item.is)
     ∙ map-append view (take i all) (condition ∷ []) in
-    subst (λ x. AreMirrored x (map view (take (i + 1) all))) (sym owns)
-    (subst (λ y. AreMirrored (map view before ++ (view one ∷ [])) y) (sym conditions)
-    (mirrored_more (map view before) (map view (take i all)) (view one) (view condition)
-    c.loop-condition.invariant c.in_ok-mirrored.ensures))
+    rw owns (rw conditions (mirrored_more (map view before) (map view (take i all)) (view one) (view
+    condition) c.loop-condition.invariant c.in_ok-mirrored.ensures))
 
 pub returns : goal.returns
 returns c =

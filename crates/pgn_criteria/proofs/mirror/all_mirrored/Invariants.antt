@@ -1,5 +1,4 @@
-use Rattle.std.proofs.Common.{map, take}
-use Rattle.pgn_criteria.specs.Private.Stages.{AreMirrored, seen}
+use Rattle.pgn_criteria.proofs.Common.{map, take, AreMirrored, seen}
 use Rattle.pgn_criteria.proofs.mirror.all_mirrored.Given as goal
 
 abbrev pub invariant-loop-condition : goal.invariant-loop-condition

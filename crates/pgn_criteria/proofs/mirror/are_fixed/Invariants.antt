@@ -1,5 +1,4 @@
-use Rattle.std.proofs.Common.{◌↔◌, drop, map}
-use Rattle.pgn_criteria.specs.Private.Stages.{AreFixed, seen}
+use Rattle.pgn_criteria.proofs.Common.{◌↔◌, drop, map, AreFixed, seen}
 use Rattle.pgn_criteria.proofs.mirror.are_fixed.Given as goal
 
 abbrev pub invariant-loop-condition : goal.invariant-loop-condition

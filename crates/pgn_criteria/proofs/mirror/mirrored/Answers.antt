@@ -1,15 +1,13 @@
-use Rattle.std.proofs.Common.{◌≡◌, ℕ, true, false, List, Vec, Global, refl, sym, ap, ◌∙◌, subst}
-use Rattle.std.proofs.lemmas.Bool.{and_from, and_left, and_right}
-use Rattle.pgn_criteria.specs.Public.Meeting.{is_turned}
-use Rattle.pgn_criteria.specs.Public.Mirrors.{can_be_mirrored}
-use Rattle.pgn_criteria.specs.Private.Stages.{IsMirrorOf, seen, position_seen}
-use Rattle.pgn_criteria.specs.declared.condition.PositionCondition.{PositionCondition}
+use Rattle.std.proofs.lemmas.Bool.{and_left}
+use Rattle.pgn_criteria.proofs.Common.{◌≡◌, ℕ, true, false, List, Vec, Global, refl, sym, ap, ◌∙◌}
+use Rattle.pgn_criteria.proofs.Common.{and_from, and_right, is_turned, can_be_mirrored, seen}
+use Rattle.pgn_criteria.proofs.Common.{position_seen, PositionCondition}
 use Rattle.pgn_criteria.proofs.ClaimFacts.{can_be_seen}
-use Rattle.pgn_criteria.proofs.mirror.mirrored.Goals as goal
 use Rattle.pgn_criteria.proofs.mirror.mirrored.Goals.{then-condition+then-can_be_mirrored+in_ok-claim}
 use Rattle.pgn_criteria.proofs.mirror.mirrored.Goals.{else-condition+in_ok-claim-2}
 use Rattle.pgn_criteria.proofs.mirror.mirrored.Goals.{else-condition-via-then-condition+else-can_be_mirrored}
 use Rattle.pgn_criteria.proofs.mirror.mirrored.Goals.{else-condition-via-else-condition}
+use Rattle.pgn_criteria.proofs.mirror.mirrored.Goals as goal
 
 abbrev view : PositionCondition (Vec ℕ Global) → PositionCondition (List ℕ)
 view condition = seen (λ text. text.items) condition
@@ -27,9 +25,7 @@ returns c =
           and_from condition.is_either (can_be_mirrored claim) w.if-condition.true can in
           record {
             denied = refl;
-            turned =
-                λ is. subst (λ k. IsMirrorOf (position_seen (λ text. text.items) k) claim)
-                (sym w.claim-is) w.in_ok-claim.ensures;
+            turned = λ is. rw w.claim-is w.in_ok-claim.ensures;
             fixed = λ fixed. absurd (cc (turned, fixed));
           }
       | else-condition+in_ok-claim-2 w ↦

@@ -1,6 +1,4 @@
-use Rattle.std.proofs.Common.{◌++◌, ap, ◌∙◌}
-use Rattle.chess.specs.Public.Fen.{parted_at}
-use Rattle.pgn_criteria.specs.Private.Turning.{turned}
+use Rattle.pgn_criteria.proofs.Common.{◌++◌, ap, ◌∙◌, parted_at, turned}
 use Rattle.pgn_criteria.proofs.MirrorTextFacts.{pattern_mirrored, pattern_again}
 use Rattle.pgn_criteria.proofs.mirror.mirrored_pattern.Goals as goal
 

@@ -1,5 +1,4 @@
-use Rattle.std.proofs.Common.{◌↔◌, ◌∙◌, IsTrue, subst}
-use Rattle.pgn_criteria.specs.Public.MoveTexts.{without_check_signs, IsLike}
+use Rattle.std.proofs.Common.{◌∙◌}
 use Rattle.pgn_criteria.proofs.MoveFacts.{by_like}
 use Rattle.pgn_criteria.proofs.EndFacts.{not_gone_on}
 use Rattle.pgn_criteria.proofs.moves.goes_on_by.Goals as goal
@@ -16,6 +15,4 @@ returns c =
     by_like c.args.replayed.now c.args.plies c.args.word.now c.san.result.bytes
     c.position-position.result.now c.played-played.result c.is_like.result c.one_text.ensures
     c.position-position.ensures c.played-played.ensures c.san.ensures.text
-    (subst (λ x. IsTrue c.is_like.result
-    ↔ IsLike c.args.word.now (without_check_signs x)) (c.as_bytes.ensures.value
-    ∙ c.deref.ensures.0) c.is_like.ensures)
+    (rw (← (c.as_bytes.ensures.value ∙ c.deref.ensures.0)) c.is_like.ensures)

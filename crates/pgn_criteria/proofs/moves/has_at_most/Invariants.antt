@@ -1,5 +1,4 @@
-use Rattle.std.proofs.Common.{◌≡◌, ◌+◌, length}
-use Rattle.pgn_criteria.specs.Public.Words.{words_of}
+use Rattle.pgn_criteria.proofs.Common.{◌≡◌, ◌+◌, length, words_of}
 use Rattle.pgn_criteria.proofs.moves.has_at_most.Given as goal
 
 abbrev pub invariant-loop-step : goal.invariant-loop-step

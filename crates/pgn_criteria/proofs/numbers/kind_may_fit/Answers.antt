@@ -1,7 +1,6 @@
-use Rattle.std.proofs.Common.{◌≤◌, sym, subst}
+use Rattle.pgn_criteria.proofs.Common.{◌≤◌, sym, subst, count_of, codes_in}
 use Rattle.pgn_criteria.specs.Private.Counting.{FitsKind}
-use Rattle.pgn_criteria.specs.Public.Materials.{Allows, count_of}
-use Rattle.pgn_criteria.specs.Public.Prefilters.{codes_in}
+use Rattle.pgn_criteria.specs.Public.Materials.{Allows}
 use Rattle.pgn_criteria.proofs.StandFacts.{nowhere_of}
 use Rattle.pgn_criteria.proofs.numbers.kind_may_fit.Goals as goal
 

@@ -1,8 +1,5 @@
-use Rattle.std.proofs.Common.{◌⊎◌, inl, inr, subst}
-use Rattle.pgn_criteria.specs.Private.Marks.{SaysOfNumbers}
-use Rattle.pgn_criteria.specs.Public.Materials.{FitsMaterial}
-use Rattle.pgn_criteria.specs.Private.Stages.{position_seen}
-use Rattle.pgn_criteria.specs.Public.Prefilters.{codes_in}
+use Rattle.pgn_criteria.proofs.Common.{◌⊎◌, inl, inr, SaysOfNumbers, FitsMaterial, position_seen}
+use Rattle.pgn_criteria.proofs.Common.{codes_in}
 use Rattle.pgn_criteria.proofs.StandFacts.{nowhere_of, nowhere_either}
 use Rattle.pgn_criteria.proofs.numbers.material_may_fit.Goals as goal
 
@@ -16,9 +13,7 @@ returns-then-not-condition g c = λ same.
           (g.S.Seen.men c.args.start.now)
           (codes_in c.args.plies.now)
           (λ p says.
-          elim (subst (λ claim.
-          SaysOfNumbers own.is_either (position_seen (λ text. text.items) claim) p)
-          c.in-Material.is says) [
+          elim (rw c.in-Material.is at says) [
             | inl plain ↦ plain
             | inr turned ↦ let either = turned.0 in absurd (cc)
           ])
@@ -35,9 +30,7 @@ returns-else-not-condition g c = λ none.
           ⊎ FitsMaterial p c.in-Material.black c.in-Material.white)
           (SaysOfNumbers own.is_either (position_seen (λ text. text.items) own.claim)) men codes
           (λ p says.
-          elim (subst (λ claim.
-          SaysOfNumbers own.is_either (position_seen (λ text. text.items) claim) p)
-          c.in-Material.is says) [
+          elim (rw c.in-Material.is at says) [
             | inl plain ↦ inl plain
             | inr turned ↦ inr turned.1
           ])

@@ -1,7 +1,4 @@
-use Rattle.std.proofs.Common.{◌+◌, drop, map}
-use Rattle.pgn_criteria.specs.Public.Prefilters.{codes_in}
-use Rattle.pgn_criteria.specs.Private.Marks.{SaysOfNumbers}
-use Rattle.pgn_criteria.specs.Private.Stages.{position_seen, seen}
+use Rattle.pgn_criteria.proofs.Common.{◌+◌, drop, map, codes_in, SaysOfNumbers, position_seen, seen}
 use Rattle.pgn_criteria.proofs.MarkFacts.{one_material, placed_of}
 use Rattle.pgn_criteria.proofs.MeetFacts.{alternatives_from}
 use Rattle.pgn_criteria.proofs.numbers.numbers_are_shown.Goals as goal

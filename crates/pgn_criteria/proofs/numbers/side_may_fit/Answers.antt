@@ -1,6 +1,5 @@
+use Rattle.pgn_criteria.proofs.Common.{FitsSide, codes_in}
 use Rattle.pgn_criteria.specs.Private.Counting.{FitsKind}
-use Rattle.pgn_criteria.specs.Public.Materials.{FitsSide}
-use Rattle.pgn_criteria.specs.Public.Prefilters.{codes_in}
 use Rattle.pgn_criteria.proofs.StandFacts.{nowhere_of}
 use Rattle.pgn_criteria.proofs.numbers.side_may_fit.Goals as goal
 

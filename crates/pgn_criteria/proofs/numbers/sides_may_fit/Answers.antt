@@ -1,6 +1,4 @@
-use Rattle.chess.specs.declared.board.man.Side.TheVariants.{White, Black}
-use Rattle.pgn_criteria.specs.Public.Materials.{FitsSide, FitsMaterial}
-use Rattle.pgn_criteria.specs.Public.Prefilters.{codes_in}
+use Rattle.pgn_criteria.proofs.Common.{White, Black, FitsSide, FitsMaterial, codes_in}
 use Rattle.pgn_criteria.proofs.StandFacts.{nowhere_of}
 use Rattle.pgn_criteria.proofs.numbers.sides_may_fit.Goals as goal
 

@@ -1,12 +1,8 @@
-use Rattle.std.proofs.Common.{◌≡◌, ◌∷◌, ◌++◌, [], ℕ, List, ap, ◌∙◌}
 use Rattle.std.specs.Prelude.{Result, Ok, Err, OnOk}
-use Rattle.pgn_criteria.specs.Public.Conditions.{Conditions, no_conditions, with_condition}
-use Rattle.pgn_criteria.specs.Public.Lines.{alternatives_of, IsLine}
-use Rattle.pgn_criteria.specs.Private.Reading.{with_open, joined}
-use Rattle.pgn_criteria.specs.declared.line.Meaning.{Meaning}
-use Rattle.pgn_criteria.specs.declared.line.Meaning.TheVariants.{Or, Asks}
-use Rattle.pgn_criteria.specs.Private.Stages.{condition_seen}
-use Rattle.pgn_criteria.specs.declared.condition.Condition.{Condition}
+use Rattle.pgn_criteria.proofs.Common.{◌≡◌, ◌∷◌, ◌++◌, [], ℕ, List, ap, ◌∙◌, Conditions}
+use Rattle.pgn_criteria.proofs.Common.{no_conditions, with_condition, alternatives_of, IsLine}
+use Rattle.pgn_criteria.proofs.Common.{with_open, joined, Meaning, Or, Asks, condition_seen}
+use Rattle.pgn_criteria.proofs.Common.{Condition}
 use Rattle.pgn_criteria.proofs.ParseFacts.{or_added, condition_added}
 use Rattle.pgn_criteria.proofs.parse.add_line.Goals as goal
 

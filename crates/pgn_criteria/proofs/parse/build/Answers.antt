@@ -1,17 +1,12 @@
-use Rattle.std.proofs.Common.{◌≡◌, ◌∷◌, ◌++◌, [], List, sym, ap, ◌∙◌, subst}
-use Rattle.pgn_criteria.specs.Public.Lines.{SpellsCriteria}
-use Rattle.pgn_criteria.specs.Public.Conditions.{Conditions}
-use Rattle.pgn_criteria.proofs.ParseFacts.{IsBuilt, built_start, built_next, built_more, built_end}
+use Rattle.pgn_criteria.proofs.Common.{◌≡◌, ◌∷◌, ◌++◌, [], sym, ap, ◌∙◌, subst, SpellsCriteria}
+use Rattle.pgn_criteria.proofs.ParseFacts.{built_start, built_next, built_more, built_end}
 use Rattle.pgn_criteria.proofs.ParseFacts.{first_part, rest_shorter}
 use Rattle.pgn_criteria.proofs.parse.build.Goals as goal
 
 pub loop-last-init : goal.loop-last-init
 loop-last-init c =
-    subst (λ (x : List Conditions).
-    IsBuilt c.args.text.now c.args.text.now x c.new-last.result)
-    (sym c.new-alternatives.ensures.items)
-    (subst (λ (x : Conditions). IsBuilt c.args.text.now c.args.text.now [] x)
-    (sym c.new-last.ensures) (built_start c.args.text.now c.requires))
+    rw c.new-alternatives.ensures.items (rw c.new-last.ensures (built_start c.args.text.now
+    c.requires))
 
 pub loop-last-smaller : goal.loop-last-smaller
 loop-last-smaller c =
@@ -39,8 +34,7 @@ returns-in_default c =
     let added = c.in_ok-add_line.ensures in
     let parts = rw c.in_default.is at c.next_part.ensures in
     let view : c.push.new.self.items ≡ c.add_line.new.alternatives.items
-    ++ (c.add_line.new.last ∷ []) =
-    c.in_ok-push.ensures.items
+    ++ (c.add_line.new.last ∷ []) = c.in_ok-push.ensures.items
     ∙ ap (λ a. c.add_line.new.alternatives.items ++ (a ∷ [])) c.in_ok-own.ensures in
     subst (SpellsCriteria c.args.text.now) (sym view)
     (built_end c.args.text.now c.loop-last.rest.now c.next_part.result.0.now

@@ -1,5 +1,4 @@
-use Rattle.std.proofs.Common.{sym, subst, arith}
-use Rattle.pgn_criteria.specs.Private.Stages.{EachAsksWithin}
+use Rattle.pgn_criteria.proofs.Common.{sym, subst, arith, EachAsksWithin}
 use Rattle.pgn_criteria.proofs.MeetFacts.{alternatives_from}
 use Rattle.pgn_criteria.proofs.OpeningFacts.{all_ask_more}
 use Rattle.pgn_criteria.proofs.parse.longest.Goals as goal

@@ -1,5 +1,4 @@
-use Rattle.std.proofs.Common.{◌≤◌, ℕ, drop}
-use Rattle.pgn_criteria.specs.Private.Stages.{EachAsksWithin}
+use Rattle.pgn_criteria.proofs.Common.{◌≤◌, ℕ, drop, EachAsksWithin}
 use Rattle.pgn_criteria.proofs.parse.longest.Given as goal
 
 abbrev pub invariant-loop-alternative : goal.invariant-loop-alternative

@@ -1,7 +1,5 @@
-use Rattle.std.proofs.Common.{◌≡◌, ◌≢◌, [], length, true, false, sym, ap, ◌∙◌, refl}
-use Rattle.std.specs.Prelude.{◌==◌}
-use Rattle.chess.proofs.RestFacts.{no_length}
-use Rattle.pgn_criteria.specs.Private.Items.{items_of, AreItems}
+use Rattle.pgn_criteria.proofs.Common.{◌≡◌, ◌≢◌, [], length, true, false, sym, ap, ◌∙◌, refl, ◌==◌}
+use Rattle.pgn_criteria.proofs.Common.{no_length, items_of, AreItems}
 use Rattle.pgn_criteria.proofs.SetFacts.{items_next, items_fail, items_end, reports_split}
 use Rattle.pgn_criteria.proofs.pattern.are_items.Goals as goal
 

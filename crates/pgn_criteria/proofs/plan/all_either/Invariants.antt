@@ -1,5 +1,4 @@
-use Rattle.std.proofs.Common.{◌↔◌, drop}
-use Rattle.pgn_criteria.specs.Private.Planning.{AreSoundWays, AllEither}
+use Rattle.pgn_criteria.proofs.Common.{◌↔◌, drop, AreSoundWays, AllEither}
 use Rattle.pgn_criteria.proofs.plan.all_either.Given as goal
 
 abbrev pub invariant-loop-ways : goal.invariant-loop-ways

@@ -1,6 +1,4 @@
-use Rattle.std.proofs.Common.{subst}
-use Rattle.pgn_criteria.specs.Private.Layouts.{Lays}
-use Rattle.pgn_criteria.specs.Public.Patterns.{FitsPattern}
+use Rattle.pgn_criteria.proofs.Common.{subst, Lays, FitsPattern}
 use Rattle.pgn_criteria.proofs.PlanFacts.{laid_whole}
 use Rattle.pgn_criteria.proofs.plan.layout_of.Goals as goal
 

@@ -1,5 +1,4 @@
-use Rattle.std.proofs.Common.{◌↔◌, drop}
-use Rattle.pgn_criteria.specs.Private.Planning.{AreSound, NoneLaid}
+use Rattle.pgn_criteria.proofs.Common.{◌↔◌, drop, AreSound, NoneLaid}
 use Rattle.pgn_criteria.proofs.plan.none_laid.Given as goal
 
 abbrev pub invariant-loop-look : goal.invariant-loop-look

@@ -1,6 +1,4 @@
-use Rattle.std.proofs.Common.{◌≡◌, ◌+◌, ◌∷◌, drop, inl, inr, sym, subst}
-use Rattle.pgn_criteria.specs.Private.Layouts.{Laid}
-use Rattle.pgn_criteria.specs.Private.Planning.{AllEither}
+use Rattle.pgn_criteria.proofs.Common.{◌≡◌, ◌+◌, ◌∷◌, drop, inl, inr, sym, subst, Laid, AllEither}
 use Rattle.pgn_criteria.proofs.MeetFacts.{alternatives_from}
 use Rattle.pgn_criteria.proofs.plan.prefilter_of_ways.Goals as goal
 

@@ -1,6 +1,4 @@
-use Rattle.std.proofs.Common.{drop}
-use Rattle.chess.specs.Public.Placements.{Placement}
-use Rattle.pgn_criteria.specs.Private.Planning.{AllEither}
+use Rattle.pgn_criteria.proofs.Common.{drop, Placement, AllEither}
 use Rattle.pgn_criteria.proofs.plan.prefilter_of_ways.Given as goal
 
 abbrev pub invariant-loop-ways : goal.invariant-loop-ways

@@ -1,6 +1,5 @@
-use Rattle.std.specs.Prelude.{IfSome, option_map}
-use Rattle.chess.specs.Public.Placements.{Placement}
-use Rattle.pgn_criteria.specs.Private.PrefilterTests.{FitsPrefilter, LaidEither}
+use Rattle.pgn_criteria.proofs.Common.{IfSome, option_map, Placement, FitsPrefilter}
+use Rattle.pgn_criteria.specs.Private.PrefilterTests.{LaidEither}
 use Rattle.pgn_criteria.proofs.prefilter.prefilter_of.Given as goal
 
 abbrev pub invariant-loop-number : goal.invariant-loop-number

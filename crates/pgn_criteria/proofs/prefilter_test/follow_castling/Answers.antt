@@ -1,15 +1,8 @@
-use Rattle.std.proofs.Common.{◌≡◌, ◌↔◌, ◌%◌, true, false, None, ap, subst, ◌∙◌, arith}
-use Rattle.chess.specs.Public.Squares.{Place, square_at}
-use Rattle.chess.specs.Public.Placements.{Placement, with_man}
+use Rattle.std.specs.Prelude.{Some}
+use Rattle.pgn_criteria.proofs.Common.{◌%◌, false, None, ap, subst, ◌∙◌, arith, Place, square_at}
+use Rattle.pgn_criteria.proofs.Common.{Placement, with_man, rook_from, rook_to, Man, numbered_man}
+use Rattle.pgn_criteria.proofs.Common.{IsPut}
 use Rattle.chess.specs.Shared.SetFacts.{on_board-square_at}
-use Rattle.chess.specs.Public.Positions.{rook_of, rook_from, rook_to}
-use Rattle.chess.specs.Public.Moves.{with_rook}
-use Rattle.chess.specs.Public.Sets.{IsSquaresOf}
-use Rattle.chess.specs.declared.board.man.Man.{Man}
-use Rattle.chess.specs.declared.board.man.Wing.{Wing}
-use Rattle.std.specs.Prelude.{Option, Some}
-use Rattle.pgn_game.specs.Public.PlyCodes.{numbered_man}
-use Rattle.pgn_criteria.specs.Private.PrefilterTests.{IsPut}
 use Rattle.pgn_criteria.proofs.PrefilterTestFacts.{goes, castles}
 use Rattle.pgn_criteria.proofs.prefilter_test.follow_castling.Goals as goal
 
@@ -22,20 +15,11 @@ returns-in_default c = λ man his men are.
     let own = numbered_man c.args.king in
     let from = square_at (c.args.a % 64) in
     let to = square_at (c.args.b % 64) in
-    let says =
-    subst (λ (m : Man). (c.has_number.result ≡ true)
-    ↔ (man ≡ m)) c.numbered_man-own.ensures (c.has_number.ensures man his) in
-    let p2 =
-    subst (λ (t : Place). IsPut t false c.args.squares c.put.new.squares)
-    c.of_index.ensures.square c.put.ensures in
-    let p3 =
-    subst (λ (t : Place). IsPut t c.has_number.result c.put.new.squares c.put-2.new.squares)
-    c.of_index-2.ensures.square c.put-2.ensures in
-    subst (λ (castle : Option Wing).
-    IsSquaresOf (with_rook own.side castle (king_gone men from to own)) man c.put-2.new.squares)
-    c.in_default.ensures
-    (goes men man own from to c.args.squares c.put.new.squares c.put-2.new.squares
-    c.has_number.result (on_board-square_at (c.args.a % 64) (omega arith))
+    let says = rw c.numbered_man-own.ensures at (c.has_number.ensures man his) in
+    let p2 = rw c.of_index.ensures.square at c.put.ensures in
+    let p3 = rw c.of_index-2.ensures.square at c.put-2.ensures in
+    rw (← c.in_default.ensures) (goes men man own from to c.args.squares c.put.new.squares
+    c.put-2.new.squares c.has_number.result (on_board-square_at (c.args.a % 64) (omega arith))
     (on_board-square_at (c.args.b % 64) (omega arith)) says p2 p3 are)
 
 pub returns : goal.returns
@@ -44,29 +28,17 @@ returns c = λ man his men are.
     let side = ap (λ (m : Man). m.side) c.numbered_man-own.ensures in
     let from = square_at (c.args.a % 64) in
     let to = square_at (c.args.b % 64) in
-    let says =
-    subst (λ (m : Man). (c.has_number.result ≡ true)
-    ↔ (man ≡ m)) c.numbered_man-own.ensures (c.has_number.ensures man his) in
-    let p2 =
-    subst (λ (t : Place). IsPut t false c.args.squares c.put.new.squares)
-    c.of_index.ensures.square c.put.ensures in
-    let p3 =
-    subst (λ (t : Place). IsPut t c.has_number.result c.put.new.squares c.put-2.new.squares)
-    c.of_index-2.ensures.square c.put-2.ensures in
-    let p4 =
-    subst (λ (t : Place). IsPut t false c.put-2.new.squares c.put-3.new.squares)
+    let says = rw c.numbered_man-own.ensures at (c.has_number.ensures man his) in
+    let p2 = rw c.of_index.ensures.square at c.put.ensures in
+    let p3 = rw c.of_index-2.ensures.square at c.put-2.ensures in
+    let p4 = subst (λ (t : Place). IsPut t false c.put-2.new.squares c.put-3.new.squares)
     (c.rook_leaves.ensures ∙ ap (λ s. rook_from s c.in-Some.wing) side) c.put-3.ensures in
     let p5 =
     subst (λ (t : Place). IsPut t c.has_number-2.result c.put-3.new.squares c.put-4.new.squares)
     (c.rook_arrives.ensures ∙ ap (λ s. rook_to s c.in-Some.wing) side) c.put-4.ensures in
-    let rook =
-    subst (λ s. (c.has_number-2.result ≡ true)
-    ↔ (man ≡ rook_of s)) side (c.has_number-2.ensures man his) in
-    subst (λ (castle : Option Wing).
-    IsSquaresOf (with_rook own.side castle (king_gone men from to own)) man c.put-4.new.squares)
-    c.in-Some.ensures
-    (castles (king_gone men from to own) man own.side c.in-Some.wing c.put-2.new.squares
-    c.put-3.new.squares c.put-4.new.squares c.has_number-2.result rook p4 p5
+    let rook = rw side at (c.has_number-2.ensures man his) in
+    rw (← c.in-Some.ensures) (castles (king_gone men from to own) man own.side c.in-Some.wing
+    c.put-2.new.squares c.put-3.new.squares c.put-4.new.squares c.has_number-2.result rook p4 p5
     (goes men man own from to c.args.squares c.put.new.squares c.put-2.new.squares
-    c.has_number.result (on_board-square_at (c.args.a % 64) (omega arith))
-    (on_board-square_at (c.args.b % 64) (omega arith)) says p2 p3 are))
+    c.has_number.result (on_board-square_at (c.args.a % 64) (omega arith)) (on_board-square_at
+    (c.args.b % 64) (omega arith)) says p2 p3 are))

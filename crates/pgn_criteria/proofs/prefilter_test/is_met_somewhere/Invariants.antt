@@ -1,6 +1,4 @@
-use Rattle.std.proofs.Common.{length}
-use Rattle.chess.specs.Public.Placements.{Placement}
-use Rattle.chess.specs.Public.Sets.{IsSquaresOf}
+use Rattle.pgn_criteria.proofs.Common.{length, Placement, IsSquaresOf}
 use Rattle.pgn_criteria.proofs.StandFacts.{IsFollowed}
 use Rattle.pgn_criteria.proofs.prefilter_test.is_met_somewhere.Given as goal
 

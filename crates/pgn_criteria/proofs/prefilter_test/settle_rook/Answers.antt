@@ -1,20 +1,11 @@
-use Rattle.std.proofs.Common.{true, false, ap, subst, ◌∙◌}
-use Rattle.std.specs.Prelude.{Option}
-use Rattle.chess.specs.Public.Squares.{Place}
-use Rattle.chess.specs.Public.Positions.{rook_from, rook_to}
-use Rattle.chess.specs.Public.Moves.{with_rook}
-use Rattle.chess.specs.declared.board.man.Man.{Man}
-use Rattle.chess.specs.declared.board.man.Wing.{Wing}
-use Rattle.pgn_game.specs.Public.PlyCodes.{numbered_man}
-use Rattle.pgn_criteria.specs.Private.PrefilterTests.{AreTaken, IsPut}
+use Rattle.pgn_criteria.proofs.Common.{true, false, ap, subst, ◌∙◌, Place, rook_from, rook_to, Man}
+use Rattle.pgn_criteria.proofs.Common.{numbered_man, IsPut}
 use Rattle.pgn_criteria.proofs.PrefilterTestFacts.{rook_settles}
 use Rattle.pgn_criteria.proofs.prefilter_test.settle_rook.Goals as goal
 
 pub returns-in_default : goal.returns-in_default
 returns-in_default c = λ men are.
-    subst (λ (castle : Option Wing).
-    AreTaken (with_rook (numbered_man c.args.king).side castle men) c.args.taken)
-    c.in_default.ensures are
+    rw (← c.in_default.ensures) are
 
 pub returns : goal.returns
 returns c = λ men are.
@@ -23,10 +14,7 @@ returns c = λ men are.
     let p1 =
     subst (λ (t : Place). IsPut t false c.args.taken c.put.new.squares) (c.rook_leaves.ensures
     ∙ ap (λ s. rook_from s c.in-Some.wing) side) c.put.ensures in
-    let p2 =
-    subst (λ (t : Place). IsPut t true c.put.new.squares c.put-2.new.squares)
+    let p2 = subst (λ (t : Place). IsPut t true c.put.new.squares c.put-2.new.squares)
     (c.rook_arrives.ensures ∙ ap (λ s. rook_to s c.in-Some.wing) side) c.put-2.ensures in
-    subst (λ (castle : Option Wing).
-    AreTaken (with_rook own castle men) c.put-2.new.squares) c.in-Some.ensures
-    (rook_settles men own c.in-Some.wing c.args.taken c.put.new.squares c.put-2.new.squares p1 p2
-    are)
+    rw (← c.in-Some.ensures) (rook_settles men own c.in-Some.wing c.args.taken c.put.new.squares
+    c.put-2.new.squares p1 p2 are)

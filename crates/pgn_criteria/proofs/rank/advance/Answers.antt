@@ -1,8 +1,8 @@
 use Rattle.std.proofs.Common.{◌<◌, ◌↔◌, ◌+◌, ℕ, subst, sym}
 use Rattle.pgn_criteria.specs.Private.Items.{Has, IsAfter}
 use Rattle.pgn_criteria.proofs.PlaceFacts.{place_kept, place_added, added_low}
-use Rattle.pgn_criteria.proofs.rank.advance.Goals as goal
 use Rattle.pgn_criteria.proofs.rank.advance.Goals.{then-goes_on, else-goes_on}
+use Rattle.pgn_criteria.proofs.rank.advance.Goals as goal
 
 abbrev IsKept : goal.Joined-goes_on → ℕ → Type 0
 IsKept c next = record {

@@ -1,16 +1,10 @@
-use Rattle.std.proofs.Common.{◌∷◌, ◌++◌, [], sym, subst}
-use Rattle.pgn_criteria.specs.Public.Patterns.{AreMen}
-use Rattle.pgn_criteria.specs.Private.Items.{Reads}
-use Rattle.pgn_criteria.specs.declared.rank.SquareTest.TheVariants.{Among, Other}
-use Rattle.pgn_criteria.specs.declared.rank.Item.TheVariants.{Run}
+use Rattle.pgn_criteria.proofs.Common.{subst, AreMen}
 use Rattle.pgn_criteria.proofs.SetFacts.{among_read, other_read, no_set, same_after}
 use Rattle.pgn_criteria.proofs.rank.class_of.Goals as goal
 
 pub returns-then-are_men : goal.returns-then-are_men
 returns-then-are_men c =
-    subst (λ men. Reads (91 ∷ (c.args.inside.now ++ 93 ∷ [])) (Run (Among men) 1))
-    (sym c.men_in.ensures)
-    (among_read c.args.inside.now (c.are_men.ensures.0 c.if-are_men.true))
+    rw c.men_in.ensures (among_read c.args.inside.now (c.are_men.ensures.0 c.if-are_men.true))
 
 pub returns-in_err-letters : goal.returns-in_err-letters
 returns-in_err-letters c =
@@ -33,8 +27,5 @@ returns-then-not-are_men c =
 pub returns : goal.returns
 returns c =
     let letters = c.in_ok-letters.letters.now in
-    subst (λ inside. Reads (91 ∷ (inside ++ 93 ∷ [])) (Run (Other c.men_in-2.result) 1))
-    (sym c.in_ok-letters.ensures)
-    (subst (λ men. Reads (91 ∷ 94 ∷ (letters ++ 93 ∷ [])) (Run (Other men) 1))
-    (sym c.men_in-2.ensures)
-    (other_read letters (c.are_men-2.ensures.0 c.if-not-are_men.false)))
+    rw c.in_ok-letters.ensures (rw c.men_in-2.ensures (other_read letters (c.are_men-2.ensures.0
+    c.if-not-are_men.false)))

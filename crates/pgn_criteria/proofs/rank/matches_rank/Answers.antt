@@ -1,8 +1,5 @@
-use Rattle.std.proofs.Common.{◌≡◌, ◌≢◌, [], length, true, false, sym, ap, ◌∙◌, arith}
-use Rattle.std.specs.Prelude.{◌==◌}
-use Rattle.chess.proofs.RestFacts.{no_length}
-use Rattle.pgn_criteria.specs.Public.Patterns.{CanBeSplit}
-use Rattle.pgn_criteria.specs.Private.Items.{items_of}
+use Rattle.pgn_criteria.proofs.Common.{◌≡◌, ◌≢◌, [], length, true, false, sym, ap, ◌∙◌, arith, ◌==◌}
+use Rattle.pgn_criteria.proofs.Common.{no_length, CanBeSplit, items_of}
 use Rattle.pgn_criteria.proofs.PlaceFacts.{at_start, item_kept, no_item_fails, none_fails}
 use Rattle.pgn_criteria.proofs.PlaceFacts.{whole_reached}
 use Rattle.pgn_criteria.proofs.rank.matches_rank.Goals as goal

@@ -1,6 +1,4 @@
-use Rattle.std.proofs.Common.{◌↔◌, ◌<◌, ◌^◌, length}
-use Rattle.pgn_criteria.specs.Public.Patterns.{CanBeSplit}
-use Rattle.pgn_criteria.specs.Private.Items.{items_of, Ends}
+use Rattle.pgn_criteria.proofs.Common.{◌↔◌, ◌<◌, ◌^◌, length, CanBeSplit, items_of, Ends}
 use Rattle.pgn_criteria.proofs.rank.matches_rank.Given as goal
 
 abbrev pub invariant-loop-rest : goal.invariant-loop-rest

@@ -1,7 +1,5 @@
-use Rattle.std.proofs.Common.{◌-◌, length, take, drop, sym, ◌∙◌, subst}
-use Rattle.std.specs.Prelude.{slice_index_or}
-use Rattle.chess.proofs.RestFacts.{first_and_rest}
-use Rattle.pgn_criteria.specs.Private.Items.{HasNoItem, IsNextItem}
+use Rattle.pgn_criteria.proofs.Common.{◌-◌, length, take, drop, sym, ◌∙◌, subst, slice_index_or}
+use Rattle.pgn_criteria.proofs.Common.{first_and_rest, HasNoItem}
 use Rattle.pgn_criteria.proofs.SetFacts.{byte_next, byte_fails}
 use Rattle.pgn_criteria.proofs.rank.next_item.Goals as goal
 
@@ -17,7 +15,5 @@ pub returns-clause-next : goal.returns-clause-next
 returns-clause-next c =
     let all = c.args.items.now in
     let after = take (length all - 1) (drop 1 all) in
-    subst (λ x. IsNextItem x c.in_ok-item.item after)
-    (sym (first_and_rest all c.in-len1-up.len_at_least))
-    (byte_next (slice_index_or all 0 0) after c.in_ok-item.item c.if-first-eq91.false
-    (sym c.item_of.ensures ∙ c.in_ok-item.was))
+    rw (← (first_and_rest all c.in-len1-up.len_at_least)) at (byte_next (slice_index_or all 0 0)
+    after c.in_ok-item.item c.if-first-eq91.false (sym c.item_of.ensures ∙ c.in_ok-item.was))

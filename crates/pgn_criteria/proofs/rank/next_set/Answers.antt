@@ -1,8 +1,5 @@
-use Rattle.std.proofs.Common.{◌∷◌, ◌++◌, ◌-◌, [], length, take, drop, sym, ◌∙◌, subst}
-use Rattle.std.specs.Prelude.{slice_index_or}
-use Rattle.chess.proofs.RestFacts.{first_and_rest, no_bytes}
-use Rattle.pgn_criteria.specs.Private.Items.{IsItem, Reads}
-use Rattle.pgn_criteria.specs.declared.rank.Item.TheVariants.{Run}
+use Rattle.pgn_criteria.proofs.Common.{◌-◌, length, take, drop, sym, ◌∙◌, slice_index_or}
+use Rattle.pgn_criteria.proofs.Common.{first_and_rest, no_bytes}
 use Rattle.pgn_criteria.proofs.SetFacts.{open_fails, set_next, set_fails, after_shorter}
 use Rattle.pgn_criteria.proofs.rank.next_set.Goals as goal
 
@@ -17,8 +14,7 @@ returns-in_err-class-clause-next c =
     rw c.from_residual.ensures
     (set_fails c.args.text.now (take (length rest - 1) (drop 1 rest)) (slice_index_or rest 0 0)
     (sym c.split_run.ensures.rest ∙ first_and_rest rest c.in-len1-up.len_at_least)
-    (subst (λ run. IsItem (91 ∷ (run ++ 93 ∷ []))
-    → ⊥) c.split_run.ensures.run c.in_err-class.ensures))
+    (rw (← c.split_run.ensures.run) c.in_err-class.ensures))
 
 pub returns-clause-next : goal.returns-clause-next
 returns-clause-next c =
@@ -26,8 +22,7 @@ returns-clause-next c =
     set_next c.args.text.now (take (length rest - 1) (drop 1 rest)) (slice_index_or rest 0 0)
     c.in_ok-class.class
     (sym c.split_run.ensures.rest ∙ first_and_rest rest c.in-len1-up.len_at_least)
-    (subst (λ run. Reads (91 ∷ (run ++ 93 ∷ [])) (Run c.in_ok-class.class 1))
-    c.split_run.ensures.run c.in_ok-class.ensures)
+    (rw (← c.split_run.ensures.run) c.in_ok-class.ensures)
 
 pub returns-clause-shorter : goal.returns-clause-shorter
 returns-clause-shorter c =

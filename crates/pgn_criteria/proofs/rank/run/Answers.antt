@@ -1,6 +1,4 @@
-use Rattle.std.proofs.Common.{◌+◌, ◌-◌, ◌≡◌, arith, subst}
-use Rattle.pgn_criteria.specs.Private.Items.{Goes}
-use Rattle.pgn_criteria.specs.declared.rank.Item.TheVariants.{Run}
+use Rattle.std.proofs.Common.{◌+◌, ◌-◌, ◌≡◌, arith}
 use Rattle.pgn_criteria.proofs.PlaceFacts.{run_more, run_none}
 use Rattle.pgn_criteria.proofs.rank.run.Goals as goal
 
@@ -10,8 +8,7 @@ loop-step-preserved c = record {
   goes_on = λ items.
       let left : c.args.count - c.loop-step.step ≡ (c.args.count - (c.loop-step.step + 1)) + 1 =
       omega arith in
-      let one =
-      run_more c.args.class c.args.squares.now c.loop-step.now c.advance-now.result
+      let one = run_more c.args.class c.args.squares.now c.loop-step.now c.advance-now.result
       (c.args.count - c.loop-step.step) (c.args.count
       - (c.loop-step.step + 1)) items c.told-squares left c.advance-now.ensures.after in
       let all = c.loop-step.invariant.goes_on items in
@@ -21,13 +18,7 @@ loop-step-preserved c = record {
 pub returns-clause-goes_on : goal.returns-clause-goes_on
 returns-clause-goes_on c items =
     let none : c.args.count - c.loop-step.step ≡ 0 = omega arith in
-    let all =
-    subst (λ n. Goes c.args.squares.now c.loop-step.now (Run c.args.class n) items
-    → Goes c.args.squares.now c.args.reached (Run c.args.class c.args.count) items) none
-    (c.loop-step.invariant.goes_on items).0 in
-    let back =
-    subst (λ n. Goes c.args.squares.now c.args.reached (Run c.args.class c.args.count) items
-    → Goes c.args.squares.now c.loop-step.now (Run c.args.class n) items) none
-    (c.loop-step.invariant.goes_on items).1 in
+    let all = rw none at (c.loop-step.invariant.goes_on items).0 in
+    let back = rw none at (c.loop-step.invariant.goes_on items).1 in
     let end = run_none c.args.class c.args.squares.now c.loop-step.now items in
     (λ ends. all (end.0 ends), λ goes. end.1 (back goes))

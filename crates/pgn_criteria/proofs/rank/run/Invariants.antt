@@ -1,6 +1,4 @@
-use Rattle.std.proofs.Common.{◌↔◌, ◌-◌, ◌<◌, ◌^◌, ℕ, List}
-use Rattle.pgn_criteria.specs.Private.Items.{Goes}
-use Rattle.pgn_criteria.specs.declared.rank.Item.TheVariants.{Run}
+use Rattle.pgn_criteria.proofs.Common.{◌↔◌, ◌-◌, ◌<◌, ◌^◌, ℕ, List, Goes, Run}
 use Rattle.pgn_criteria.proofs.rank.run.Given as goal
 
 abbrev pub invariant-loop-step : goal.invariant-loop-step

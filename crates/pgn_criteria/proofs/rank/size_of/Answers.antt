@@ -1,9 +1,5 @@
-use Rattle.std.proofs.Common.{◌≡◌, ◌+◌, [], List, Option, length, sym, ap, ◌∙◌, arith, subst}
-use Rattle.std.proofs.lemmas.Bool.{eqb-true}
-use Rattle.std.proofs.lemmas.List.{nil_from_length}
-use Rattle.chess.specs.declared.board.man.Man.{Man}
-use Rattle.pgn_criteria.specs.Public.Patterns.{CanBeSplit}
-use Rattle.pgn_criteria.specs.Private.Items.{items_of}
+use Rattle.pgn_criteria.proofs.Common.{◌≡◌, ◌+◌, [], List, Option, length, sym, ap, ◌∙◌, arith}
+use Rattle.pgn_criteria.proofs.Common.{subst, eqb-true, nil_from_length, Man, CanBeSplit, items_of}
 use Rattle.pgn_criteria.proofs.NeedFacts.{count_taken, size_more}
 use Rattle.pgn_criteria.proofs.rank.size_of.Goals as goal
 
@@ -31,7 +27,6 @@ returns-clause-size c own split =
     eqb-true (length c.loop-rest.rest.now) 0 (sym c.is_empty.ensures ∙ c.loop-rest-test.false)
     in
     let none : c.loop-rest.rest.now ≡ [] = nil_from_length c.loop-rest.rest.now size in
-    let sum =
-    c.loop-rest.invariant.sized 0 (λ some parted.
+    let sum = c.loop-rest.invariant.sized 0 (λ some parted.
     ap length (subst (λ x. CanBeSplit (items_of x) some) none parted)) own split in
     omega (arith, sum)

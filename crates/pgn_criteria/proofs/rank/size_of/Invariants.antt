@@ -1,7 +1,5 @@
-use Rattle.std.proofs.Common.{◌≡◌, ◌≤◌, ◌+◌, ℕ, List, Option, length}
-use Rattle.chess.specs.declared.board.man.Man.{Man}
-use Rattle.pgn_criteria.specs.Public.Patterns.{CanBeSplit}
-use Rattle.pgn_criteria.specs.Private.Items.{items_of}
+use Rattle.pgn_criteria.proofs.Common.{◌≡◌, ◌≤◌, ◌+◌, ℕ, List, Option, length, Man, CanBeSplit}
+use Rattle.pgn_criteria.proofs.Common.{items_of}
 use Rattle.pgn_criteria.proofs.rank.size_of.Given as goal
 
 abbrev pub invariant-loop-rest : goal.invariant-loop-rest

@@ -1,15 +1,12 @@
-use Rattle.std.proofs.Common.{◌≡◌, ◌↔◌, ◌++◌, ◌∷◌, ◌+◌, ℕ, length, drop, map, subst, sym, ap, ◌∙◌}
-use Rattle.std.proofs.Common.{arith}
-use Rattle.std.proofs.lemmas.List.{append-nil, map-append}
-use Rattle.std.proofs.Math.Seq.{drop-length}
-use Rattle.chess.specs.Public.Positions.{State}
-use Rattle.pgn_criteria.specs.Public.Meeting.{heading_of, Heading, SomeHold}
-use Rattle.pgn_criteria.specs.Private.Stages.{on_positions}
+use Rattle.std.proofs.lemmas.List.{append-nil}
+use Rattle.pgn_criteria.proofs.Common.{◌≡◌, ◌↔◌, ◌++◌, ◌∷◌, ◌+◌, ℕ, length, drop, map, ap, ◌∙◌}
+use Rattle.pgn_criteria.proofs.Common.{arith, map-append, drop-length, State, heading_of, Heading}
+use Rattle.pgn_criteria.proofs.Common.{SomeHold, on_positions}
 use Rattle.pgn_criteria.proofs.MeetFacts.{good_from, within_from, alternatives_from}
 use Rattle.pgn_criteria.proofs.OpeningFacts.{none_of_none}
 use Rattle.pgn_criteria.proofs.StageFacts.{kept_one, dropped_one}
-use Rattle.pgn_criteria.proofs.search.left_after.Goals as goal
 use Rattle.pgn_criteria.proofs.search.left_after.Goals.{then-is_of_game+in_ok-push, else-is_of_game}
+use Rattle.pgn_criteria.proofs.search.left_after.Goals as goal
 
 pub loop-alternative-preserved : goal.loop-alternative-preserved
 loop-alternative-preserved c =
@@ -22,14 +19,11 @@ loop-alternative-preserved c =
     let rest = drop (i + 1) all in
     let front = alternatives_from all i own c.loop-alternative-test.true c.alternative-item.is in
     let most = c.loop-alternative.invariant.still.0 in
-    let asked =
-    within_from most all i own c.loop-alternative-test.true c.alternative-item.is
+    let asked = within_from most all i own c.loop-alternative-test.true c.alternative-item.is
     c.loop-alternative.invariant.still.1 in
     let so_far : (ply : ℕ) (P : State) → SomeHold heading replay ply P (before ++ own ∷ rest)
     ↔ SomeHold heading replay ply P c.args.alternatives.now =
-    λ ply P. subst (λ x. SomeHold heading replay ply P (before ++ x)
-    ↔ SomeHold heading replay ply P c.args.alternatives.now) front
-    (c.loop-alternative.invariant.kept ply P) in
+    λ ply P. rw (← front) (c.loop-alternative.invariant.kept ply P) in
     record {
       good = (good_from all i own c.loop-alternative-test.true c.alternative-item.is
           c.loop-alternative.invariant.good).1;
@@ -37,24 +31,16 @@ loop-alternative-preserved c =
       kept = λ ply P.
           elim c.if-is_of_game.branch [
             | then-is_of_game+in_ok-push w ↦
-                let one =
-                kept_one heading replay ply P before rest own most
+                let one = kept_one heading replay ply P before rest own most
                 (c.is_of_game.ensures.0 w.if-is_of_game.true) asked.0 in
-                let items =
-                ap (map (λ a. on_positions a.now)) (ap (λ v. v.items) w.left-is
+                let items = ap (map (λ a. on_positions a.now)) (ap (λ v. v.items) w.left-is
                 ∙ w.in_ok-push.ensures.items)
                 ∙ map-append (λ a. on_positions a.now) c.loop-alternative.left.items _ in
-                subst (λ x. SomeHold heading replay ply P (x ++ rest)
-                ↔ SomeHold heading replay ply P c.args.alternatives.now) (sym items)
-                (λ s. (so_far ply P).0 (one.0 s), λ s. one.1 ((so_far ply P).1 s))
+                rw items (λ s. (so_far ply P).0 (one.0 s), λ s. one.1 ((so_far ply P).1 s))
             | else-is_of_game w ↦
-                let one =
-                dropped_one heading replay ply P before rest own c.is_of_game.result
+                let one = dropped_one heading replay ply P before rest own c.is_of_game.result
                 w.if-is_of_game.false c.is_of_game.ensures in
-                subst (λ v.
-                SomeHold heading replay ply P (map (λ a. on_positions a.now) v.items ++ rest)
-                ↔ SomeHold heading replay ply P c.args.alternatives.now) (sym w.left-is)
-                (λ s. (so_far ply P).0 (one.0 s), λ s. one.1 ((so_far ply P).1 s))
+                rw w.left-is (λ s. (so_far ply P).0 (one.0 s), λ s. one.1 ((so_far ply P).1 s))
           ];
     }
 
@@ -68,8 +54,7 @@ returns-clause-kept c ply P =
     let none : left ++ drop c.loop-alternative.alternative-index all ≡ left =
     ap (λ n. left ++ drop n all) end ∙ ap (λ x. left ++ x) (drop-length all) ∙ append-nil left
     in
-    subst (λ x. SomeHold heading replay ply P x
-    ↔ SomeHold heading replay ply P all) none (c.loop-alternative.invariant.kept ply P)
+    rw (← none) (c.loop-alternative.invariant.kept ply P)
 
 pub returns-clause-free : goal.returns-clause-free
 returns-clause-free c = none_of_none (λ a. a.now) c.loop-alternative.left.items

@@ -1,7 +1,5 @@
-use Rattle.std.proofs.Common.{◌↔◌, ◌++◌, ℕ, drop, map}
-use Rattle.chess.specs.Public.Positions.{State}
-use Rattle.pgn_criteria.specs.Public.Meeting.{heading_of, SomeHold}
-use Rattle.pgn_criteria.specs.Private.Stages.{AllGood, EachAsksWithin, on_positions}
+use Rattle.pgn_criteria.proofs.Common.{◌↔◌, ◌++◌, ℕ, drop, map, State, heading_of, SomeHold}
+use Rattle.pgn_criteria.proofs.Common.{AllGood, EachAsksWithin, on_positions}
 use Rattle.pgn_criteria.proofs.search.left_after.Given as goal
 
 abbrev pub invariant-loop-alternative : goal.invariant-loop-alternative

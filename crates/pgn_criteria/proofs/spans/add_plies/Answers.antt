@@ -1,9 +1,8 @@
-use Rattle.std.proofs.Common.{◌↔◌, ◌⊎◌, ◌<◌, false, get_or, length, IsTrue, sym, ◌∙◌, inl, inr}
-use Rattle.std.proofs.Common.{arith}
-use Rattle.pgn_criteria.specs.Private.Stages.{FitsAt, FitsAbout}
+use Rattle.pgn_criteria.proofs.Common.{◌↔◌, ◌⊎◌, ◌<◌, false, get_or, length, IsTrue, sym, ◌∙◌, inl}
+use Rattle.pgn_criteria.proofs.Common.{inr, arith, FitsAt, FitsAbout}
 use Rattle.pgn_criteria.proofs.SpanFacts.{reports_about, run_known, done_more, left_more}
-use Rattle.pgn_criteria.proofs.spans.add_plies.Goals as goal
 use Rattle.pgn_criteria.proofs.spans.add_plies.Goals.{then-met-ply, else-met-ply}
+use Rattle.pgn_criteria.proofs.spans.add_plies.Goals as goal
 
 pub loop-ply-preserved : goal.loop-ply-preserved
 loop-ply-preserved c =

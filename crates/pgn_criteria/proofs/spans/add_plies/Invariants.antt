@@ -1,6 +1,5 @@
-use Rattle.std.proofs.Common.{◌≡◌, ◌↔◌, ◌⊎◌, ◌≤◌, ◌<◌, ℕ, get_or, false, IsTrue}
-use Rattle.std.specs.Prelude.{IfSome}
-use Rattle.pgn_criteria.specs.Private.Stages.{FitsAt, FitsAbout, IsRun}
+use Rattle.pgn_criteria.proofs.Common.{◌≡◌, ◌↔◌, ◌⊎◌, ◌≤◌, ◌<◌, ℕ, get_or, false, IsTrue, IfSome}
+use Rattle.pgn_criteria.proofs.Common.{FitsAt, FitsAbout, IsRun}
 use Rattle.pgn_criteria.proofs.spans.add_plies.Given as goal
 
 abbrev pub invariant-loop-ply : goal.invariant-loop-ply

@@ -1,5 +1,4 @@
-use Rattle.std.proofs.Common.{◌↔◌, drop}
-use Rattle.pgn_criteria.specs.Private.Stages.{AreNoCounts}
+use Rattle.pgn_criteria.proofs.Common.{◌↔◌, drop, AreNoCounts}
 use Rattle.pgn_criteria.proofs.spans.are_no_counts.Given as goal
 
 abbrev pub invariant-loop-claim : goal.invariant-loop-claim

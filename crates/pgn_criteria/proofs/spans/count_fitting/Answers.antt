@@ -1,6 +1,5 @@
-use Rattle.std.proofs.Common.{◌≡◌, ◌+◌, ◌-◌, ◌≤◌, ℕ, subst, sym, arith}
-use Rattle.std.proofs.lemmas.Option.{slice_get_within}
-use Rattle.pgn_criteria.specs.Private.Stages.{FitsAt}
+use Rattle.pgn_criteria.proofs.Common.{◌≡◌, ◌+◌, ◌-◌, ◌≤◌, ℕ, subst, sym, arith, slice_get_within}
+use Rattle.pgn_criteria.proofs.Common.{FitsAt}
 use Rattle.pgn_criteria.proofs.SpanFacts.{AreFrom, none_from, counted_before, from_first}
 use Rattle.pgn_criteria.proofs.SpanFacts.{at_most_one}
 use Rattle.pgn_criteria.proofs.spans.count_fitting.Goals as goal
@@ -19,9 +18,8 @@ pub loop-plies-preserved : goal.loop-plies-preserved
 loop-plies-preserved c =
     let Such : ℕ → Type 0 = FitsAt c.args.replayed.now c.args.alternative.now in
     let from : AreFrom Such c.loop-plies.plies (c.loop-plies.many + c.one_if-many.result) =
-    subst (λ n. AreFrom Such c.loop-plies.plies (c.loop-plies.many + n)) (sym c.one_if-many.ensures)
-    (counted_before Such c.loop-plies.plies c.loop-plies.many c.fits_at.result c.fits_at.ensures
-    c.loop-plies.invariant.from) in
+    rw c.one_if-many.ensures (counted_before Such c.loop-plies.plies c.loop-plies.many
+    c.fits_at.result c.fits_at.ensures c.loop-plies.invariant.from) in
     let small : c.one_if-many.result ≤ 1 =
     subst (λ n. n ≤ 1) (sym c.one_if-many.ensures) (at_most_one c.fits_at.result) in
     let back : c.loop-plies.plies ≡ c.loop-plies.plies - 1 + 1 =
@@ -36,10 +34,8 @@ pub returns-then-plies-eq0 : goal.returns-then-plies-eq0
 returns-then-plies-eq0 c =
     let Such : ℕ → Type 0 = FitsAt c.args.replayed.now c.args.alternative.now in
     let from : AreFrom Such c.loop-plies.plies (c.loop-plies.many + c.one_if-many.result) =
-    subst (λ n. AreFrom Such c.loop-plies.plies (c.loop-plies.many + n)) (sym c.one_if-many.ensures)
-    (counted_before Such c.loop-plies.plies c.loop-plies.many c.fits_at.result c.fits_at.ensures
-    c.loop-plies.invariant.from) in
+    rw c.one_if-many.ensures (counted_before Such c.loop-plies.plies c.loop-plies.many
+    c.fits_at.result c.fits_at.ensures c.loop-plies.invariant.from) in
     from_first Such (c.loop-plies.many
     + c.one_if-many.result)
-    (subst (λ n. AreFrom Such n (c.loop-plies.many + c.one_if-many.result)) c.if-plies-eq0.true
-    from)
+    (rw (← c.if-plies-eq0.true) from)

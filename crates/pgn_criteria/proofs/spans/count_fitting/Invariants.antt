@@ -1,5 +1,4 @@
-use Rattle.std.proofs.Common.{◌+◌, ◌≤◌, ◌<◌, length}
-use Rattle.pgn_criteria.specs.Private.Stages.{FitsAt}
+use Rattle.pgn_criteria.proofs.Common.{◌+◌, ◌≤◌, ◌<◌, length, FitsAt}
 use Rattle.pgn_criteria.proofs.SpanFacts.{AreFrom}
 use Rattle.pgn_criteria.proofs.spans.count_fitting.Given as goal
 

@@ -1,7 +1,5 @@
-use Rattle.std.proofs.Common.{◌≡◌, subst, inl, inr, arith}
-use Rattle.std.proofs.lemmas.Bool.{cases_lt}
-use Rattle.std.proofs.lemmas.Option.{slice_get_within}
-use Rattle.pgn_criteria.specs.Private.Stages.{FitsAt, FitsAbout}
+use Rattle.pgn_criteria.proofs.Common.{◌≡◌, subst, inl, inr, arith, cases_lt, slice_get_within}
+use Rattle.pgn_criteria.proofs.Common.{FitsAt, FitsAbout}
 use Rattle.pgn_criteria.proofs.SpanFacts.{reports_about, run_known}
 use Rattle.pgn_criteria.proofs.spans.first_about.Goals as goal
 

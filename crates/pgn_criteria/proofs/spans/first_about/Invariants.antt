@@ -1,6 +1,4 @@
-use Rattle.std.proofs.Common.{◌≤◌, ◌<◌, ◌-◌, ℕ}
-use Rattle.std.specs.Prelude.{IfSome}
-use Rattle.pgn_criteria.specs.Private.Stages.{FitsAt, FitsAbout, IsRun}
+use Rattle.pgn_criteria.proofs.Common.{◌≤◌, ◌<◌, ◌-◌, ℕ, IfSome, FitsAt, FitsAbout, IsRun}
 use Rattle.pgn_criteria.proofs.spans.first_about.Given as goal
 
 abbrev pub invariant-loop-plies : goal.invariant-loop-plies

@@ -4,8 +4,7 @@ use Rattle.pgn_criteria.proofs.spans.fits_about.Goals as goal
 
 pub returns-then-is_free_of_spans : goal.returns-then-is_free_of_spans
 returns-then-is_free_of_spans c =
-    let none =
-    no_spans_hold (FitsAt c.args.replayed.now c.args.alternative.now) c.args.plies
+    let none = no_spans_hold (FitsAt c.args.replayed.now c.args.alternative.now) c.args.plies
     c.args.alternative.now.spans (c.is_free_of_spans.ensures.0 c.if-is_free_of_spans.true) in
     (λ t. (c.fits_at.ensures.0 t, none), λ fits. c.fits_at.ensures.1 fits.0)
 

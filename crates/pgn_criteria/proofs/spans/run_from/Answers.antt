@@ -1,7 +1,5 @@
-use Rattle.std.proofs.Common.{◌≡◌, ◌+◌, ◌<◌, ℕ, subst, inl, inr, arith}
-use Rattle.std.proofs.lemmas.Bool.{cases_lt}
-use Rattle.std.proofs.lemmas.Option.{slice_get_within}
-use Rattle.pgn_criteria.specs.Private.Stages.{FitsAt}
+use Rattle.pgn_criteria.proofs.Common.{◌≡◌, ◌+◌, ◌<◌, ℕ, subst, inl, inr, arith, cases_lt}
+use Rattle.pgn_criteria.proofs.Common.{slice_get_within, FitsAt}
 use Rattle.pgn_criteria.proofs.spans.run_from.Goals as goal
 
 -- the plies of a run and the next one
@@ -19,8 +17,7 @@ returns-then-at-plies c = record {
       c.loop-run.at c.loop-run.invariant.reached c.loop-run.invariant.all
       (c.fits_at.ensures.0 c.loop-run-test.true);
   ended = λ fits.
-      let within =
-      slice_get_within c.args.replayed.now.positions (c.args.plies
+      let within = slice_get_within c.args.replayed.now.positions (c.args.plies
       + (c.loop-run.run + 1)) fits.0 fits.1 in
       omega (
         arith,

@@ -1,5 +1,4 @@
-use Rattle.std.proofs.Common.{◌≡◌, ◌+◌, ◌-◌, ◌≤◌, ◌<◌, ℕ, length}
-use Rattle.pgn_criteria.specs.Private.Stages.{FitsAt}
+use Rattle.pgn_criteria.proofs.Common.{◌≡◌, ◌+◌, ◌-◌, ◌≤◌, ◌<◌, ℕ, length, FitsAt}
 use Rattle.pgn_criteria.proofs.spans.run_from.Given as goal
 
 abbrev pub invariant-loop-run : goal.invariant-loop-run

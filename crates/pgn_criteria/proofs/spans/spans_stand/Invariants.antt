@@ -1,5 +1,4 @@
-use Rattle.std.proofs.Common.{◌↔◌, drop}
-use Rattle.pgn_criteria.specs.Private.Stages.{SpansStand}
+use Rattle.pgn_criteria.proofs.Common.{◌↔◌, drop, SpansStand}
 use Rattle.pgn_criteria.proofs.spans.spans_stand.Given as goal
 
 abbrev pub invariant-loop-claim : goal.invariant-loop-claim

@@ -1,5 +1,4 @@
-use Rattle.std.proofs.Common.{◌≡◌, length}
-use Rattle.pgn_criteria.specs.Private.Reading.{after_blanks}
+use Rattle.pgn_criteria.proofs.Common.{◌≡◌, length, after_blanks}
 use Rattle.pgn_criteria.proofs.words.after_blanks.Given as goal
 
 abbrev pub invariant-loop-rest : goal.invariant-loop-rest

@@ -1,5 +1,4 @@
-use Rattle.std.proofs.Common.{◌≡◌, ◌+◌, length}
-use Rattle.pgn_criteria.specs.Public.Words.{words_of}
+use Rattle.pgn_criteria.proofs.Common.{◌≡◌, ◌+◌, length, words_of}
 use Rattle.pgn_criteria.proofs.words.count_words.Given as goal
 
 abbrev pub invariant-loop-count : goal.invariant-loop-count

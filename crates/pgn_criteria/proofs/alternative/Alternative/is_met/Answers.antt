@@ -1,6 +1,5 @@
-use Rattle.std.proofs.Common.{◌↔◌, IsTrue, MatchOption, ap, subst}
-use Rattle.pgn_criteria.specs.Public.Conditions.{Conditions}
-use Rattle.pgn_criteria.specs.Private.Stages.{AllSaid, AreFixed, AreMirrored}
+use Rattle.pgn_criteria.proofs.Common.{◌↔◌, IsTrue, ap, subst, Conditions, AllSaid, AreFixed}
+use Rattle.pgn_criteria.proofs.Common.{AreMirrored}
 use Rattle.pgn_criteria.proofs.EitherFacts.{met_plain, met_fixed, met_mirror}
 use Rattle.pgn_criteria.proofs.alternative.Alternative.is_met.Goals as goal
 
@@ -24,10 +23,7 @@ returns-in-Some g c =
     (g.S.Seen.checked c.args.position.now) (g.S.Seen.stuck c.args.position.now) x)
     (ap (λ (a : Conditions). a.positions) c.self.view_is) c.is_met.ensures) c.if-is_met.false
     (subst (AreMirrored c.in-Some.planned) (ap (λ (a : Conditions). a.positions) c.self.view_is)
-    (subst (λ o.
-    MatchOption o (AreFixed c.self.inside.plain) (λ planned.
-    AreMirrored planned c.self.inside.plain))
-    c.in-Some.is c.self.invariant))
+    (rw c.in-Some.is at c.self.invariant))
     c.is_met-in-Some.ensures
 
 pub returns-in-None : goal.returns-in-None
@@ -40,7 +36,4 @@ returns-in-None g c =
     (g.S.Seen.checked c.args.position.now) (g.S.Seen.stuck c.args.position.now) x)
     (ap (λ (a : Conditions). a.positions) c.self.view_is) c.is_met.ensures) c.if-is_met.false
     (subst AreFixed (ap (λ (a : Conditions). a.positions) c.self.view_is)
-    (subst (λ o.
-    MatchOption o (AreFixed c.self.inside.plain) (λ planned.
-    AreMirrored planned c.self.inside.plain))
-    c.in-None.is c.self.invariant))
+    (rw c.in-None.is at c.self.invariant))

@@ -1,10 +1,5 @@
-use Rattle.std.proofs.Common.{ℕ, Option, Some, None, MatchOption, IsTrue, ap, subst}
-use Rattle.std.specs.Prelude.{IfSome}
-use Rattle.chess.specs.Public.Placements.{Placement}
-use Rattle.pgn_criteria.specs.Public.Conditions.{Conditions}
-use Rattle.pgn_criteria.specs.Private.Marks.{AreMarksOf}
-use Rattle.pgn_criteria.specs.Private.Stages.{AllSaid, AllOfSeen, AreFixed, AreFreeOfMoves}
-use Rattle.pgn_criteria.specs.Private.Stages.{AreMirrored}
+use Rattle.pgn_criteria.proofs.Common.{ℕ, Option, Some, None, IsTrue, ap, subst, IfSome, Placement}
+use Rattle.pgn_criteria.proofs.Common.{Conditions, AreMarksOf, AllOfSeen, AreFixed, AreFreeOfMoves}
 use Rattle.pgn_criteria.proofs.ByMarkFacts.{fixed_marks}
 use Rattle.pgn_criteria.proofs.alternative.Alternative.marks.Goals as goal
 
@@ -24,12 +19,5 @@ returns-in-None c =
     (c.is_free_of_moves.ensures.0 c.if-not-is_free_of_moves.false)
     (fixed_marks c.marks.result c.args.self.now.positions
     (subst AreFixed positions
-    (subst (λ o.
-    MatchOption o (AreFixed c.self.inside.plain) (λ planned.
-    AreMirrored planned c.self.inside.plain))
-    c.in-None.is c.self.invariant))
-    (subst (λ x.
-    IfSome c.marks.result (λ set. (men : Placement)
-    → AreMarksOf set (λ turn check stuck. AllSaid men turn (IsTrue check) (IsTrue stuck) x)))
-    positions
-    c.marks.ensures))
+    (rw c.in-None.is at c.self.invariant))
+    (rw positions at c.marks.ensures))

@@ -1,9 +1,5 @@
-use Rattle.std.proofs.Common.{MatchOption, ap, subst}
-use Rattle.pgn_criteria.specs.Public.Prefilters.{NowhereSeen, codes_in}
-use Rattle.pgn_criteria.specs.Public.Conditions.{Conditions}
-use Rattle.pgn_criteria.specs.Private.Marks.{FitsSeen}
-use Rattle.pgn_criteria.specs.Private.Stages.{AllOfPatterns, AreFixed, AreMirrored}
-use Rattle.pgn_criteria.specs.Private.PrefilterTests.{FitsPlaced, Nowhere}
+use Rattle.pgn_criteria.proofs.Common.{ap, subst, NowhereSeen, codes_in, Conditions, FitsSeen}
+use Rattle.pgn_criteria.proofs.Common.{AllOfPatterns, AreFixed, AreMirrored, FitsPlaced, Nowhere}
 use Rattle.pgn_criteria.proofs.MarkFacts.{placed_seen}
 use Rattle.pgn_criteria.proofs.PlacedFacts.{fixed_patterns, nowhere_mirrored}
 use Rattle.pgn_criteria.proofs.StandFacts.{nowhere_of}
@@ -26,10 +22,7 @@ returns-in-Some g c = λ none.
     (codes_in c.args.plies.now)
     (nowhere_mirrored c.in-Some.planned c.args.self.now.positions
     (subst (AreMirrored c.in-Some.planned) (ap (λ (a : Conditions). a.positions) c.self.view_is)
-    (subst (λ o.
-    MatchOption o (AreFixed c.self.inside.plain) (λ planned.
-    AreMirrored planned c.self.inside.plain))
-    c.in-Some.is c.self.invariant))
+    (rw c.in-Some.is at c.self.invariant))
     (g.S.Seen.men c.args.start.now) (codes_in c.args.plies.now)
     (subst (λ conditions.
     Nowhere (λ p. AllOfPatterns p conditions) (g.S.Seen.men c.args.start.now)
@@ -48,10 +41,7 @@ returns-in-None g c = λ none.
     (codes_in c.args.plies.now)
     (fixed_patterns c.args.self.now.positions
     (subst AreFixed (ap (λ (a : Conditions). a.positions) c.self.view_is)
-    (subst (λ o.
-    MatchOption o (AreFixed c.self.inside.plain) (λ planned.
-    AreMirrored planned c.self.inside.plain))
-    c.in-None.is c.self.invariant)))
+    (rw c.in-None.is at c.self.invariant)))
     (subst (λ conditions.
     Nowhere (λ p. AllOfPatterns p conditions) (g.S.Seen.men c.args.start.now)
     (codes_in c.args.plies.now)) (ap (λ (a : Conditions). a.positions) c.self.view_is)

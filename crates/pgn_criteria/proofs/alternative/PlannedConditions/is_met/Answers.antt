@@ -1,8 +1,7 @@
-use Rattle.std.proofs.Common.{◌∙◌, subst, sym}
-use Rattle.pgn_criteria.specs.Private.Stages.{AllOfPatterns}
+use Rattle.pgn_criteria.proofs.Common.{◌∙◌, subst, sym, AllOfPatterns}
 use Rattle.pgn_criteria.proofs.SeenFacts.{stages_parted, patterns_said}
-use Rattle.pgn_criteria.proofs.alternative.PlannedConditions.is_met.Goals as goal
 use Rattle.pgn_criteria.proofs.alternative.PlannedConditions.is_met.Goals.{then-is_met, else-is_met}
+use Rattle.pgn_criteria.proofs.alternative.PlannedConditions.is_met.Goals as goal
 
 pub returns-then-self-2 : goal.returns-then-self-2
 returns-then-self-2 g c =
@@ -15,8 +14,7 @@ returns-then-self-2 g c =
           let rest = w.rest_is_met.ensures.0 (sym w.value-is ∙ c.if-rest_is_met.true) in
           let planned = c.is_met.ensures.0 w.if-is_met.true in (
             λ t.
-                let patterns =
-                subst (AllOfPatterns men) c.self.view_is
+                let patterns = subst (AllOfPatterns men) c.self.view_is
                 (c.self.invariant.planned.1 t men planned) in
                 (stages_parted men turn checked stuck c.args.self.now).1
                 ((patterns_said men turn checked stuck c.args.self.now).1 patterns, rest),
@@ -52,8 +50,7 @@ returns-else-rest_is_met g c =
             | then-is_met w ↦ w.value-is ∙ w.rest_is_met.ensures.1 parted.1
             | else-is_met w ↦
                 let patterns = (patterns_said men turn checked stuck c.args.self.now).0 parted.0 in
-                let met =
-                c.is_met.ensures.1
+                let met = c.is_met.ensures.1
                 (c.self.invariant.planned.0 men
                 (subst (AllOfPatterns men) (sym c.self.view_is) patterns)) in
                 absurd (cc (met, w.if-is_met.false))

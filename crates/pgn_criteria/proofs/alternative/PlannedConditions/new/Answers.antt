@@ -1,7 +1,5 @@
-use Rattle.std.proofs.Common.{List, ℕ, Vec, Global, map}
-use Rattle.pgn_criteria.specs.Private.Planning.{Plans}
-use Rattle.pgn_criteria.specs.Private.Stages.{AllOfPatterns, seen}
-use Rattle.pgn_criteria.specs.declared.condition.PositionCondition.{PositionCondition}
+use Rattle.pgn_criteria.proofs.Common.{List, ℕ, Vec, Global, map, Plans, AllOfPatterns, seen}
+use Rattle.pgn_criteria.proofs.Common.{PositionCondition}
 use Rattle.pgn_criteria.proofs.alternative.PlannedConditions.new.Goals as goal
 
 view : List (PositionCondition (Vec ℕ Global)) → List (PositionCondition (List ℕ))

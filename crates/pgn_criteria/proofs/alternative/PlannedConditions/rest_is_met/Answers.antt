@@ -1,5 +1,4 @@
-use Rattle.std.proofs.Common.{subst}
-use Rattle.pgn_criteria.specs.Private.Stages.{ArePatterns}
+use Rattle.pgn_criteria.proofs.Common.{subst, ArePatterns}
 use Rattle.pgn_criteria.proofs.SeenFacts.{patterns_rest}
 use Rattle.pgn_criteria.proofs.alternative.PlannedConditions.rest_is_met.Goals as goal
 

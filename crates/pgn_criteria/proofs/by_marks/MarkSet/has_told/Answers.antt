@@ -1,8 +1,6 @@
-use Rattle.std.proofs.Common.{◌+◌, arith, sym, ap, ◌∙◌}
-use Rattle.std.specs.Prelude.{◌/◌, ◌==◌}
-use Rattle.std.specs.Int.{bit_at}
+use Rattle.std.specs.Prelude.{◌/◌}
 use Rattle.std.proofs.lemmas.Nat.Bits.{shr_and_one}
-use Rattle.pgn_criteria.specs.Public.ByMarks.{first_place}
+use Rattle.pgn_criteria.proofs.Common.{◌+◌, arith, sym, ap, ◌∙◌, ◌==◌, bit_at, first_place}
 use Rattle.pgn_criteria.proofs.ByMarkFacts.{told_number}
 use Rattle.pgn_criteria.proofs.by_marks.MarkSet.has_told.Goals as goal
 

@@ -1,7 +1,4 @@
-use Rattle.std.proofs.Common.{◌≡◌, ◌∙◌, arith, refl, sym, subst}
-use Rattle.std.proofs.lemmas.Bool.Decides.{nat_tests}
-use Rattle.pgn_criteria.specs.Public.ByMarks.{NoneMeets}
-use Rattle.pgn_criteria.specs.Public.Prefilters.{codes_in}
+use Rattle.pgn_criteria.proofs.Common.{◌≡◌, ◌∙◌, arith, refl, sym, nat_tests, codes_in}
 use Rattle.pgn_criteria.proofs.ByMarkFacts.{none_on, next_on, next_here, none_end, none_of_none}
 use Rattle.pgn_criteria.proofs.StandFacts.{rest_is}
 use Rattle.pgn_criteria.proofs.by_marks.MarkSet.next.Goals as goal
@@ -9,8 +6,7 @@ use Rattle.pgn_criteria.proofs.by_marks.MarkSet.next.Goals as goal
 pub returns-then-self-eq0 : goal.returns-then-self-eq0
 returns-then-self-eq0 c =
     let zero : c.args.self.flags ≡ 0 = let is = c.if-self-eq0.true in grind (arith, nat_tests) in
-    subst (λ n. NoneMeets n c.args.turn (codes_in c.args.plies.now)) (sym zero)
-    (none_of_none c.args.turn (codes_in c.args.plies.now))
+    rw zero (none_of_none c.args.turn (codes_in c.args.plies.now))
 
 pub loop-rest-init : goal.loop-rest-init
 loop-rest-init c =

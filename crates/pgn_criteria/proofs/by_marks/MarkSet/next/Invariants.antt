@@ -1,8 +1,4 @@
-use Rattle.std.proofs.Common.{List, length}
-use Rattle.chess.specs.declared.board.man.Side.{Side}
-use Rattle.pgn_game.specs.Public.PlyCodes.{PlyCode}
-use Rattle.pgn_criteria.specs.Public.ByMarks.{NoneMeets, IsNextMet}
-use Rattle.pgn_criteria.specs.Public.Prefilters.{codes_in}
+use Rattle.pgn_criteria.proofs.Common.{List, length, Side, PlyCode, NoneMeets, IsNextMet, codes_in}
 use Rattle.pgn_criteria.proofs.by_marks.MarkSet.next.Given as goal
 
 abbrev pub invariant-loop-rest : goal.invariant-loop-rest

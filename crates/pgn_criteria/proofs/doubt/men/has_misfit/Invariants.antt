@@ -1,7 +1,4 @@
-use Rattle.std.proofs.Common.{◌-◌}
-use Rattle.chess.specs.Public.Fen.{parted_at}
-use Rattle.chess.specs.Public.Placements.{Placement}
-use Rattle.pgn_criteria.specs.Public.Patterns.{FitRanks, FitsPattern}
+use Rattle.pgn_criteria.proofs.Common.{◌-◌, parted_at, Placement, FitRanks, FitsPattern}
 use Rattle.pgn_criteria.proofs.doubt.men.has_misfit.Given as goal
 
 abbrev pub invariant-loop-step : goal.invariant-loop-step

@@ -1,7 +1,5 @@
-use Rattle.std.proofs.Common.{◌≤◌, ◌+◌, List, Option, length, arith, subst}
-use Rattle.chess.specs.declared.board.man.Man.{Man}
-use Rattle.pgn_criteria.specs.Public.Patterns.{CanBeSplit}
-use Rattle.pgn_criteria.specs.Private.Items.{items_of}
+use Rattle.pgn_criteria.proofs.Common.{◌≤◌, ◌+◌, List, Option, length, arith, subst, Man}
+use Rattle.pgn_criteria.proofs.Common.{CanBeSplit, items_of}
 use Rattle.pgn_criteria.proofs.NeedFacts.{least_more}
 use Rattle.pgn_criteria.proofs.doubt.men.least_in.Goals as goal
 

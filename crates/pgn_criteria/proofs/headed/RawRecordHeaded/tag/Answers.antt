@@ -1,6 +1,5 @@
-use Rattle.std.proofs.Common.{◌≡◌, Some, None, sym, subst, ◌∙◌}
-use Rattle.std.proofs.lemmas.Option.{same_Some, none-some}
-use Rattle.pgn_text.specs.Public.Strings.{IsContents}
+use Rattle.std.proofs.lemmas.Option.{none-some}
+use Rattle.pgn_criteria.proofs.Common.{◌≡◌, Some, None, sym, subst, ◌∙◌, same_Some, IsContents}
 use Rattle.pgn_criteria.proofs.RecordHeadings.{named_there}
 use Rattle.pgn_criteria.proofs.headed.RawRecordHeaded.tag.Goals as goal
 
@@ -13,8 +12,7 @@ returns-then-is_contents c = (
 
 pub returns-else-is_contents : goal.returns-else-is_contents
 returns-else-is_contents c contents is own =
-    let there =
-    named_there c.args.self.now c.requires c.args.name.now (Some c.in-Some.contents)
+    let there = named_there c.args.self.now c.requires c.args.name.now (Some c.in-Some.contents)
     c.in-Some.ensures in
     let same : contents ≡ c.in-Some.contents.now =
     same_Some contents c.in-Some.contents.now (sym is ∙ there) in

@@ -1,9 +1,4 @@
-use Rattle.std.proofs.Common.{true, refl, sym, subst}
-use Rattle.std.specs.Prelude.{OnOk}
-use Rattle.chess.specs.Public.Placements.{man_at}
-use Rattle.pgn_criteria.specs.Private.Items.{IsOf}
-use Rattle.pgn_criteria.specs.Private.Layouts.{Lays}
-use Rattle.pgn_criteria.specs.declared.rank.SquareTest.{SquareTest}
+use Rattle.std.proofs.Common.{refl}
 use Rattle.pgn_criteria.proofs.LayoutFacts.{lays_asked}
 use Rattle.pgn_criteria.proofs.layout.Layout.add.Goals as goal
 
@@ -13,9 +8,4 @@ returns-in_ok-push-in_default c =
     refl
 
 pub returns-in-Other : goal.returns-in-Other
-returns-in-Other c =
-    subst (λ (class : SquareTest).
-    OnOk c.bar_men.result
-    (Lays (λ p. IsOf class (man_at p c.args.square)) (λ p.
-    Unit {0}) c.args.self.now c.bar_men.new.self true)) (sym c.in-Other.is)
-    c.bar_men.ensures
+returns-in-Other c = rw c.in-Other.is c.bar_men.ensures

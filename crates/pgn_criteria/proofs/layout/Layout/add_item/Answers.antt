@@ -1,9 +1,5 @@
-use Rattle.std.proofs.Common.{◌+◌, ◌-◌, true, drop, refl, subst, arith}
-use Rattle.chess.specs.Public.Fen.{row}
-use Rattle.pgn_criteria.specs.Private.Items.{IsNextItem, items_of}
-use Rattle.pgn_criteria.specs.Private.Layouts.{EachFrom}
-use Rattle.pgn_criteria.specs.Public.Patterns.{CanBeSplit}
-use Rattle.pgn_criteria.specs.declared.rank.Item.{Item}
+use Rattle.pgn_criteria.proofs.Common.{◌+◌, ◌-◌, true, drop, refl, subst, arith, row, IsNextItem}
+use Rattle.pgn_criteria.proofs.Common.{items_of, EachFrom, CanBeSplit, Item}
 use Rattle.pgn_criteria.proofs.LayoutFacts.{lays_start, lays_step, lays_same, next_run, next_many}
 use Rattle.pgn_criteria.proofs.layout.Layout.add_item.Goals as goal
 

@@ -1,12 +1,10 @@
-use Rattle.std.proofs.Common.{◌≡◌, ◌+◌, ◌-◌, ◌==◌, true, refl, arith}
-use Rattle.std.proofs.lemmas.Bool.{eqb-true}
-use Rattle.chess.specs.Public.Fen.{row, parted_at}
-use Rattle.pgn_criteria.specs.Public.Patterns.{CanBeSplit, FitRanks, FitsPattern}
-use Rattle.pgn_criteria.specs.Private.Items.{items_of}
+use Rattle.std.proofs.Common.{◌==◌}
+use Rattle.pgn_criteria.proofs.Common.{◌≡◌, ◌+◌, ◌-◌, true, refl, arith, eqb-true, row, parted_at}
+use Rattle.pgn_criteria.proofs.Common.{CanBeSplit, FitRanks, FitsPattern, items_of}
 use Rattle.pgn_criteria.proofs.LayoutFacts.{lays_step, lays_end}
 use Rattle.pgn_criteria.proofs.PatternFacts.{next_rank, last_rank}
-use Rattle.pgn_criteria.proofs.layout.Layout.add_pattern.Goals as goal
 use Rattle.pgn_criteria.proofs.layout.Layout.add_pattern.Goals.{then-branch, else-branch}
+use Rattle.pgn_criteria.proofs.layout.Layout.add_pattern.Goals as goal
 
 pub returns-then-is_all : goal.returns-then-is_all
 returns-then-is_all c =

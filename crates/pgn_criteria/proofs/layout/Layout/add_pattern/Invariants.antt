@@ -1,7 +1,4 @@
-use Rattle.std.proofs.Common.{◌-◌}
-use Rattle.chess.specs.Public.Fen.{parted_at}
-use Rattle.pgn_criteria.specs.Private.Layouts.{Lays}
-use Rattle.pgn_criteria.specs.Public.Patterns.{FitsPattern, FitRanks}
+use Rattle.pgn_criteria.proofs.Common.{◌-◌, parted_at, Lays, FitsPattern, FitRanks}
 use Rattle.pgn_criteria.proofs.layout.Layout.add_pattern.Given as goal
 
 abbrev pub invariant-loop-step : goal.invariant-loop-step

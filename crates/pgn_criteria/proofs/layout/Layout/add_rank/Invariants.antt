@@ -1,8 +1,4 @@
-use Rattle.std.proofs.Common.{◌≤◌, true, drop, length}
-use Rattle.chess.specs.Public.Fen.{row}
-use Rattle.pgn_criteria.specs.Private.Layouts.{Lays}
-use Rattle.pgn_criteria.specs.Public.Patterns.{CanBeSplit}
-use Rattle.pgn_criteria.specs.Private.Items.{items_of}
+use Rattle.pgn_criteria.proofs.Common.{◌≤◌, true, drop, length, row, Lays, CanBeSplit, items_of}
 use Rattle.pgn_criteria.proofs.layout.Layout.add_rank.Given as goal
 
 abbrev pub invariant-loop-rest : goal.invariant-loop-rest

@@ -1,12 +1,7 @@
-use Rattle.std.proofs.Common.{◌↔◌, ◌+◌, true, refl, sym, subst, arith}
-use Rattle.chess.specs.Public.Squares.{Place}
-use Rattle.chess.specs.Public.Placements.{man_at}
-use Rattle.pgn_criteria.specs.Private.Items.{IsOf}
-use Rattle.pgn_criteria.specs.Private.Layouts.{EachFrom, Lays}
-use Rattle.pgn_criteria.specs.declared.layout.Layout.{Layout}
+use Rattle.pgn_criteria.proofs.Common.{◌+◌, true, refl, arith, Place, man_at, IsOf, EachFrom}
 use Rattle.pgn_criteria.proofs.LayoutFacts.{lays_step, lays_end, each_step}
-use Rattle.pgn_criteria.proofs.layout.Layout.add_run.Goals as goal
 use Rattle.pgn_criteria.proofs.layout.Layout.add_run.Goals.{in-Some+in_ok-add, in_default}
+use Rattle.pgn_criteria.proofs.layout.Layout.add_run.Goals as goal
 
 pub loop-step-preserved : goal.loop-step-preserved
 loop-step-preserved c =
@@ -18,25 +13,17 @@ loop-step-preserved c =
     let here : Place = record { file = before + step + 1; rank = rank } in
     elim c.match-new.branch [
       | in-Some+in_ok-add w ↦
-          subst (λ (x : Layout).
-          Lays (λ p. EachFrom p class rank before 0 count) (λ p.
-          EachFrom p class rank before (step + 1) count) c.args.self.now x true) (sym w.self-is)
-          (lays_step (λ p. EachFrom p class rank before 0 count) (λ p.
-          EachFrom p class rank before step count) (λ p. IsOf class (man_at p w.in-Some.square))
-          (λ p. EachFrom p class rank before (step + 1) count) c.args.self.now c.loop-step.self
-          w.add.new.self true true true c.loop-step.invariant w.in_ok-add.ensures
-          (λ p. subst (λ (s : Place). EachFrom p class rank before step count
-          ↔ (IsOf class (man_at p s) × EachFrom p class rank before (step + 1) count))
-          (sym w.in-Some.ensures.0)
-          (each_step p class rank before step count c.loop-step-test.true))
-          (λ t. (refl, refl)))
+          rw w.self-is (lays_step (λ p. EachFrom p class rank before 0 count) (λ p. EachFrom p class
+          rank before step count) (λ p. IsOf class (man_at p w.in-Some.square)) (λ p. EachFrom p
+          class rank before (step + 1) count) c.args.self.now c.loop-step.self w.add.new.self true
+          true true c.loop-step.invariant w.in_ok-add.ensures (λ p. rw w.in-Some.ensures.0
+          (each_step p class rank before step count c.loop-step-test.true)) (λ t. (refl, refl)))
       | in_default w ↦ absurd
           ((rw w.in_default.is at c.new.ensures)
           (record {
             file_low = omega arith;
             file_high = omega arith;
-            rank_low =
-                omega arith;
+            rank_low = omega arith;
             rank_high = omega arith;
           }))
     ]

@@ -1,5 +1,4 @@
-use Rattle.std.proofs.Common.{true}
-use Rattle.pgn_criteria.specs.Private.Layouts.{EachFrom, Lays}
+use Rattle.pgn_criteria.proofs.Common.{true, EachFrom, Lays}
 use Rattle.pgn_criteria.proofs.layout.Layout.add_run.Given as goal
 
 abbrev pub invariant-loop-step : goal.invariant-loop-step

@@ -1,7 +1,4 @@
-use Rattle.std.proofs.Common.{true, refl, IsTrue}
-use Rattle.chess.specs.Public.Placements.{man_at}
-use Rattle.pgn_criteria.specs.Private.Items.{IsOf}
-use Rattle.pgn_criteria.specs.declared.rank.SquareTest.TheVariants.{Not}
+use Rattle.pgn_criteria.proofs.Common.{true, refl, IsTrue, man_at, IsOf, Not}
 use Rattle.pgn_criteria.proofs.LayoutFacts.{lays_barred, lays_like}
 use Rattle.pgn_criteria.proofs.layout.Layout.bar.Goals as goal
 

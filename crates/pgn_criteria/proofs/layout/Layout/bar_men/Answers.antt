@@ -1,8 +1,4 @@
-use Rattle.chess.specs.Public.Placements.{man_at}
-use Rattle.chess.specs.declared.board.man.Side.TheVariants.{White, Black}
-use Rattle.pgn_criteria.specs.Private.Items.{IsOf}
-use Rattle.pgn_criteria.specs.Private.Layouts.{NoneOf}
-use Rattle.pgn_criteria.specs.declared.rank.SquareTest.TheVariants.{Other}
+use Rattle.pgn_criteria.proofs.Common.{man_at, White, Black, IsOf, NoneOf, Other}
 use Rattle.pgn_criteria.proofs.LayoutFacts.{lays_both, lays_like, both_sides}
 use Rattle.pgn_criteria.proofs.layout.Layout.bar_men.Goals as goal
 

@@ -1,6 +1,4 @@
-use Rattle.std.proofs.Common.{◌≡◌, true, false, sym, ap, ◌∙◌, arith}
-use Rattle.chess.specs.Public.Sets.{is_in}
-use Rattle.chess.specs.Shared.SetFacts.{is_in-empty}
+use Rattle.pgn_criteria.proofs.Common.{◌≡◌, true, false, sym, ap, ◌∙◌, arith, is_in, is_in-empty}
 use Rattle.pgn_criteria.proofs.layout.Layout.free.Goals as goal
 
 pub loop-rank-init : goal.loop-rank-init

@@ -1,6 +1,4 @@
-use Rattle.std.proofs.Common.{◌≡◌, ◌<◌, ◌⊎◌, true}
-use Rattle.chess.specs.Public.Squares.{Place, IsOnBoard}
-use Rattle.chess.specs.Public.Sets.{is_in}
+use Rattle.pgn_criteria.proofs.Common.{◌≡◌, ◌<◌, ◌⊎◌, true, Place, IsOnBoard, is_in}
 use Rattle.pgn_criteria.proofs.layout.Layout.free.Given as goal
 
 abbrev pub invariant-loop-rank : goal.invariant-loop-rank

@@ -1,9 +1,7 @@
-use Rattle.std.proofs.Common.{◌≡◌, true, false, None, Some, refl, sym, ap, ◌∙◌, subst}
-use Rattle.chess.specs.Public.Placements.{man_at}
-use Rattle.chess.specs.Public.Sets.{is_in}
-use Rattle.chess.specs.Shared.SetFacts.{is_in-empty}
+use Rattle.pgn_criteria.proofs.Common.{◌≡◌, true, false, None, Some, refl, sym, ap, ◌∙◌, subst}
+use Rattle.pgn_criteria.proofs.Common.{man_at, is_in, is_in-empty, AllStand}
 use Rattle.chess.proofs.PlaceFacts.{some_not_none}
-use Rattle.pgn_criteria.specs.Private.Layouts.{AllStand, KindWithin}
+use Rattle.pgn_criteria.specs.Private.Layouts.{KindWithin}
 use Rattle.pgn_criteria.proofs.layout.Layout.is_met.Goals as goal
 
 pub returns-then-is_empty : goal.returns-then-is_empty

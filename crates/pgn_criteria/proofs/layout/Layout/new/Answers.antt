@@ -1,7 +1,5 @@
-use Rattle.std.proofs.Common.{◌≡◌, true, false, sym, ap, ◌∙◌, subst}
-use Rattle.chess.specs.Public.Sets.{is_in}
-use Rattle.chess.specs.Shared.SetFacts.{is_in-empty}
-use Rattle.pgn_criteria.specs.Private.Layouts.{AllStand}
+use Rattle.pgn_criteria.proofs.Common.{◌≡◌, true, false, sym, ap, ◌∙◌, subst, is_in, is_in-empty}
+use Rattle.pgn_criteria.proofs.Common.{AllStand}
 use Rattle.pgn_criteria.proofs.layout.Layout.new.Goals as goal
 
 pub returns : goal.returns

@@ -11,6 +11,5 @@ returns c =
     laid_turned (record {
       asked = c.in_ok-asked.asked;
       barred = c.in_ok-barred.barred;
-      empty =
-          c.squares_beside-empty.result;
+      empty = c.squares_beside-empty.result;
     }) self asked barred c.squares_beside-empty.ensures

@@ -1,12 +1,10 @@
-use Rattle.std.proofs.Common.{◌∷◌, ◌∙◌, ap}
-use Rattle.chess.specs.Public.Fen.{parted_at}
+use Rattle.pgn_criteria.proofs.Common.{◌∷◌, ◌∙◌, ap, parted_at}
 use Rattle.pgn_criteria.proofs.DayTextFacts.{some_rest, year_in, month_in, day_in, too_many}
 use Rattle.pgn_criteria.proofs.line.days.days_of.Goals as goal
 
 pub returns-in_err-year : goal.returns-in_err-year
 returns-in_err-year c =
-    let parts =
-    some_rest (parted_at 46 c.args.text.now) c.next_part.result.0.now
+    let parts = some_rest (parted_at 46 c.args.text.now) c.next_part.result.0.now
     (λ rest. parted_at 46 rest.now) c.next_part.result.1 c.next_part.ensures in
     rw c.from_residual.ensures λ days spells.
     c.in_err-year.ensures days.year
@@ -17,8 +15,7 @@ returns-in_err-month c =
     let year = c.next_part.result.0.now in
     let month = c.next_part-2.result.0.now in
     let one = rw c.in-Some.is at c.next_part.ensures in
-    let parts =
-    some_rest (parted_at 46 c.in-Some.rest.now) month (λ rest. parted_at 46 rest.now)
+    let parts = some_rest (parted_at 46 c.in-Some.rest.now) month (λ rest. parted_at 46 rest.now)
     c.next_part-2.result.1 c.next_part-2.ensures in
     rw c.from_residual-in_err-month.ensures λ days spells.
     c.in_err-month.ensures days.first_month days.last_month
@@ -32,8 +29,7 @@ returns-in_err-day c =
     let day = c.next_part-3.result.0.now in
     let one = rw c.in-Some.is at c.next_part.ensures in
     let two = rw c.in-Some-rest.is at c.next_part-2.ensures in
-    let parts =
-    some_rest (parted_at 46 c.in-Some-rest.rest.now) day (λ rest. parted_at 46 rest.now)
+    let parts = some_rest (parted_at 46 c.in-Some-rest.rest.now) day (λ rest. parted_at 46 rest.now)
     c.next_part-3.result.1 c.next_part-3.ensures in
     rw c.from_residual-in_err-day.ensures λ days spells.
     c.in_err-day.ensures days.first_day days.last_day

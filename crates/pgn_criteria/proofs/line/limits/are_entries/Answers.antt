@@ -1,8 +1,6 @@
-use Rattle.std.proofs.Common.{◌≡◌, ◌-◌, true, false, length, take, drop, sym, ap, ◌∙◌, subst}
-use Rattle.std.specs.Prelude.{slice_index_or}
-use Rattle.chess.specs.Public.Fen.{has_byte}
-use Rattle.pgn_criteria.specs.Private.Reading.{AreEntries, first_limit}
-use Rattle.chess.proofs.RestFacts.{first_and_rest}
+use Rattle.pgn_criteria.proofs.Common.{◌≡◌, ◌-◌, true, false, length, take, drop, sym, ap, ◌∙◌}
+use Rattle.pgn_criteria.proofs.Common.{subst, slice_index_or, has_byte, AreEntries, first_limit}
+use Rattle.pgn_criteria.proofs.Common.{first_and_rest}
 use Rattle.pgn_criteria.proofs.LimitFacts.{entries_read, entries_spelled}
 use Rattle.pgn_criteria.proofs.line.limits.are_entries.Goals as goal
 
@@ -11,8 +9,7 @@ returns-in_default-kind_of c = (
   (λ yes. absurd (cc)),
   (λ are.
       let rest = c.loop-rest.rest.now in
-      let first =
-      subst AreEntries (first_and_rest rest c.in-len1-up.len_at_least)
+      let first = subst AreEntries (first_and_rest rest c.in-len1-up.len_at_least)
       (c.loop-rest.invariant.1 are) in
       let read = entries_read (slice_index_or rest 0 0) (take (length rest - 1) (drop 1 rest)) first
       in
@@ -24,8 +21,7 @@ returns-then-has_byte c = (
   (λ yes. absurd (cc)),
   (λ are.
       let rest = c.loop-rest.rest.now in
-      let first =
-      subst AreEntries (first_and_rest rest c.in-len1-up.len_at_least)
+      let first = subst AreEntries (first_and_rest rest c.in-len1-up.len_at_least)
       (c.loop-rest.invariant.1 are) in
       let read = entries_read (slice_index_or rest 0 0) (take (length rest - 1) (drop 1 rest)) first
       in

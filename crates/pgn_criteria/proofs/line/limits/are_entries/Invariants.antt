@@ -1,5 +1,4 @@
-use Rattle.std.proofs.Common.{◌↔◌, length}
-use Rattle.pgn_criteria.specs.Private.Reading.{AreEntries}
+use Rattle.pgn_criteria.proofs.Common.{◌↔◌, length, AreEntries}
 use Rattle.pgn_criteria.proofs.line.limits.are_entries.Given as goal
 
 abbrev pub invariant-loop-rest : goal.invariant-loop-rest

@@ -1,6 +1,4 @@
-use Rattle.std.proofs.Common.{◌≡◌, length}
-use Rattle.chess.specs.Public.Letters.{kind_letter}
-use Rattle.pgn_criteria.specs.Private.Reading.{limit_after}
+use Rattle.pgn_criteria.proofs.Common.{◌≡◌, length, kind_letter, limit_after}
 use Rattle.pgn_criteria.proofs.line.limits.limit_in.Given as goal
 
 abbrev pub invariant-loop-rest : goal.invariant-loop-rest

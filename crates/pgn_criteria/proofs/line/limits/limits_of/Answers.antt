@@ -1,13 +1,7 @@
-use Rattle.std.proofs.Common.{◌≡◌, ◌≢◌, ℕ, true, false, List, [], length, sym, ap, ◌∙◌}
-use Rattle.std.specs.Prelude.{◌==◌}
-use Rattle.std.proofs.lemmas.Bool.{eqb-true}
-use Rattle.std.proofs.lemmas.List.{nil_from_length}
-use Rattle.chess.specs.Public.Letters.{kind_letter}
-use Rattle.chess.specs.declared.board.man.Kind.{Kind}
-use Rattle.chess.specs.declared.board.man.Kind.TheVariants.{King, Queen, Rook, Bishop, Knight, Pawn}
-use Rattle.pgn_criteria.specs.Public.Materials.{limit_of}
-use Rattle.pgn_criteria.specs.Private.Reading.{limit_after}
-use Rattle.pgn_criteria.specs.declared.material.Limits.{Limits}
+use Rattle.pgn_criteria.proofs.Common.{◌≡◌, ◌≢◌, ℕ, true, false, List, [], length, sym, ap, ◌∙◌}
+use Rattle.pgn_criteria.proofs.Common.{◌==◌, eqb-true, nil_from_length, kind_letter, Kind, King}
+use Rattle.pgn_criteria.proofs.Common.{Queen, Rook, Bishop, Knight, Pawn, limit_of, limit_after}
+use Rattle.pgn_criteria.proofs.Common.{Limits}
 use Rattle.pgn_criteria.proofs.LimitFacts.{limits_some, limits_entries, limits_spelled}
 use Rattle.pgn_criteria.proofs.line.limits.limits_of.Goals as goal
 

@@ -1,6 +1,5 @@
-use Rattle.std.proofs.Common.{◌≡◌, ℕ, List, ◌∙◌, sym, ap, subst}
-use Rattle.pgn_criteria.specs.Private.Reading.{run_of, after_word}
-use Rattle.pgn_criteria.specs.Public.Lines.{SpellsLimits}
+use Rattle.pgn_criteria.proofs.Common.{◌≡◌, ℕ, List, ◌∙◌, sym, ap, subst, run_of, after_word}
+use Rattle.pgn_criteria.proofs.Common.{SpellsLimits}
 use Rattle.pgn_criteria.proofs.MaterialFacts.{material_read, material_spelled}
 use Rattle.pgn_criteria.proofs.line.limits.material_of.Goals as goal
 
@@ -46,7 +45,5 @@ returns c =
           subst (λ (x : List ℕ). SpellsLimits x c.in_ok-white.white) (c.split_first.ensures.word
           ∙ ap run_of c.in_ok-rest.ensures.1) c.in_ok-white.ensures;
       between_is = ap run_of (sym rest) ∙ c.in_ok-black.ensures.0;
-      black_is =
-          subst (λ (x : List ℕ). SpellsLimits x c.in_ok-black-2.black) (c.in_ok-black.ensures.1
-          ∙ ap after_word rest) c.in_ok-black-2.ensures;
+      black_is = rw (← (c.in_ok-black.ensures.1 ∙ ap after_word rest)) c.in_ok-black-2.ensures;
     })

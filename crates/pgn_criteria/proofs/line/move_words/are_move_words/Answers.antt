@@ -1,10 +1,8 @@
-use Rattle.std.proofs.Common.{◌≡◌, ◌≢◌, ◌<◌, ℕ, Bool, true, false, List, [], length, refl, sym, ap}
-use Rattle.std.proofs.Common.{◌∙◌, subst, IsTrue}
-use Rattle.std.specs.Prelude.{◌↔◌, ◌==◌}
-use Rattle.std.proofs.lemmas.Bool.{eqb-true}
-use Rattle.std.proofs.lemmas.List.{nil_from_length}
-use Rattle.pgn_criteria.specs.Public.Lines.{AreMoveWords, IsMoveWord}
-use Rattle.pgn_criteria.specs.Private.Reading.{run_of, after_run, after_blanks, after_word}
+use Rattle.std.specs.Prelude.{◌↔◌}
+use Rattle.pgn_criteria.proofs.Common.{◌≡◌, ◌≢◌, ℕ, Bool, true, false, List, [], length, refl, sym}
+use Rattle.pgn_criteria.proofs.Common.{ap, ◌∙◌, subst, IsTrue, ◌==◌, eqb-true, nil_from_length}
+use Rattle.pgn_criteria.proofs.Common.{AreMoveWords, IsMoveWord, run_of, after_run, after_blanks}
+use Rattle.pgn_criteria.proofs.Common.{after_word}
 use Rattle.pgn_criteria.proofs.MoveWordFacts.{words_read, words_left, last_word, first_word}
 use Rattle.pgn_criteria.proofs.MoveWordFacts.{words_shorter}
 use Rattle.pgn_criteria.proofs.line.move_words.are_move_words.Goals as goal
@@ -30,12 +28,10 @@ returns-then-not-is_move_word c = (
 
 pub returns-then-is_empty : goal.returns-then-is_empty
 returns-then-is_empty c =
-    let word =
-    a_word c.loop-after.rest.now c.split_word.result.0.now c.is_move_word.result
+    let word = a_word c.loop-after.rest.now c.split_word.result.0.now c.is_move_word.result
     c.split_word.ensures.word c.is_move_word.ensures c.if-not-is_move_word.false in
     let none : after_run c.loop-after.rest.now ≡ [] =
-    sym c.split_word.ensures.rest
-    ∙ nil_from_length c.split_word.result.1.now
+    sym c.split_word.ensures.rest ∙ nil_from_length c.split_word.result.1.now
     (eqb-true _ _ (sym c.is_empty.ensures ∙ c.if-is_empty.true)) in (
       (λ yes. c.loop-after.invariant.0 (last_word c.loop-after.rest.now word none)),
       (λ are. refl),
@@ -43,18 +39,15 @@ returns-then-is_empty c =
 
 pub loop-after-smaller : goal.loop-after-smaller
 loop-after-smaller c =
-    let word =
-    a_word c.loop-after.rest.now c.split_word.result.0.now c.is_move_word.result
+    let word = a_word c.loop-after.rest.now c.split_word.result.0.now c.is_move_word.result
     c.split_word.ensures.word c.is_move_word.ensures c.if-not-is_move_word.false in
-    subst (λ x. length x < length c.loop-after.rest.now)
-    (ap after_blanks (sym c.split_word.ensures.rest)
-    ∙ sym c.after_blanks-rest.ensures) (words_shorter c.loop-after.rest.now word)
+    rw (← (ap after_blanks (sym c.split_word.ensures.rest) ∙ sym c.after_blanks-rest.ensures))
+    (words_shorter c.loop-after.rest.now word)
 
 pub loop-after-preserved : goal.loop-after-preserved
 loop-after-preserved c =
     let rest = c.loop-after.rest.now in
-    let word =
-    a_word rest c.split_word.result.0.now c.is_move_word.result c.split_word.ensures.word
+    let word = a_word rest c.split_word.result.0.now c.is_move_word.result c.split_word.ensures.word
     c.is_move_word.ensures c.if-not-is_move_word.false in
     let same : after_word rest ≡ c.after_blanks-rest.result.now =
     ap after_blanks (sym c.split_word.ensures.rest) ∙ sym c.after_blanks-rest.ensures in

@@ -1,5 +1,4 @@
-use Rattle.std.proofs.Common.{◌↔◌, length}
-use Rattle.pgn_criteria.specs.Public.Lines.{AreMoveWords}
+use Rattle.pgn_criteria.proofs.Common.{◌↔◌, length, AreMoveWords}
 use Rattle.pgn_criteria.proofs.line.move_words.are_move_words.Given as goal
 
 abbrev pub invariant-loop-after : goal.invariant-loop-after

@@ -1,5 +1,4 @@
-use Rattle.std.proofs.Common.{◌≡◌, ◌∙◌, sym, subst}
-use Rattle.pgn_criteria.specs.Public.Lines.{AreMoveWords}
+use Rattle.pgn_criteria.proofs.Common.{◌≡◌, ◌∙◌, sym, subst, AreMoveWords}
 use Rattle.pgn_criteria.proofs.MoveWordFacts.{moves_read, moves_spelled}
 use Rattle.pgn_criteria.proofs.line.move_words.moves_of.Goals as goal
 

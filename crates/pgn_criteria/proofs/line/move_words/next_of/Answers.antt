@@ -1,5 +1,4 @@
-use Rattle.std.proofs.Common.{◌≡◌, ◌∙◌, sym, subst}
-use Rattle.pgn_criteria.specs.Public.Lines.{IsMoveLike}
+use Rattle.pgn_criteria.proofs.Common.{◌≡◌, ◌∙◌, sym, subst, IsMoveLike}
 use Rattle.pgn_criteria.proofs.MoveWordFacts.{next_read, next_spelled}
 use Rattle.pgn_criteria.proofs.line.move_words.next_of.Goals as goal
 

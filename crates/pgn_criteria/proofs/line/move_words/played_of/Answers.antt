@@ -1,5 +1,4 @@
-use Rattle.std.proofs.Common.{◌≡◌, ◌∙◌, sym, subst}
-use Rattle.pgn_criteria.specs.Public.Lines.{IsMoveLike}
+use Rattle.pgn_criteria.proofs.Common.{◌≡◌, ◌∙◌, sym, subst, IsMoveLike}
 use Rattle.pgn_criteria.proofs.MoveWordFacts.{played_read, played_spelled}
 use Rattle.pgn_criteria.proofs.line.move_words.played_of.Goals as goal
 

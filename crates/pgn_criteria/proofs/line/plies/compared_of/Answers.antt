@@ -1,6 +1,4 @@
-use Rattle.std.proofs.Common.{◌≡◌, ap, sym, ◌∙◌, subst}
-use Rattle.pgn_criteria.specs.Public.Lines.{SpellsCount}
-use Rattle.pgn_criteria.specs.Private.Reading.{run_of, after_word}
+use Rattle.pgn_criteria.proofs.Common.{◌≡◌, ap, sym, ◌∙◌, subst, SpellsCount, run_of, after_word}
 use Rattle.pgn_criteria.proofs.PliesFacts.{compared_read, compared_spelled}
 use Rattle.pgn_criteria.proofs.line.plies.compared_of.Goals as goal
 

@@ -1,5 +1,4 @@
-use Rattle.std.proofs.Common.{arith, rules}
-use Rattle.chess.proofs.RestFacts.{first_and_rest}
+use Rattle.pgn_criteria.proofs.Common.{arith, rules, first_and_rest}
 use Rattle.chess.proofs.CountFacts.{count_start, count_small, count_more}
 use Rattle.pgn_criteria.proofs.line.plies.count_of.Goals as goal
 

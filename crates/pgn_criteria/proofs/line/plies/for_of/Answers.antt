@@ -1,5 +1,4 @@
-use Rattle.std.proofs.Common.{◌∙◌, sym, subst, arith}
-use Rattle.pgn_criteria.specs.Public.Lines.{SpellsCount}
+use Rattle.pgn_criteria.proofs.Common.{◌∙◌, sym, subst, arith, SpellsCount}
 use Rattle.pgn_criteria.proofs.PliesFacts.{for_read, for_spelled}
 use Rattle.pgn_criteria.proofs.line.plies.for_of.Goals as goal
 
@@ -12,8 +11,7 @@ pub returns-in_err-count : goal.returns-in_err-count
 returns-in_err-count c =
     rw c.from_residual-in_err-count.ensures (λ count spells.
     c.in_err-count.ensures count
-    (subst (λ x. SpellsCount x count) (sym c.in_ok-digits.ensures.1)
-    (for_read c.args.text.now count spells).1))
+    (rw c.in_ok-digits.ensures.1 (for_read c.args.text.now count spells).1))
 
 pub returns-then-count-eq0 : goal.returns-then-count-eq0
 returns-then-count-eq0 c count spells =

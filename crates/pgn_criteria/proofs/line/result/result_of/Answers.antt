@@ -1,5 +1,4 @@
-use Rattle.std.proofs.Common.{◌≡◌, ◌∙◌, sym, subst}
-use Rattle.pgn_text.specs.Public.GameTexts.{IsResult}
+use Rattle.pgn_criteria.proofs.Common.{◌≡◌, ◌∙◌, sym, subst, IsResult}
 use Rattle.pgn_criteria.proofs.ResultFacts.{result_read, result_spelled}
 use Rattle.pgn_criteria.proofs.line.result.result_of.Goals as goal
 

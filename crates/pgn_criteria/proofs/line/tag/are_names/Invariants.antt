@@ -1,6 +1,4 @@
-use Rattle.std.proofs.Common.{◌↔◌, length}
-use Rattle.chess.specs.Public.Fen.{parted_at}
-use Rattle.pgn_criteria.specs.Public.Lines.{AreNames}
+use Rattle.pgn_criteria.proofs.Common.{◌↔◌, length, parted_at, AreNames}
 use Rattle.pgn_criteria.proofs.line.tag.are_names.Given as goal
 
 abbrev pub invariant-loop-after : goal.invariant-loop-after

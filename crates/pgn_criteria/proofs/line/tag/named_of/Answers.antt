@@ -1,7 +1,5 @@
-use Rattle.std.proofs.Common.{◌≡◌, sym, ap, ◌∙◌, subst}
-use Rattle.chess.specs.Public.Fen.{parted_at}
-use Rattle.pgn_criteria.specs.Public.Lines.{AreNames}
-use Rattle.pgn_criteria.specs.Private.Reading.{run_of, after_word}
+use Rattle.pgn_criteria.proofs.Common.{◌≡◌, sym, ap, ◌∙◌, subst, parted_at, AreNames, run_of}
+use Rattle.pgn_criteria.proofs.Common.{after_word}
 use Rattle.pgn_criteria.proofs.line.tag.named_of.Goals as goal
 
 pub returns-in_err-rest : goal.returns-in_err-rest

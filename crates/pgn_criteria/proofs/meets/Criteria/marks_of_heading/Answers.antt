@@ -1,11 +1,9 @@
-use Rattle.std.proofs.Common.{◌≡◌, ◌+◌, length, drop, ap, ◌∙◌, arith}
-use Rattle.std.proofs.Math.Seq.{drop-length}
-use Rattle.pgn_criteria.specs.Public.Meeting.{Heading}
+use Rattle.pgn_criteria.proofs.Common.{◌≡◌, ◌+◌, length, drop, ap, ◌∙◌, arith, drop-length, Heading}
 use Rattle.pgn_criteria.proofs.ByMarkFacts.{held_on, held_without, held_end}
 use Rattle.pgn_criteria.proofs.MeetFacts.{good_from, alternatives_from}
-use Rattle.pgn_criteria.proofs.meets.Criteria.marks_of_heading.Goals as goal
 use Rattle.pgn_criteria.proofs.meets.Criteria.marks_of_heading.Goals.{then-is_of_heading}
 use Rattle.pgn_criteria.proofs.meets.Criteria.marks_of_heading.Goals.{else-is_of_heading}
+use Rattle.pgn_criteria.proofs.meets.Criteria.marks_of_heading.Goals as goal
 
 pub loop-alternative-preserved : goal.loop-alternative-preserved
 loop-alternative-preserved g c =

@@ -1,10 +1,5 @@
-use Rattle.std.proofs.Common.{◌↔◌, ◌⊎◌, ℕ, Bool, IsTrue, drop}
-use Rattle.chess.specs.Public.Positions.{State}
-use Rattle.pgn_game.specs.Public.PlyCodes.{AreMarks}
-use Rattle.pgn_game.specs.Public.Replays.{Replay}
-use Rattle.pgn_criteria.specs.Public.ByMarks.{has_marks}
-use Rattle.pgn_criteria.specs.Public.Meeting.{SomeHold}
-use Rattle.pgn_criteria.specs.Private.Stages.{AllGood}
+use Rattle.pgn_criteria.proofs.Common.{◌↔◌, ◌⊎◌, ℕ, Bool, IsTrue, drop, State, AreMarks, Replay}
+use Rattle.pgn_criteria.proofs.Common.{has_marks, SomeHold, AllGood}
 use Rattle.pgn_criteria.proofs.meets.Criteria.marks_of_heading.Given as goal
 
 abbrev pub invariant-loop-alternative : goal.invariant-loop-alternative

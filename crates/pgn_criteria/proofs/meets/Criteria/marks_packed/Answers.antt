@@ -1,8 +1,6 @@
-use Rattle.std.proofs.Common.{◌≡◌, ◌∙◌, Option, Some, None, sym, ap, subst}
-use Rattle.std.specs.Prelude.{IfSome}
+use Rattle.pgn_criteria.proofs.Common.{◌≡◌, ◌∙◌, Option, Some, None, sym, ap, subst, IfSome}
+use Rattle.pgn_criteria.proofs.Common.{Heading, heading_of, heading_of_raw}
 use Rattle.pgn_criteria.specs.Public.ByMarks.{AreMetByMarks}
-use Rattle.pgn_criteria.specs.Public.Meeting.{Heading, heading_of}
-use Rattle.pgn_criteria.specs.Private.Records.{heading_of_raw}
 use Rattle.pgn_criteria.proofs.RecordHeadings.{raw_heading, text_heading}
 use Rattle.pgn_criteria.proofs.meets.Criteria.marks_packed.Goals as goal
 

@@ -1,12 +1,6 @@
-use Rattle.std.proofs.Common.{◌≡◌, ◌∙◌, List, Some, Result, Ok, Err, refl, sym, ap, subst}
-use Rattle.std.specs.List.{slice_get}
-use Rattle.std.specs.Prelude.{IfOk}
-use Rattle.chess.specs.Public.Positions.{State}
+use Rattle.std.proofs.Common.{◌≡◌, ◌∙◌, Result, Ok, Err, refl, sym, ap, subst}
+use Rattle.pgn_criteria.proofs.Common.{IfOk, heading_of, heading_of_raw, AllGood}
 use Rattle.pgn_game.proofs.CodeLineFacts.{legal_along}
-use Rattle.pgn_criteria.specs.Public.Meeting.{Heading, heading_of, AreMet}
-use Rattle.pgn_criteria.specs.Private.Records.{heading_of_raw}
-use Rattle.pgn_criteria.specs.Private.Stages.{AllGood}
-use Rattle.pgn_criteria.specs.Public.Conditions.{Conditions}
 use Rattle.pgn_criteria.proofs.RecordHeadings.{raw_heading, text_heading}
 use Rattle.pgn_criteria.proofs.meets.Criteria.met_packed.Goals as goal
 
@@ -20,8 +14,7 @@ met_by-requires c k =
           subst AllGood (sym c.deref.ensures.value) c.self.invariant.good,
           λ i P m at is.
               legal_along line.0 c.args.replayed.now.played line.1.legal i P m
-              (subst (λ (positions : List State). slice_get positions i
-              ≡ Some P) line.1.positions at) is,
+              (rw (← line.1.positions) at) is,
         ),
       ),
     )
@@ -43,7 +36,5 @@ returns-clause-met c =
     ap heading_of_raw (sym shows) ∙ raw_heading packed fits
     ∙ text_heading packed.name packed.number packed.offset game replay packed is in
     let all = c.deref.ensures.value ∙ c.self.view_is in
-    subst (λ (h : Heading). AreMet h c.args.replayed.now c.args.self.now met.items) heading
-    (subst (λ (x : List Conditions).
-    AreMet (heading_of_raw c.args.raw.now) c.args.replayed.now x met.items) all are))
+    rw (← heading) (rw (← all) are))
     c.met_by.ensures

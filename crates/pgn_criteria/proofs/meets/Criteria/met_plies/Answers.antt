@@ -1,10 +1,4 @@
-use Rattle.std.proofs.Common.{◌∙◌, List, refl, sym, subst}
-use Rattle.std.specs.Prelude.{IfOk}
-use Rattle.pgn_game.specs.Public.Starts.{fen_tag}
-use Rattle.pgn_text.specs.Public.GameTexts.{tag_in}
-use Rattle.pgn_criteria.specs.Public.Meeting.{heading_of, AreMet}
-use Rattle.pgn_criteria.specs.Private.Stages.{AllGood}
-use Rattle.pgn_criteria.specs.Public.Conditions.{Conditions}
+use Rattle.pgn_criteria.proofs.Common.{◌∙◌, refl, sym, subst, fen_tag, tag_in, AllGood}
 use Rattle.pgn_criteria.proofs.MeetFacts.{legal_moves}
 use Rattle.pgn_criteria.proofs.meets.Criteria.met_plies.Goals as goal
 
@@ -22,8 +16,4 @@ met_by-requires c k = (
 )
 
 pub returns : goal.returns
-returns c =
-    subst (λ (x : List Conditions).
-    IfOk c.met_by.result (λ met.
-    AreMet (heading_of c.args.game.now) c.args.replayed.now x met.items))
-    (c.deref.ensures.value ∙ c.self.view_is) c.met_by.ensures
+returns c = rw (← (c.deref.ensures.value ∙ c.self.view_is)) c.met_by.ensures

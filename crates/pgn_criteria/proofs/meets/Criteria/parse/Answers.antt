@@ -1,6 +1,5 @@
-use Rattle.std.proofs.Common.{refl, subst}
 use Rattle.std.proofs.lemmas.Result.{err_from_is_err_and}
-use Rattle.pgn_criteria.specs.Public.Lines.{alternatives_of}
+use Rattle.pgn_criteria.proofs.Common.{refl, subst, alternatives_of}
 use Rattle.pgn_criteria.specs.Private.Stages.{AllWithin}
 use Rattle.pgn_criteria.proofs.ParseFacts.{spelled_good}
 use Rattle.pgn_criteria.proofs.meets.Criteria.parse.Goals as goal

@@ -1,11 +1,6 @@
-use Rattle.std.proofs.Common.{◌↔◌, ◌∙◌, ℕ, sym, subst, arith}
-use Rattle.std.specs.Prelude.{IfSome}
-use Rattle.pgn_text.specs.Public.GameTexts.{tag_in}
-use Rattle.pgn_game.specs.Public.Replays.{Replay}
-use Rattle.pgn_game.specs.Public.Starts.{fen_tag}
+use Rattle.pgn_criteria.proofs.Common.{◌∙◌, sym, subst, arith, tag_in, fen_tag, heading_of}
+use Rattle.pgn_criteria.proofs.Common.{EachAsksWithin}
 use Rattle.pgn_game.proofs.Openings.{opening_legal}
-use Rattle.pgn_criteria.specs.Public.Meeting.{heading_of, SomeHold, Meets}
-use Rattle.pgn_criteria.specs.Private.Stages.{EachAsksWithin, AllWithin}
 use Rattle.pgn_criteria.proofs.OpeningFacts.{opening_fits, within_hold_there}
 use Rattle.pgn_criteria.proofs.StageFacts.{same_plies}
 use Rattle.pgn_criteria.proofs.meets.Criteria.watch.Goals as goal
@@ -13,11 +8,7 @@ use Rattle.pgn_criteria.proofs.meets.Criteria.watch.Goals as goal
 pub returns-in-Some : goal.returns-in-Some
 returns-in-Some c replay own ply =
     let heading = heading_of c.args.game.now in
-    let watched =
-    subst (λ o.
-    IfSome o (λ search. (replay : Replay) (ply : ℕ)
-    → Meets heading replay ply search ↔ Meets heading replay ply c.args.self.now)) c.in-Some.is
-    c.in_ok-search.ensures in
+    let watched = rw c.in-Some.is at c.in_ok-search.ensures in
     watched replay ply
 
 pub left_after-requires-clause-legal : goal.left_after-requires-clause-legal
@@ -29,8 +20,7 @@ pub left_after-requires-clause-still : goal.left_after-requires-clause-still
 left_after-requires-clause-still c =
     let most = c.in-Some-opening.most in
     let within : EachAsksWithin most c.self.inside.alternatives.items =
-    subst (λ o. AllWithin o c.self.inside.alternatives.items) c.in-Some-opening.is
-    c.self.invariant.within in
+    rw c.in-Some-opening.is at c.self.invariant.within in
     (most, subst (EachAsksWithin most) (sym c.deref.ensures.value) within)
 
 pub returns : goal.returns
@@ -44,23 +34,17 @@ returns c replay own ply =
     opening_fits (tag_in fen_tag c.args.game.now.tags) c.args.game.now.elements most opening
     replay c.in_ok-opening.ensures own in
     let inside : EachAsksWithin most c.self.inside.alternatives.items =
-    subst (λ o. AllWithin o c.self.inside.alternatives.items) c.in-Some-opening.is
-    c.self.invariant.within in
+    rw c.in-Some-opening.is at c.self.invariant.within in
     let within = subst (EachAsksWithin most) c.self.view_is inside in
     same_plies heading replay search c.args.self.now
     (λ at P.
-    let kept =
-    subst (λ x. SomeHold heading opening at P search
-    ↔ SomeHold heading opening at P x) all (c.in_ok-left_after.ensures.kept at P) in
+    let kept = rw all at (c.in_ok-left_after.ensures.kept at P) in
     let there = within_hold_there heading most opening replay fits at P c.args.self.now within in
     let here = within_hold_there heading 0 opening replay
     (record {
       words = λ words few. fits.words words (omega (arith, few));
-      counts =
-          λ comparison count none. absurd (omega (arith, none));
+      counts = λ comparison count none. absurd (omega (arith, none));
     })
-    at P search c.in_ok-left_after.ensures.free in (
-      λ hold. there.0 (kept.0 (here.1 hold)),
-      λ hold. here.0 (kept.1 (there.1 hold)),
-    ))
+    at P search c.in_ok-left_after.ensures.free in
+    (λ hold. there.0 (kept.0 (here.1 hold)), λ hold. here.0 (kept.1 (there.1 hold))))
     ply

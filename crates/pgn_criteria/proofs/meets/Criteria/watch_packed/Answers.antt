@@ -1,7 +1,5 @@
-use Rattle.std.proofs.Common.{◌≡◌, ◌↔◌, ◌∙◌, Option, Some, None, Result, Ok, Err, sym, ap, subst}
-use Rattle.std.specs.Prelude.{IfOk, IfSome}
-use Rattle.pgn_criteria.specs.Public.Meeting.{Heading, heading_of, Meets}
-use Rattle.pgn_criteria.specs.Private.Records.{heading_of_raw}
+use Rattle.std.proofs.Common.{◌≡◌, ◌∙◌, Option, Some, None, Result, Ok, Err, sym, ap}
+use Rattle.pgn_criteria.proofs.Common.{IfOk, IfSome, heading_of, heading_of_raw}
 use Rattle.pgn_criteria.proofs.RecordHeadings.{raw_heading, text_heading}
 use Rattle.pgn_criteria.proofs.meets.Criteria.watch_packed.Goals as goal
 
@@ -19,6 +17,5 @@ returns c =
     let heading : heading_of_raw c.args.record.now ≡ heading_of game =
     ap heading_of_raw (sym shows) ∙ raw_heading packed fits
     ∙ text_heading packed.name packed.number packed.offset game replay packed is in
-    subst (λ (h : Heading). Meets h any ply search
-    ↔ Meets h any ply c.args.self.now) heading (met any ply))
+    rw (← heading) (met any ply))
     c.watch_heading.ensures

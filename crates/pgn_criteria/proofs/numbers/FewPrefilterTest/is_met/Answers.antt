@@ -1,7 +1,4 @@
-use Rattle.std.proofs.Common.{◌≡◌, ◌≤◌, ℕ, IsTrue, arith, ◌∙◌}
-use Rattle.std.specs.Prelude.{nat_le}
-use Rattle.std.proofs.lemmas.Bool.Decides.{nat_tests}
-use Rattle.pgn_criteria.specs.Public.Materials.{count_of}
+use Rattle.pgn_criteria.proofs.Common.{◌≡◌, ◌≤◌, ℕ, IsTrue, arith, ◌∙◌, nat_le, nat_tests, count_of}
 use Rattle.pgn_criteria.proofs.CountFacts.{counted}
 use Rattle.pgn_criteria.proofs.numbers.FewPrefilterTest.is_met.Goals as goal
 

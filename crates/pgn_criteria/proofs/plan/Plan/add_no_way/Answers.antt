@@ -1,10 +1,4 @@
-use Rattle.std.proofs.Common.{◌↔◌, refl, subst}
-use Rattle.std.specs.Prelude.{IfSome}
-use Rattle.chess.specs.Public.Placements.{Placement}
-use Rattle.pgn_criteria.specs.Private.Layouts.{Laid}
-use Rattle.pgn_criteria.specs.Public.Patterns.{FitsPattern}
-use Rattle.pgn_criteria.specs.Public.Mirrors.{FitsEitherWay}
-use Rattle.pgn_criteria.specs.declared.plan.Plan.{Plan}
+use Rattle.pgn_criteria.proofs.Common.{refl, Laid, FitsEitherWay, Plan}
 use Rattle.pgn_criteria.proofs.LayoutFacts.{lays_both, lays_like}
 use Rattle.pgn_criteria.proofs.PlanFacts.{neither_way, plans_denied}
 use Rattle.pgn_criteria.proofs.plan.Plan.add_no_way.Goals as goal
@@ -17,9 +11,7 @@ returns c =
     let b = c.new-2.result in
     let mid : Plan = record { layout = old.layout; ways = old.ways; denied = c.push.new.self } in
     let new : Plan = record { layout = old.layout; ways = old.ways; denied = c.push-2.new.self } in
-    let fits =
-    subst (λ o. IfSome o (λ layout. (p : Placement) → Laid p layout ↔ FitsPattern p pattern))
-    c.in-Some.is c.in_ok-straight.ensures in
+    let fits = rw c.in-Some.is at c.in_ok-straight.ensures in
     lays_like (λ p. (Laid p a.layout → ⊥) × (Laid p b.layout → ⊥)) (λ p. FitsEitherWay p pattern
     → ⊥) old new
     (neither_way c.in-Some.straight c.in_ok-turned.turned a b pattern fits c.in_ok-turned.ensures

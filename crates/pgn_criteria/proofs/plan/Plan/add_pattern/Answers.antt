@@ -1,6 +1,4 @@
-use Rattle.std.proofs.Common.{refl}
-use Rattle.std.proofs.lemmas.Result.{IfOk-weaker}
-use Rattle.pgn_criteria.specs.Public.Patterns.{FitsPattern}
+use Rattle.pgn_criteria.proofs.Common.{refl, IfOk-weaker, FitsPattern}
 use Rattle.pgn_criteria.proofs.PlanFacts.{plans_laid}
 use Rattle.pgn_criteria.proofs.plan.Plan.add_pattern.Goals as goal
 

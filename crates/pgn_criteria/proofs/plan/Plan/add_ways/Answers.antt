@@ -1,10 +1,4 @@
-use Rattle.std.proofs.Common.{◌↔◌, refl, subst}
-use Rattle.std.specs.Prelude.{IfSome}
-use Rattle.chess.specs.Public.Placements.{Placement}
-use Rattle.pgn_criteria.specs.Private.Layouts.{Laid}
-use Rattle.pgn_criteria.specs.Public.Patterns.{FitsPattern}
-use Rattle.pgn_criteria.specs.Public.Mirrors.{FitsEitherWay}
-use Rattle.pgn_criteria.specs.declared.plan.Ways.{Ways}
+use Rattle.pgn_criteria.proofs.Common.{refl, FitsEitherWay, Ways}
 use Rattle.pgn_criteria.proofs.PlanFacts.{either_way, plans_ways}
 use Rattle.pgn_criteria.proofs.plan.Plan.add_ways.Goals as goal
 
@@ -13,9 +7,7 @@ returns c =
     let old = c.args.self.now in
     let pattern = c.args.pattern.now in
     let one : Ways = record { straight = c.new.result; turned = c.new-2.result } in
-    let fits =
-    subst (λ o. IfSome o (λ layout. (p : Placement) → Laid p layout ↔ FitsPattern p pattern))
-    c.in-Some.is c.in_ok-straight.ensures in
+    let fits = rw c.in-Some.is at c.in_ok-straight.ensures in
     plans_ways (λ p. FitsEitherWay p pattern) old
     (record { layout = old.layout; ways = c.push.new.self; denied = old.denied }) one refl refl
     c.in_ok-push.ensures.items

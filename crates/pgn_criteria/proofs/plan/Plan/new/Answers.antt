@@ -1,5 +1,4 @@
-use Rattle.std.proofs.Common.{sym, subst}
-use Rattle.pgn_criteria.specs.Private.Planning.{AllEither, NoneLaid}
+use Rattle.pgn_criteria.proofs.Common.{sym, subst, AllEither, NoneLaid}
 use Rattle.pgn_criteria.proofs.plan.Plan.new.Goals as goal
 
 pub returns-clause-nothing : goal.returns-clause-nothing

@@ -1,6 +1,4 @@
-use Rattle.std.proofs.Common.{inl, inr, subst}
-use Rattle.std.specs.Prelude.{MatchOption}
-use Rattle.pgn_criteria.specs.Public.Prefilters.{codes_in}
+use Rattle.pgn_criteria.proofs.Common.{inl, inr, subst, MatchOption, codes_in}
 use Rattle.pgn_criteria.specs.Private.PrefilterTests.{FitsPrefilter, StaysAt, StaysOn}
 use Rattle.pgn_criteria.proofs.StandFacts.{nowhere_of}
 use Rattle.pgn_criteria.proofs.prefilter.Prefilter.lets_through.Goals as goal

@@ -1,8 +1,4 @@
-use Rattle.std.proofs.Common.{◌≡◌, Some, refl, subst}
-use Rattle.chess.specs.Public.Squares.{Place}
-use Rattle.chess.specs.Public.Placements.{man_at}
-use Rattle.pgn_criteria.specs.Private.Items.{IsOf}
-use Rattle.pgn_criteria.specs.declared.prefilter.StandingSquares.{StandingSquares}
+use Rattle.pgn_criteria.proofs.Common.{◌≡◌, Some, refl, subst, Place, man_at, IsOf, StandingSquares}
 use Rattle.pgn_criteria.proofs.PrefilterFacts.{bars}
 use Rattle.pgn_criteria.proofs.prefilter.StandingSquares.add.Goals as goal
 

@@ -1,5 +1,4 @@
-use Rattle.std.proofs.Common.{◌≡◌, ◌+◌, ◌∷◌, drop, subst}
-use Rattle.pgn_criteria.specs.Private.Layouts.{AllStand}
+use Rattle.pgn_criteria.proofs.Common.{◌≡◌, ◌+◌, ◌∷◌, drop, subst, AllStand}
 use Rattle.pgn_criteria.proofs.MeetFacts.{alternatives_from}
 use Rattle.pgn_criteria.proofs.prefilter.StandingSquares.add_all.Goals as goal
 

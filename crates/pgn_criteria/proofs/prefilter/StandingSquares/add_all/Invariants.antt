@@ -1,7 +1,4 @@
-use Rattle.std.proofs.Common.{drop}
-use Rattle.chess.specs.Public.Placements.{Placement}
-use Rattle.pgn_criteria.specs.Private.Layouts.{AllStand}
-use Rattle.pgn_criteria.specs.Private.PrefilterTests.{StaysOn}
+use Rattle.pgn_criteria.proofs.Common.{drop, Placement, AllStand, StaysOn}
 use Rattle.pgn_criteria.proofs.prefilter.StandingSquares.add_all.Given as goal
 
 abbrev pub invariant-loop-asked : goal.invariant-loop-asked

@@ -1,7 +1,5 @@
-use Rattle.std.proofs.Common.{◌≡◌, ◌+◌, [], length, drop, map, subst, ap, ◌∙◌, arith}
-use Rattle.std.proofs.Math.Seq.{drop-length}
-use Rattle.pgn_criteria.specs.Public.Meeting.{SomeHold}
-use Rattle.pgn_criteria.specs.Private.Stages.{on_positions}
+use Rattle.pgn_criteria.proofs.Common.{◌≡◌, ◌+◌, [], length, drop, map, subst, ap, ◌∙◌, arith}
+use Rattle.pgn_criteria.proofs.Common.{drop-length, SomeHold, on_positions}
 use Rattle.pgn_criteria.proofs.MeetFacts.{some_found, some_left, alternatives_from}
 use Rattle.pgn_criteria.proofs.StageFacts.{reports_seen}
 use Rattle.pgn_criteria.proofs.search.Search.is_met.Goals as goal

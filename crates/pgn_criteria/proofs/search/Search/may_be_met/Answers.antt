@@ -1,7 +1,5 @@
-use Rattle.std.proofs.Common.{◌≡◌, ◌+◌, [], length, drop, map, subst, sym, ap, ◌∙◌, arith}
-use Rattle.std.proofs.Math.Seq.{drop-length}
-use Rattle.pgn_criteria.specs.Public.Prefilters.{MeetsSeen, NowhereSeen, codes_in}
-use Rattle.pgn_criteria.specs.Private.Stages.{on_positions}
+use Rattle.pgn_criteria.proofs.Common.{◌≡◌, ◌+◌, [], length, drop, map, subst, ap, ◌∙◌, arith}
+use Rattle.pgn_criteria.proofs.Common.{drop-length, MeetsSeen, NowhereSeen, codes_in, on_positions}
 use Rattle.pgn_criteria.proofs.MarkFacts.{none_seen, one_nowhere}
 use Rattle.pgn_criteria.proofs.MeetFacts.{alternatives_from}
 use Rattle.pgn_criteria.proofs.search.Search.may_be_met.Goals as goal
@@ -38,8 +36,5 @@ returns g c = λ same.
     ap (λ n. map (λ a. on_positions a.now) (drop n all)) end
     ∙ ap (map (λ a. on_positions a.now)) (drop-length all) in
     c.loop-alternative.invariant
-    (subst (λ criteria.
-    NowhereSeen (MeetsSeen criteria) (g.S.Seen.men S) (g.S.Seen.turn S) (g.S.Seen.checked S)
-    (g.S.Seen.stuck S) (codes_in c.args.plies.now)) (sym none)
-    (none_seen (g.S.Seen.men S) (g.S.Seen.turn S) (g.S.Seen.checked S) (g.S.Seen.stuck S)
+    (rw none (none_seen (g.S.Seen.men S) (g.S.Seen.turn S) (g.S.Seen.checked S) (g.S.Seen.stuck S)
     (codes_in c.args.plies.now)))

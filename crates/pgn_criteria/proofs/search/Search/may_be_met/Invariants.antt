@@ -1,6 +1,4 @@
-use Rattle.std.proofs.Common.{drop, map}
-use Rattle.pgn_criteria.specs.Public.Prefilters.{MeetsSeen, NowhereSeen, codes_in}
-use Rattle.pgn_criteria.specs.Private.Stages.{on_positions}
+use Rattle.pgn_criteria.proofs.Common.{drop, map, MeetsSeen, NowhereSeen, codes_in, on_positions}
 use Rattle.pgn_criteria.proofs.search.Search.may_be_met.Given as goal
 
 abbrev pub invariant-loop-alternative : goal.invariant-loop-alternative
