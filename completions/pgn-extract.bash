@@ -86,7 +86,7 @@ _pgn_extract_words() {
 }
 # Offers what a line of criteria, perhaps with its opening quote, may go on with.
 _pgn_extract_criteria() {
-    local line=${1#[\"\']} before='' words conditions='fen flip material moves next played plies result tag number date turn check mate stalemate'
+    local line=${1#[\"\']} before='' words conditions='fen flip position material moves next played plies result tag number date turn check mate stalemate'
     line=${line//\\ / }
     [[ $line == *' '* ]] && before="${line% *} "
     case $before in

@@ -41,6 +41,7 @@ pub mod RankFacts
 pub mod CountFacts
 pub mod FenFacts
 pub mod FenOnce
+pub mod FirstFieldFacts
 pub mod FenTextFacts
 pub mod FenOneText
 pub mod SoundRead

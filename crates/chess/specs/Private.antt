@@ -6,6 +6,7 @@ pub mod Cells
 pub mod MoveWords
 pub mod FenWords
 pub mod FenTextWords
+pub mod FilledFields
 pub mod SanWords
 pub mod SanAnswers
 pub mod RefusalWords

@@ -11,5 +11,6 @@ pub mod Letters
 pub mod San
 pub mod Refusals
 pub mod Fen
+pub mod FirstFields
 pub mod Sets
 pub mod Laws

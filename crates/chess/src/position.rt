@@ -59,6 +59,20 @@ impl<B: Board> Position<B> {
         self.turn
     }
 
+    /// The castling rights.
+    pub fn rights(&self) -> CastlingRights
+        ensures { result ≡ self.now.rights }
+    {
+        self.rights
+    }
+
+    /// The en passant square, if there is one.
+    pub fn en_passant(&self) -> Option<Square>
+        ensures { result ≡ self.now.en_passant }
+    {
+        self.en_passant
+    }
+
     /// The fullmove number: usually 1 at first, and one more after each move of Black.
     pub fn number(&self) -> u32
         ensures { result ≡ self.now.fullmove_number }

@@ -22,6 +22,7 @@ use Rattle.pgn_criteria.proofs.MaterialFacts.{material_read}
 use Rattle.pgn_criteria.proofs.LimitFacts.{limits_some, limits_solid}
 use Rattle.pgn_criteria.proofs.MoveWordFacts.{words_end, moves_read, like_ends, next_read}
 use Rattle.pgn_criteria.proofs.MoveWordFacts.{played_read}
+use Rattle.pgn_criteria.proofs.SetupTextFacts.{setup_read}
 use Rattle.pgn_criteria.proofs.ResultFacts.{result_ends, result_read}
 
 -- words are told apart by the sum of their bytes
@@ -43,7 +44,7 @@ abbrev pub kind_at : ℕ → ℕ
 kind_at n =
     if n == 316 || n == 649 || n == 414 || n == 554 || n == 541 || n == 671 then 1
     else if n == 313 || n == 427 || n == 847 || n == 457 || n == 510 || n == 423 || n == 960 then 2
-    else if n == 447 || n == 639 then 3
+    else if n == 447 || n == 639 || n == 885 then 3
     else if n == 327 || n == 553 then 4
     else 0
 
@@ -214,11 +215,13 @@ positions_are =
 abbrev pub move_key : MoveClaim (List ℕ) → List ℕ
 move_key (Next word) = codes "next"
 move_key (Played word) = codes "played"
+move_key (Setup setup) = codes "position"
 
 pub move_keyed : (text : List ℕ) (claim : MoveClaim (List ℕ)) → SpellsMove text claim
     → HasKey 3 text (move_key claim)
 move_keyed text (Next word) spells = ((next_read text word spells).0, refl, refl)
 move_keyed text (Played word) spells = ((played_read text word spells).0, refl, refl)
+move_keyed text (Setup setup) spells = ((setup_read text setup spells).0, refl, refl)
 
 pub move_ends : (text : List ℕ) (claim : MoveClaim (List ℕ)) → SpellsMove text claim
     → EndsSolid text
@@ -228,6 +231,9 @@ move_ends text (Next word) ((gap, is, g), like) =
 move_ends text (Played word) ((gap, is, g), like) =
     ends_as text _ is (ends_after (codes "played") (gap
     ++ word) (ends_after gap word (like_ends word like)))
+move_ends text (Setup setup) (own, (gap, is, g), trimmed, gives) =
+    ends_as text _ is
+    (ends_after (codes "position") (gap ++ own) (ends_after gap own trimmed.1))
 
 unfoldable pub moves_are : AreClaims SpellsMove
 moves_are = record { kind = 3; key = move_key; keyed = move_keyed; ends = move_ends }

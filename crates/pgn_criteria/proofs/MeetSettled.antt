@@ -27,6 +27,7 @@ use Rattle.pgn_criteria.specs.Public.Laws.{EachPositionMeetsOrDoesNot}
 use Rattle.pgn_criteria.proofs.MeetFacts.{meets_at}
 use Rattle.pgn_criteria.proofs.MoveFacts.{by_move, star_now, star_on, star_none, star_cases}
 use Rattle.pgn_criteria.proofs.MoveFacts.{byte_now, byte_back, byte_none, by_like}
+use Rattle.pgn_criteria.proofs.SetupFacts.{settled_set_up}
 use Rattle.pgn_criteria.proofs.MirrorFacts.{mirrored_on}
 use Rattle.pgn_criteria.proofs.MenSettled.{settled_material}
 use Rattle.pgn_criteria.proofs.SpanFacts.{AreFrom, none_from, one_before, none_before, from_first}

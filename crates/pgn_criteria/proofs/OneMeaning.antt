@@ -27,6 +27,7 @@ use Rattle.pgn_criteria.proofs.PliesFacts.{IsComparedRead, plies_read, counted_r
 use Rattle.pgn_criteria.proofs.DayTextFacts.{one_days}
 use Rattle.pgn_criteria.proofs.TagFacts.{tag_read, number_read, date_read, named_once, quoted}
 use Rattle.pgn_criteria.proofs.MoveWordFacts.{moves_read, next_read, played_read}
+use Rattle.pgn_criteria.proofs.SetupTextFacts.{one_setup}
 use Rattle.pgn_criteria.proofs.ResultFacts.{result_read}
 use Rattle.pgn_criteria.proofs.MaterialFacts.{IsMaterialRead, material_read}
 use Rattle.pgn_criteria.proofs.LimitFacts.{limits_given}
@@ -222,6 +223,8 @@ one_move text (Next word) (Next other) spells has =
     ap Next (sym (next_read text word spells).1 ∙ (next_read text other has).1)
 one_move text (Played word) (Played other) spells has =
     ap Played (sym (played_read text word spells).1 ∙ (played_read text other has).1)
+one_move text (Setup setup) (Setup other) spells has =
+    ap Setup (one_setup text setup other spells has)
 one_move text c d spells has =
     let e : total (move_key c) ≡ total (move_key d) =
     ap total (same_key SpellsMove moves_are text false false c d spells has) in absurd (omega arith)

@@ -186,6 +186,8 @@ moves_alike replay other positions played ply (Next word) so =
     goes_there replay other positions played ply word so
 moves_alike replay other positions played ply (Played word) so =
     (so.0, so.1, goes_there replay other positions played so.0 word so.2)
+moves_alike replay other positions played ply (Setup setup) so =
+    (so.0, ap (λ ps. slice_get ps ply) (sym positions) ∙ so.1, so.2)
 
 hold_alike : (heading : Heading) (replay other : Replay) → replay.positions ≡ other.positions
     → replay.played ≡ other.played

@@ -11,6 +11,7 @@ pub mod Reading
 pub mod PrefilterTests
 pub mod Marks
 pub mod Turning
+pub mod MenAlike
 pub mod MoveEnds
 pub mod Records
 pub mod SightCodes

@@ -4,6 +4,7 @@ pub mod Lines
 pub mod Patterns
 pub mod Materials
 pub mod MoveTexts
+pub mod Setups
 pub mod Comparing
 pub mod Dates
 pub mod Conditions

@@ -92,8 +92,12 @@ impl Model for Alternative {
     ghost use Rattle.pgn_criteria.specs.Public.Conditions.{Conditions as Asked};
     ghost use Rattle.pgn_criteria.specs.Private.Stages.{AreFixed, AreMirrored, game_seen};
     ghost use Rattle.pgn_criteria.specs.Private.Stages.{move_seen, stated};
+    ghost use Rattle.std.specs.Coded.{codes};
+    ghost use Rattle.chess.specs.Shared.Codes.{coded_state};
 
     ghost Value = { Asked };
+
+    ghost coded = { Prim.hlevel (codes, coded_state) };
 
     ghost view = { λ a. record {
       games = map (stated (game_seen (λ text. text.items))) a.games.items;

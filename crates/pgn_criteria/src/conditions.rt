@@ -25,8 +25,12 @@ impl Model for Conditions {
     ghost use Rattle.std.specs.Prelude.{map};
     ghost use Rattle.pgn_criteria.specs.Public.Conditions.{Conditions as Asked};
     ghost use Rattle.pgn_criteria.specs.Private.Stages.{game_seen, move_seen, stated, seen};
+    ghost use Rattle.std.specs.Coded.{codes};
+    ghost use Rattle.chess.specs.Shared.Codes.{coded_state};
 
     ghost Value = { Asked };
+
+    ghost coded = { Prim.hlevel (codes, coded_state) };
 
     ghost view = { λ c. record {
       games = map (stated (game_seen (λ text. text.items))) c.games.items;
@@ -94,6 +98,7 @@ fn owned_move(alloc: Global, claim: MoveClaim<&[u8]>) -> Result<MoveClaim<Vec<u8
     match claim {
         MoveClaim::Next(word) => Ok(MoveClaim::Next(word.to_vec(alloc)?)),
         MoveClaim::Played(word) => Ok(MoveClaim::Played(word.to_vec(alloc)?)),
+        MoveClaim::Setup(setup) => Ok(MoveClaim::Setup(setup)),
     }
 }
 

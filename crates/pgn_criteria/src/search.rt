@@ -35,8 +35,12 @@ impl<'a> Model for Search<'a> {
     ghost use Rattle.std.specs.Prelude.{List, map};
     ghost use Rattle.pgn_criteria.specs.Public.Conditions.{Conditions};
     ghost use Rattle.pgn_criteria.specs.Private.Stages.{on_positions};
+    ghost use Rattle.std.specs.Coded.{codes};
+    ghost use Rattle.chess.specs.Shared.Codes.{coded_state};
 
     ghost Value = { List Conditions };
+
+    ghost coded = { Prim.hlevel (codes, coded_state) };
 
     ghost view = { λ s. map (λ a. on_positions a.now) s.left.items };
 }

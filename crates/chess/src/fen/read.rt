@@ -1,7 +1,10 @@
 //! The position that a text spells in Forsyth-Edwards notation (PGN 16.1).
-ghost use Rattle.std.specs.Prelude.{◌≡◌, ◌∷◌, List, ℕ, IfOk, MatchOption, MatchResult};
+ghost use Rattle.std.specs.Prelude.{◌≡◌, ◌∷◌, [], List, ℕ, IfOk, MatchOption};
+ghost use Rattle.std.specs.Prelude.{MatchResult};
 ghost use Rattle.chess.specs.Public.Positions.{State, IsSound};
 ghost use Rattle.chess.specs.Public.Fen.{fields_of, SpellsPosition, ReadsFen, IsRefused};
+ghost use Rattle.chess.specs.Public.FirstFields.{GivesPosition};
+ghost use Rattle.chess.specs.Private.FilledFields.{filled, given_of};
 
 use crate::board::{Board, CastlingRights, Side, Square};
 use crate::fen::FenError;
@@ -18,7 +21,7 @@ use ranks::read_men;
 use validate::{has_edge_pawn, kept_en_passant, kept_rights, only_king};
 
 /// The first four fields of a text, and what follows them.
-#[derive(Drop)]
+#[derive(Clone, Copy)]
 struct FirstFields<'a> {
     men: &'a [u8],
     side: &'a [u8],
@@ -58,10 +61,46 @@ fn split_fields(text: &[u8]) -> Option<FirstFields>
     })
 }
 
-/// What the text spells.
-fn read_spelled<B: Board>(text: &[u8]) -> Option<Spelled<B>>
-    ensures { MatchOption result ((P : State) → SpellsPosition text.now P
-        → ⊥) (λ d. SpellsPosition text.now (record {
+/// The first four fields of the text, where this is the side if none is given, and no right and no
+/// en passant square are given; and how many of the four are.
+fn fill_fields<'a>(text: &'a [u8], side: &'a [u8]) -> Option<(FirstFields<'a>, usize)>
+    ensures { MatchOption result (fields_of text.now ≡ []) (λ f.
+        (filled side.now (fields_of text.now) ≡ f.0.men.now ∷ f.0.side.now ∷ f.0.rights.now
+        ∷ f.0.en_passant.now ∷ fields_of f.0.rest.now) × (f.1 ≡ given_of (fields_of text.now))) }
+{
+    let none: &'a [u8] = b"-";
+    let (men, rest) = next_field(text)?;
+    let mut fields = FirstFields {
+        men,
+        side,
+        rights: none,
+        en_passant: none,
+        rest,
+    };
+    let Some((side, rest)) = next_field(rest) else {
+        return Some((fields, 1));
+    };
+    fields.side = side;
+    fields.rest = rest;
+    let Some((rights, rest)) = next_field(rest) else {
+        return Some((fields, 2));
+    };
+    fields.rights = rights;
+    fields.rest = rest;
+    let Some((en_passant, rest)) = next_field(rest) else {
+        return Some((fields, 3));
+    };
+    fields.en_passant = en_passant;
+    fields.rest = rest;
+    Some((fields, 4))
+}
+
+/// What a text with these fields spells.
+fn read_spelled<B: Board>(fields: FirstFields) -> Option<Spelled<B>>
+    ensures { let f = fields.entry in (x : List ℕ) → fields_of x
+        ≡ f.men.now ∷ f.side.now ∷ f.rights.now ∷ f.en_passant.now ∷ fields_of f.rest.now
+        → MatchOption result ((P : State) → SpellsPosition x P
+        → ⊥) (λ d. SpellsPosition x (record {
           men = B.men d.board;
           turn = d.turn;
           rights = d.rights;
@@ -70,7 +109,6 @@ fn read_spelled<B: Board>(text: &[u8]) -> Option<Spelled<B>>
           fullmove_number = d.fullmove_number;
         })) }
 {
-    let fields = split_fields(text)?;
     let board = read_men::<B>(fields.men)?;
     let turn = read_side(fields.side)?;
     let rights = read_rights(fields.rights)?;
@@ -87,14 +125,16 @@ fn read_spelled<B: Board>(text: &[u8]) -> Option<Spelled<B>>
 }
 
 impl<B: Board> Position<B> {
-    /// The position that the text spells (PGN 16.1). A right whose king or rook is not at home is
-    /// dropped, and an en passant square that does not fit. The clock and the number may be
-    /// missing.
-    pub fn from_fen(text: &[u8]) -> Result<Self, FenError>
-        ensures answer { MatchResult result (λ p. ReadsFen text.now p) (λ e. IsRefused text.now e) }
+    /// The position that a text with these fields spells. There is to be such a text.
+    fn from_fields(fields: FirstFields) -> Result<Self, FenError>
+        requires { (x : List ℕ) × (fields_of x ≡ fields.men.now ∷ fields.side.now
+            ∷ fields.rights.now ∷ fields.en_passant.now ∷ fields_of fields.rest.now) }
+        ensures answer { let f = fields.entry in (x : List ℕ) → fields_of x
+            ≡ f.men.now ∷ f.side.now ∷ f.rights.now ∷ f.en_passant.now ∷ fields_of f.rest.now
+            → MatchResult result (λ p. ReadsFen x p) (λ e. IsRefused x e) }
         ensures sound { IfOk result IsSound }
     {
-        let Some(spelled) = read_spelled::<B>(text) else {
+        let Some(spelled) = read_spelled::<B>(fields) else {
             return Err(FenError::Syntax);
         };
         let Some(white_king) = only_king(&spelled.board, Side::White) else {
@@ -123,5 +163,39 @@ impl<B: Board> Position<B> {
             white_king,
             black_king,
         })
+    }
+
+    /// The position that the text spells (PGN 16.1). A right whose king or rook is not at home is
+    /// dropped, and an en passant square
+    /// that does not fit. The clock and the number may be missing.
+    pub fn from_fen(text: &[u8]) -> Result<Self, FenError>
+        ensures answer { MatchResult result (λ p. ReadsFen text.now p) (λ e. IsRefused text.now e) }
+        ensures sound { IfOk result IsSound }
+    {
+        match split_fields(text) {
+            Some(fields) => Self::from_fields(fields),
+            None => Err(FenError::Syntax),
+        }
+    }
+
+    /// The position that the text gives by its first field alone, or by more, and how many of the
+    /// first four it has. Where the side to move is not given, it is White if that may be.
+    pub fn from_first_fields(text: &[u8]) -> Option<(Self, usize)>
+        ensures { MatchOption result ((P : State) (given : ℕ)
+            → GivesPosition text.now given P → ⊥)
+            (λ found. GivesPosition text.now found.1 found.0) }
+    {
+        let (fields, given) = fill_fields(text, b"w")?;
+        if let Ok(position) = Self::from_fields(fields) {
+            return Some((position, given));
+        }
+        if given > 1 {
+            return None;
+        }
+        let (fields, given) = fill_fields(text, b"b")?;
+        match Self::from_fields(fields) {
+            Ok(position) => Some((position, given)),
+            Err(_) => None,
+        }
     }
 }

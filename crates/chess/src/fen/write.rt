@@ -183,20 +183,6 @@ impl<B: Board> Position<B> {
         out
     }
 
-    /// The castling rights.
-    fn rights(&self) -> CastlingRights
-        ensures { result ≡ self.now.rights }
-    {
-        self.rights
-    }
-
-    /// The en passant square, if there is one.
-    fn en_passant(&self) -> Option<Square>
-        ensures { result ≡ self.now.en_passant }
-    {
-        self.en_passant
-    }
-
     /// Appends the ranks, from rank 8 down, with a slash between two.
     fn push_men(&self, out: &mut ArrayString<112>)
         requires { array_string_len out.old ≤ 8 }

@@ -65,6 +65,56 @@ fn texts_are_read_and_written() -> Result<(), Fail> {
     rows_hold(&Says::Written, WRITTEN, 30)
 }
 
+/// Whether the text gives the position by so many of its first four fields; or none, where none is
+/// written.
+pub fn gives<B: Board>(text: &str, written: &str, fields: &str) -> bool {
+    match Position::<B>::from_first_fields(text.as_bytes()) {
+        Some((position, given)) => {
+            has_fen(&position, written) && fields.parse::<usize>() == Ok(given)
+        }
+        None => written == "none",
+    }
+}
+
+/// A text of the first fields or of more, how its position is written, and how many of the first
+/// four fields are given.
+const GIVEN: &str = "
+# the men, the side to move, the rights, the en passant square
+4k3/8/8/8/8/8/8/4K3 | 4k3/8/8/8/8/8/8/4K3 w - - 0 1 | 1
+4k3/8/8/8/8/8/8/4K3 b | 4k3/8/8/8/8/8/8/4K3 b - - 0 1 | 2
+r3k2r/8/8/8/8/8/8/R3K2R b Qk | r3k2r/8/8/8/8/8/8/R3K2R b Qk - 0 1 | 3
+4k3/8/8/8/4P3/8/8/4K3 b - e3 | 4k3/8/8/8/4P3/8/8/4K3 b - e3 0 1 | 4
+# the counts are read, and are none of the four
+4k3/8/8/8/8/8/8/4K3 b - - 5 | 4k3/8/8/8/8/8/8/4K3 b - - 5 1 | 4
+4k3/8/8/8/8/8/8/4K3 w - - 7 9 | 4k3/8/8/8/8/8/8/4K3 w - - 7 9 | 4
+# any number of spaces
+  4k3/8/8/8/8/8/8/4K3   b  -  | 4k3/8/8/8/8/8/8/4K3 b - - 0 1 | 3
+# what does not fit is dropped
+r3k3/8/8/8/8/8/8/4K2R w KQkq | r3k3/8/8/8/8/8/8/4K2R w Kq - 0 1 | 3
+4k3/8/8/8/8/8/8/4K3 b - e3 | 4k3/8/8/8/8/8/8/4K3 b - - 0 1 | 4
+# of men alone the side that is in check is to move, and not both can be
+4k2R/8/8/8/8/8/8/4K3 | 4k2R/8/8/8/8/8/8/4K3 b - - 0 1 | 1
+4k3/8/8/8/8/8/8/4K2r | 4k3/8/8/8/8/8/8/4K2r w - - 0 1 | 1
+4k2R/8/8/8/8/8/8/4K2r | none
+# and not the side that is not to move, where that is given
+4k2R/8/8/8/8/8/8/4K3 w | none
+4k3/8/8/8/8/8/8/4K2r b - | none
+# no king, two kings, a pawn on the last rank, fields of another form, too many
+4k3/8/8/8/8/8/8/8 | none
+4k3/8/8/8/8/8/8/3KK3 b | none
+4k2P/8/8/8/8/8/8/4K3 | none
+4k3/8/8/8/8/8/4K3 | none
+4k3/8/8/8/8/8/8/4K3 x | none
+4k3/8/8/8/8/8/8/4K3 w KK | none
+4k3/8/8/8/8/8/8/4K3 w - - 0 1 2 | none
+ | none
+";
+
+#[test]
+fn first_fields_give_positions() -> Result<(), Fail> {
+    rows_hold(&Says::Gives, GIVEN, 22)
+}
+
 /// Whether the text is refused for that.
 pub fn is_refused<B: Board>(text: &str, wanted: &str) -> bool {
     match Position::<B>::from_fen(text.as_bytes()) {

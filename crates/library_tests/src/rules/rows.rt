@@ -1,7 +1,7 @@
 //! What the rows on chess share: positions and moves by their texts, over any board, and what the
 //! rows of each table say.
 use crate::rules::board::reaches;
-use crate::rules::fen::{is_refused, is_written};
+use crate::rules::fen::{gives, is_refused, is_written};
 use crate::rules::moves::{aims_at, has_targets, is_illegal, leads, stands};
 use crate::rules::passes::passes_to;
 use crate::rules::texts::{is_text, names, names_none, plays};
@@ -12,6 +12,7 @@ use test_support::Rows;
 pub enum Says {
     Written,
     Refused,
+    Gives,
     Reaches,
     Passes,
     Leads,
@@ -38,6 +39,7 @@ fn holds<B: Board>(says: &Says, columns: [&str; 5]) -> Option<bool> {
     match says {
         Says::Written => is_written::<B>(first, second),
         Says::Refused => Some(is_refused::<B>(first, second)),
+        Says::Gives => Some(gives::<B>(first, second, third)),
         Says::Reaches => reaches::<B>(first, second, third, fourth),
         Says::Passes => passes_to::<B>(first, second),
         Says::Leads => leads::<B>(first, second, third),

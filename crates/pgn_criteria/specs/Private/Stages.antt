@@ -37,7 +37,7 @@ use Rattle.pgn_criteria.specs.declared.condition.PositionClaim.TheVariants.{Fen,
 use Rattle.pgn_criteria.specs.declared.condition.PositionClaim.TheVariants.{Turn, Check, Mate}
 use Rattle.pgn_criteria.specs.declared.condition.PositionClaim.TheVariants.{Stalemate}
 use Rattle.pgn_criteria.specs.declared.condition.MoveClaim.{MoveClaim}
-use Rattle.pgn_criteria.specs.declared.condition.MoveClaim.TheVariants.{Next, Played}
+use Rattle.pgn_criteria.specs.declared.condition.MoveClaim.TheVariants.{Next, Played, Setup}
 use Rattle.pgn_criteria.specs.declared.condition.SpanClaim.{SpanClaim}
 use Rattle.pgn_criteria.specs.declared.condition.SpanClaim.TheVariants.{For, Count}
 
@@ -65,6 +65,7 @@ position_seen bytes Stalemate = Stalemate
 abbrev pub move_seen : {T : Type 0} → (T → List ℕ) → MoveClaim T → MoveClaim (List ℕ)
 move_seen bytes (Next word) = Next (bytes word)
 move_seen bytes (Played word) = Played (bytes word)
+move_seen bytes (Setup setup) = Setup setup
 
 abbrev pub stated : {C D : Type 0} → (C → D) → Stated C → Stated D
 stated seen_as own = record { is_denied = own.is_denied; claim = seen_as own.claim }

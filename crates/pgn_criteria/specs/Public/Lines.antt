@@ -1,8 +1,9 @@
 -- What the lines of a criteria file spell. Lines are parted by line feeds, words by blanks.
 use Rattle.std.specs.Prelude.{◌≡◌, ◌≢◌, ◌⊎◌, ◌++◌, ◌+◌, ◌≤◌, ◌<◌, ◌||◌, ◌==◌, ℕ, Bool, true, false}
-use Rattle.std.specs.Prelude.{List, [], ◌∷◌, codes, IsTrue, length, map}
+use Rattle.std.specs.Prelude.{nat_le, List, [], ◌∷◌, codes, IsTrue, length, map}
 use Rattle.std.specs.List.{list_all}
 use Rattle.chess.specs.Public.Fen.{parted_at, is_distinct, is_digit, number_from}
+use Rattle.chess.specs.Public.FirstFields.{GivesPosition}
 use Rattle.chess.specs.Public.Letters.{kind_letter}
 use Rattle.pgn_text.specs.Public.Bytes.{is_name_byte, is_letter}
 use Rattle.pgn_text.specs.Public.Strings.{IsContents}
@@ -41,7 +42,7 @@ use Rattle.pgn_criteria.specs.declared.condition.PositionClaim.TheVariants.{Fen,
 use Rattle.pgn_criteria.specs.declared.condition.PositionClaim.TheVariants.{Turn, Check, Mate}
 use Rattle.pgn_criteria.specs.declared.condition.PositionClaim.TheVariants.{Stalemate}
 use Rattle.pgn_criteria.specs.declared.condition.MoveClaim.{MoveClaim}
-use Rattle.pgn_criteria.specs.declared.condition.MoveClaim.TheVariants.{Next, Played}
+use Rattle.pgn_criteria.specs.declared.condition.MoveClaim.TheVariants.{Next, Played, Setup}
 use Rattle.pgn_criteria.specs.declared.condition.SpanClaim.{SpanClaim}
 use Rattle.pgn_criteria.specs.declared.condition.SpanClaim.TheVariants.{For, Count}
 
@@ -228,10 +229,18 @@ SpellsPosition text Check = text ≡ codes "check"
 SpellsPosition text Mate = text ≡ codes "mate"
 SpellsPosition text Stalemate = text ≡ codes "stalemate"
 
--- of one on the moves before and after a position
+-- the text begins and ends with bytes above the space, so with no blank
+abbrev pub IsTrimmed : List ℕ → Type 0
+IsTrimmed text =
+    ((first : ℕ) × (rest : List ℕ) × (text ≡ first ∷ rest) × (nat_le 33 first ≡ true))
+    × ((front : List ℕ) × (last : ℕ) × (text ≡ front ++ (last ∷ [])) × (nat_le 33 last ≡ true))
+
+-- of one on the moves before and after a position, or on the position between them
 abbrev pub SpellsMove : List ℕ → MoveClaim (List ℕ) → Type 0
 SpellsMove text (Next word) = SpellsAfter (codes "next") text word × IsMoveLike word
 SpellsMove text (Played word) = SpellsAfter (codes "played") text word × IsMoveLike word
+SpellsMove text (Setup setup) = (own : List ℕ) × SpellsAfter (codes "position") text own
+    × IsTrimmed own × GivesPosition own setup.given setup.position
 
 -- of one on the plies at which the other conditions hold
 abbrev pub SpellsSpan : List ℕ → SpanClaim → Type 0

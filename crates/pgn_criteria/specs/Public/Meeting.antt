@@ -14,6 +14,7 @@ use Rattle.pgn_criteria.specs.Public.Patterns.{FitsPattern}
 use Rattle.pgn_criteria.specs.Public.Materials.{FitsMaterial}
 use Rattle.pgn_criteria.specs.Public.Mirrors.{mirror, FitsEitherWay, can_be_mirrored}
 use Rattle.pgn_criteria.specs.Public.MoveTexts.{FitMoves, GoesOnBy, IsReachedBy}
+use Rattle.pgn_criteria.specs.Public.Setups.{IsSetUp}
 use Rattle.pgn_criteria.specs.Public.Words.{words_of}
 use Rattle.pgn_criteria.specs.Public.Comparing.{Stands, Compares, IsNumber}
 use Rattle.pgn_criteria.specs.Public.Dates.{IsDate}
@@ -29,7 +30,7 @@ use Rattle.pgn_criteria.specs.declared.condition.PositionClaim.TheVariants.{Fen,
 use Rattle.pgn_criteria.specs.declared.condition.PositionClaim.TheVariants.{Turn, Check, Mate}
 use Rattle.pgn_criteria.specs.declared.condition.PositionClaim.TheVariants.{Stalemate}
 use Rattle.pgn_criteria.specs.declared.condition.MoveClaim.{MoveClaim}
-use Rattle.pgn_criteria.specs.declared.condition.MoveClaim.TheVariants.{Next, Played}
+use Rattle.pgn_criteria.specs.declared.condition.MoveClaim.TheVariants.{Next, Played, Setup}
 use Rattle.pgn_criteria.specs.declared.condition.SpanClaim.{SpanClaim}
 use Rattle.pgn_criteria.specs.declared.condition.SpanClaim.TheVariants.{For, Count}
 
@@ -68,10 +69,11 @@ IsSoOfGame heading replay (Plies comparison count) =
     Compares comparison (length replay.played) count
 IsSoOfGame heading replay (Result result) = heading.result ≡ result
 
--- the claim is so of the moves before and after so many plies
+-- the claim is so of the moves before and after so many plies, or of the position between them
 abbrev pub IsSoOfMoves : Replay → ℕ → MoveClaim (List ℕ) → Type 0
 IsSoOfMoves replay ply (Next word) = GoesOnBy replay ply word
 IsSoOfMoves replay ply (Played word) = IsReachedBy replay ply word
+IsSoOfMoves replay ply (Setup setup) = IsSetUp replay ply setup
 
 -- the claim is so of a position with these men and this side to move, where these facts say that
 -- the side is in check, that it is mated, and that it is stalemated

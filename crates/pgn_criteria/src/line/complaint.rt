@@ -11,6 +11,7 @@ use super::{core_of, side_of};
 use crate::cut::next_part;
 use crate::rank::next_item;
 use crate::words::{after_blanks, split_first, split_word};
+use pgn_game::GamePosition;
 
 /// Where a line stops being of the language, and what is expected there.
 #[derive(Clone, Copy, Debug, PartialEq, Eq)]
@@ -90,6 +91,9 @@ const NEXT: &str =
 const PLAYED: &str =
     "played: a move without its check mark, such as Nf3, in which * stands for any bytes; at most 7 bytes";
 
+const SETUP: &str =
+    "position: a FEN or its first fields, with one king a side, no pawn on rank 1 or 8, and the side that has moved not in check";
+
 const SIDE: &str = "turn: white or black";
 
 const NOTHING: &str = "nothing after this word";
@@ -98,9 +102,11 @@ const END: &str = "nothing after this";
 
 const COMMENT: &str = "nothing after this; a comment stands on a line of its own";
 
-const FEN_WHITE: &str = "nothing after the men; turn white stands on a line of its own";
+const FEN_WHITE: &str =
+    "nothing after the men; position takes a whole FEN, and turn white stands on a line of its own";
 
-const FEN_BLACK: &str = "nothing after the men; turn black stands on a line of its own";
+const FEN_BLACK: &str =
+    "nothing after the men; position takes a whole FEN, and turn black stands on a line of its own";
 
 const MOVE_ALONE: &str = "nothing after the move; turn and or stand on lines of their own";
 
@@ -109,7 +115,7 @@ const RESULT_ALONE: &str = "nothing after the result; or stands on a line of its
 const BLANK: &str = "a blank before this";
 
 const CONDITION: &str =
-    "a condition, which begins with fen, flip, material, moves, next, played, plies, result, tag, number, date, turn, check, mate, stalemate, for or count, or the words not, either and or";
+    "a condition, which begins with fen, flip, position, material, moves, next, played, plies, result, tag, number, date, turn, check, mate, stalemate, for or count, or the words not, either and or";
 
 const DENIED: &str = "a condition after not, and no second not";
 
@@ -134,6 +140,7 @@ enum Key {
     Result,
     Next,
     Played,
+    Setup,
     Material,
     Check,
     Mate,
@@ -147,7 +154,7 @@ enum Key {
 }
 
 /// The key words, each with the question whether it was meant.
-const KEYS: [(&[u8], Key, &str); 20] = [
+const KEYS: [(&[u8], Key, &str); 21] = [
     (b"fen", Key::Fen, "did you mean fen?"),
     (b"tag", Key::Tag, "did you mean tag?"),
     (b"number", Key::Number, "did you mean number?"),
@@ -157,6 +164,7 @@ const KEYS: [(&[u8], Key, &str); 20] = [
     (b"result", Key::Result, "did you mean result?"),
     (b"next", Key::Next, "did you mean next?"),
     (b"played", Key::Played, "did you mean played?"),
+    (b"position", Key::Setup, "did you mean position?"),
     (b"material", Key::Material, "did you mean material?"),
     (b"check", Key::Check, "did you mean check?"),
     (b"mate", Key::Mate, "did you mean mate?"),
@@ -459,6 +467,20 @@ fn like_stop(text: &[u8], expected: &'static str) -> Stop {
     end_stop(more, MOVE_ALONE)
 }
 
+/// Where a FEN that is refused stops: after the fields that give a position by themselves.
+fn setup_stop(text: &[u8]) -> Stop {
+    let mut left = text;
+    let mut rest = text;
+    for _ in 0..6 {
+        rest = split_first(rest).1;
+        let fields = &text[..text.len().saturating_sub(rest.len())];
+        if GamePosition::from_first_fields(fields).is_some() {
+            left = rest;
+        }
+    }
+    end_stop(left, SETUP)
+}
+
 /// Where a condition on who is to move that is refused stops.
 fn turn_stop(text: &[u8]) -> Stop {
     let (side, more) = split_first(text);
@@ -539,6 +561,7 @@ fn claim_stop(text: &[u8]) -> Stop {
         Key::Result => result_stop(rest),
         Key::Next => like_stop(rest, NEXT),
         Key::Played => like_stop(rest, PLAYED),
+        Key::Setup => setup_stop(rest),
         Key::Tag => tag_stop(rest),
         Key::Turn => turn_stop(rest),
         Key::Check | Key::Mate | Key::Stalemate => end_stop(rest, NOTHING),

@@ -88,6 +88,7 @@ const AFTER_HELP: &str =
     number WhiteElo >= 2700    the value as a number; also = <> < <= >\n  \
     date Date < 1985.06        the value as a date; also 1985, 1985.06.30\n  \
     fen */*/*/*/*/*/*PPP/*RK1  men as in FEN; ? a square, ! a man, * any squares\n  \
+    position FEN               that position; of the FEN one field or more\n  \
     material KRP* v KRP*       each side's men: P* any number, R2+ two or more\n  \
     moves e4 c5 *, next *x*    the first moves; the next, * any bytes; also played\n  \
     plies <= 50, result 1-0    how many plies, also = <> < > >=; how the game ends\n  \

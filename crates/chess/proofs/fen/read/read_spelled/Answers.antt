@@ -7,7 +7,7 @@ third a b d e x y z w more rest same = cc
 
 pub returns-in_err-rights : goal.returns-in_err-rights
 returns-in_err-rights g c =
-    rw c.from_residual-in_err-rights.ensures λ P spelled.
-    let same = third _ _ _ _ _ _ _ _ _ _ (sym spelled.fields ∙ c.in_ok-fields.ensures) in
+    rw c.from_residual-in_err-rights.ensures λ x split P spelled.
+    let same = third _ _ _ _ _ _ _ _ _ _ (sym spelled.fields ∙ split) in
     c.in_err-rights.ensures spelled.given_rights
     (subst (λ x. GivesRights x spelled.given_rights) same spelled.rights_given)
