@@ -1,36 +1,20 @@
 -- What is put of a game in its form and its mode. Where each sound game is written, its first
 -- position is an entry of it.
 use Rattle.std.specs.Prelude.{Result, Ok, Err, OnOk, OnErr, IfErr, IfSome, MatchResult}
-use Rattle.std.proofs.Common.{◌≡◌, ℕ, ◌+◌, ◌<◌, List, [], length, Option, refl, sym, subst, ◌∙◌}
-use Rattle.std.proofs.Common.{append-nil, arith}
-use Rattle.std.proofs.lemmas.Option.{IfSome_then}
-use Rattle.pgn_text.specs.Public.GameTexts.{GameText}
-use Rattle.pgn_game.specs.Public.Faults.{Fault}
-use Rattle.pgn_game.specs.Public.MainLines.{main_words}
-use Rattle.pgn_game.specs.Public.Replays.{Replay}
-use Rattle.pgn_game.specs.declared.replays.replayer.Lines.{Lines}
-use Rattle.pgn_game.specs.declared.replays.replayer.Lines.TheVariants.{Main}
-use Rattle.pgn_game.proofs.OneReplay.{line_length}
-use Rattle.pgn_criteria.specs.Public.Meeting.{heading_of, Heading}
-use Rattle.pgn_criteria.specs.Public.Conditions.{Conditions}
-use Rattle.pgn_extract.specs.Public.Aims.{Aim, GameId, IsMet}
-use Rattle.pgn_extract.specs.Private.Blockwise.{TakesAll, by_itself, AddsOutput, AddsSound}
-use Rattle.pgn_extract.specs.Private.Blockwise.{PutsText, StopsIn}
-use Rattle.pgn_extract.specs.Private.Finding.{AddsEntries}
-use Rattle.pgn_extract.specs.Public.Exports.{HasEntry, IsSelected, IsTextOf, IsWritten, selected}
-use Rattle.pgn_extract.specs.Public.Exports.{lines_in, written_lines}
-use Rattle.pgn_extract.specs.Public.GameReports.{IsFaultOf, IsReplayOf}
-use Rattle.pgn_extract.specs.Public.Listing.{listing}
-use Rattle.pgn_extract.specs.Public.Verdicts.{AreEntryLines, IsOutput, replayed_lines}
-use Rattle.pgn_extract.specs.declared.settings.Form.{Form}
-use Rattle.pgn_extract.specs.declared.settings.Mode.{Mode}
+use Rattle.pgn_extract.proofs.Common.{◌≡◌, ℕ, ◌+◌, ◌<◌, List, [], length, Option, refl, sym, subst}
+use Rattle.pgn_extract.proofs.Common.{◌∙◌, append-nil, arith, IfSome_then, GameText, Fault}
+use Rattle.pgn_extract.proofs.Common.{main_words, Replay, Lines, Main, line_length, heading_of}
+use Rattle.pgn_extract.proofs.Common.{Heading, Conditions, Aim, GameId, IsMet, by_itself, StopsIn}
+use Rattle.pgn_extract.proofs.Common.{AddsEntries, HasEntry, IsSelected, IsTextOf, IsWritten}
+use Rattle.pgn_extract.proofs.Common.{selected, lines_in, written_lines, IsFaultOf, IsReplayOf}
+use Rattle.pgn_extract.proofs.Common.{listing, AreEntryLines, IsOutput, replayed_lines, Form, Mode}
+use Rattle.pgn_extract.specs.Private.Blockwise.{TakesAll, AddsOutput, AddsSound, PutsText}
 
 -- ply 0 is an entry
 first_is_entry : (aim : Aim) (tags : Heading) (replay : Replay) → TakesAll aim
     → 0 < length replay.positions → HasEntry aim tags replay
 first_is_entry aim tags replay all some =
-    let met =
-    subst (λ (criteria : Option (List Conditions)).
+    let met = subst (λ (criteria : Option (List Conditions)).
     IsMet criteria tags replay 0) (sym all.criteria) (record {}) in (
       0,
       some,
@@ -41,10 +25,8 @@ first_is_entry aim tags replay all some =
     )
 
 pub all_written : (aim : Aim) (id : GameId) (game : GameText) (replay : Replay) (text : List ℕ)
-    → TakesAll aim
-    → IsReplayOf (written_lines aim) game replay
-    → IsTextOf aim.form aim id (by_itself game) text
-    → IsWritten aim id (by_itself game) replay text
+    → TakesAll aim → IsReplayOf (written_lines aim) game replay
+    → IsTextOf aim.form aim id (by_itself game) text → IsWritten aim id (by_itself game) replay text
 all_written aim id game replay text all is given =
     let tags = heading_of game in
     let count : length replay.positions ≡ length replay.played + 1 =
@@ -66,8 +48,7 @@ module _ (lines : Lines) (game : GameText) (old new : List ℕ) where
   -- where nothing is added, the fault stands alone
   pub stops_left : (own : Option Fault) → IfSome own (IsFaultOf lines game) → new ≡ old
       → IfSome own (StopsIn lines game old new)
-  stops_left own met left =
-      IfSome_then own met (λ fault is. (is, [], left ∙ sym (append-nil old)))
+  stops_left own met left = IfSome_then own met (λ fault is. (is, [], left ∙ sym (append-nil old)))
 
 module _ {T E : Type 0} (aim : Aim) (id : GameId) (game : GameText) (old new : List ℕ)
     (result : Result T E) (of : E → Option Fault) where

@@ -1,14 +1,8 @@
 -- What is reported of pieces in a row, written up to somewhere.
-use Rattle.std.proofs.Common.{ℕ, ◌+◌, List, ◌++◌, length, take, Option, refl, sym, ap, ◌∙◌, subst}
-use Rattle.std.proofs.Common.{arith, append_assoc}
-use Rattle.std.specs.Io.KnownBytes.{Appends, Keeps}
-use Rattle.std.proofs.lemmas.List.{take_all}
-use Rattle.std.proofs.Math.Seq.{take-append-add}
-use Rattle.pgn_text.specs.Public.Marks.{MarkedPiece}
-use Rattle.pgn_extract.specs.Private.Blockwise.{Begins}
-use Rattle.pgn_extract.specs.Public.Outcomes.{AppendsFront, Writes}
-use Rattle.pgn_extract.specs.Public.Verdicts.{Verdict}
-use Rattle.pgn_extract.specs.Public.Aims.{Aim}
+use Rattle.pgn_extract.proofs.Common.{ℕ, ◌+◌, List, ◌++◌, length, take, Option, refl, sym, ap, ◌∙◌}
+use Rattle.pgn_extract.proofs.Common.{subst, arith, append_assoc, Appends, Keeps, take_all}
+use Rattle.pgn_extract.proofs.Common.{take-append-add, MarkedPiece, Begins, AppendsFront, Writes}
+use Rattle.pgn_extract.proofs.Common.{Verdict, Aim}
 use Rattle.pgn_extract.proofs.VerdictFacts.{output_text-append, fault_lines-append, verdicts-append}
 use Rattle.pgn_extract.proofs.Writing.{appends_join, appends_kept}
 

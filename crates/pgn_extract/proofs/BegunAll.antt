@@ -1,16 +1,11 @@
 -- A beginning of what is reported of the first pieces of a text is one of what is reported of all
 -- of them.
-use Rattle.std.proofs.Common.{◌≡◌, ℕ, ◌+◌, zero, suc, List, [], ◌∷◌, ◌++◌, length, take, Option}
-use Rattle.std.proofs.Common.{refl, sym, ap, subst}
-use Rattle.std.specs.Io.KnownBytes.{Appends}
-use Rattle.pgn_text.specs.Public.Marks.{AreMarkedPieces}
-use Rattle.pgn_extract.specs.Private.Blockwise.{BeginsFirst}
-use Rattle.pgn_extract.specs.Public.Outcomes.{AppendsFront, BeginsAll}
-use Rattle.pgn_extract.specs.Public.Verdicts.{output_text, fault_lines}
-use Rattle.pgn_extract.specs.Public.Aims.{Aim, GameId}
+use Rattle.pgn_extract.proofs.Common.{◌≡◌, ℕ, ◌+◌, zero, suc, List, [], ◌∷◌, ◌++◌, length, take}
+use Rattle.pgn_extract.proofs.Common.{Option, refl, sym, ap, subst, Appends, AreMarkedPieces}
+use Rattle.pgn_extract.proofs.Common.{BeginsFirst, AppendsFront, BeginsAll, output_text}
+use Rattle.pgn_extract.proofs.Common.{fault_lines, Aim, GameId, game_id}
 use Rattle.pgn_extract.proofs.SomeReport.{rest_reported}
 use Rattle.pgn_extract.proofs.VerdictFacts.{output_text-append, fault_lines-append, verdicts-append}
-use Rattle.pgn_extract.specs.Public.GivenMarks.{game_id}
 
 take_front : (size : ℕ) (xs ys : List ℕ) → take size xs ≡ take (length (take size xs)) (xs ++ ys)
 take_front zero xs ys = refl

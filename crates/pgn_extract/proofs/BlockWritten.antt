@@ -1,15 +1,10 @@
 -- One block reported, or a beginning of it.
-use Rattle.std.proofs.Common.{◌≡◌, ℕ, false, List, [], Option, Ok, refl, sym, subst, inl, inr}
-use Rattle.std.proofs.lemmas.Bool.{false_from_ne_true}
 use Rattle.std.proofs.lemmas.List.{append-nil}
-use Rattle.std.specs.Io.KnownBytes.{Appends}
+use Rattle.pgn_extract.proofs.Common.{◌≡◌, ℕ, false, List, [], Option, Ok, refl, sym, subst, inl}
+use Rattle.pgn_extract.proofs.Common.{inr, false_from_ne_true, Appends, GathersBlock, WritesBlock}
+use Rattle.pgn_extract.proofs.Common.{BeginsBlock, AppendsFront, Passage, Report, Aim, GameId}
 use Rattle.pgn_text.proofs.MarkedPieces.{of_block_exist}
-use Rattle.pgn_extract.specs.Private.Blockwise.{GathersBlock, WritesBlock, BeginsBlock}
-use Rattle.pgn_extract.specs.Public.Outcomes.{AppendsFront}
 use Rattle.pgn_extract.specs.Private.RunParts.{WriteFaultsAre}
-use Rattle.pgn_extract.specs.Public.Runs.{Passage}
-use Rattle.pgn_extract.specs.declared.engine.report.Report.{Report}
-use Rattle.pgn_extract.specs.Public.Aims.{Aim, GameId}
 use Rattle.pgn_extract.proofs.Gathered.{gathers_begun}
 use Rattle.pgn_extract.proofs.Writing.{appends_none, appends_join}
 
@@ -19,8 +14,7 @@ front_none old bytes = (0, appends_none old)
 
 -- where no write failed, both writers are sound
 pub written_soundly : {A : Type 0} {answer : A} {out err : Passage}
-    → WriteFaultsAre (Ok answer) out err
-    → (out.new.faulted ≡ false) × (err.new.faulted ≡ false)
+    → WriteFaultsAre (Ok answer) out err → (out.new.faulted ≡ false) × (err.new.faulted ≡ false)
 written_soundly faults = (
   false_from_ne_true _ (λ is. let k = faults.write.1 (inl is) in cc),
   false_from_ne_true _ (λ is. let k = faults.write.1 (inr is) in cc),
@@ -28,8 +22,7 @@ written_soundly faults = (
 
 -- a block of which nothing is reported
 pub begins_none : (aim : Aim) (limit max_depth : ℕ) (id : GameId) (block : List ℕ)
-    (out err : Option (List ℕ))
-    → BeginsBlock aim limit max_depth id block out out err err
+    (out err : Option (List ℕ)) → BeginsBlock aim limit max_depth id block out out err err
 begins_none aim limit max_depth id block out err =
     let own = of_block_exist limit max_depth id.offset block in
     record {
@@ -40,8 +33,7 @@ begins_none aim limit max_depth id block out err =
         after = own.0;
         parted = refl;
         verdicts = [];
-        each =
-            refl;
+        each = refl;
         output = front_none out _;
         faults = front_none err _;
       };

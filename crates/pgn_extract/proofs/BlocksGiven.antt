@@ -1,17 +1,15 @@
 -- The blocks that were given so far, and those that the bytes ahead and the bytes still to be read
 -- will give.
-use Rattle.std.proofs.Common.{◌≡◌, false, length, Option, subst, arith, append_assoc, length-append}
-use Rattle.std.proofs.Common.{ℕ, ◌+◌, Bool, true, List, [], ◌∷◌, ◌++◌, refl, sym, ap, ◌∙◌, inl, inr}
 use Rattle.std.specs.Prelude.{◌≢◌}
-use Rattle.std.proofs.lemmas.Bool.{cases_Bool, both_ways}
 use Rattle.std.proofs.lemmas.List.{append-nil}
+use Rattle.pgn_extract.proofs.Common.{◌≡◌, false, length, Option, subst, arith, append_assoc}
+use Rattle.pgn_extract.proofs.Common.{length-append, ℕ, ◌+◌, Bool, true, List, [], ◌∷◌, ◌++◌, refl}
+use Rattle.pgn_extract.proofs.Common.{sym, ap, ◌∙◌, inl, inr, cases_Bool, both_ways}
+use Rattle.pgn_extract.proofs.Common.{AreCompletePieces, MarkedPiece, AreOfBlock, AreOfBlocks}
+use Rattle.pgn_extract.proofs.Common.{AreMarkedPieces, Window, IsCutOff, no_bytes}
 use Rattle.pgn_text.specs.Public.Blocks.{IsFirstBlock, AreBlocks}
-use Rattle.pgn_text.specs.Public.Complete.{AreCompletePieces}
-use Rattle.pgn_text.specs.Public.Marks.{MarkedPiece, AreOfBlock, AreOfBlocks, AreMarkedPieces}
-use Rattle.pgn_text.specs.Public.Windows.{Window, IsCutOff}
 use Rattle.pgn_text.proofs.MarkedPieces.{of_blocks_exist}
 use Rattle.pgn_text.proofs.OneBlocks.{blocks_exist}
-use Rattle.pgn_text.proofs.OneList.{no_bytes}
 
 -- the blocks that are still to come: none once the last was given
 abbrev pub AreLeft : Bool → List (List ℕ) → List ℕ → Type 0
@@ -74,8 +72,7 @@ module _ {limit max_depth offset : ℕ} {now : Window} {bytes : List ℕ} {piece
         let all : AreBlocks (block ∷ more) (now.ahead ++ (read ++ rest)) =
         subst (AreBlocks (block ∷ more)) (sym text)
         (lead next.ended block more (next.ahead ++ rest) (cut.first rest end) some left) in
-        let before =
-        given.leads (read ++ rest) (block ∷ more) (λ ended.
+        let before = given.leads (read ++ rest) (block ∷ more) (λ ended.
         absurd (both_ways now.ended cut.going ended))
         (subst (λ e. AreLeft e (block ∷ more) (now.ahead ++ (read ++ rest))) (sym cut.going) all) in
         subst (AreBlocks ((given.blocks ++ block ∷ []) ++ more)) (ap (λ t. bytes ++ t) text
@@ -134,10 +131,8 @@ module _ {limit max_depth offset : ℕ} {now : Window} {bytes : List ℕ} {piece
       last = now.ahead ++ read;
       parted = given.leads read ((now.ahead ++ read) ∷ []) (λ ended.
           absurd (both_ways now.ended going ended))
-          (subst (λ e. AreLeft e ((now.ahead ++ read) ∷ []) (now.ahead ++ read)) (sym going) (
-            refl,
-            first,
-          ));
+          (subst (λ e. AreLeft e ((now.ahead ++ read) ∷ []) (now.ahead ++ read)) (sym going)
+          (refl, first));
     };
     each = pieces_given;
   }
@@ -158,8 +153,7 @@ module _ {limit max_depth offset : ℕ} {now : Window} {bytes : List ℕ} {piece
   ]
     where
       with_left : (more : List (List ℕ)) → (now.ended ≡ true → rest ≡ [])
-          → AreLeft now.ended more (now.ahead ++ rest)
-          → (others : List MarkedPiece)
+          → AreLeft now.ended more (now.ahead ++ rest) → (others : List MarkedPiece)
           × AreMarkedPieces limit max_depth offset (bytes ++ (now.ahead ++ rest)) (pieces
           ++ others)
       with_left more none left =
@@ -167,8 +161,7 @@ module _ {limit max_depth offset : ℕ} {now : Window} {bytes : List ℕ} {piece
             others.0,
             record {
               blocks = given.blocks ++ more;
-              parted =
-                  given.leads rest more none left;
+              parted = given.leads rest more none left;
               each = given.each more others.0 others.1;
             },
           )

@@ -1,6 +1,5 @@
 -- What holds of a piece, whether it is chosen or passed over.
-use Rattle.std.proofs.Common.{◌≡◌, Bool, true, false, None, not, refl, sym, ◌∙◌}
-use Rattle.pgn_extract.specs.Public.Choices.{IfChosen}
+use Rattle.pgn_extract.proofs.Common.{◌≡◌, Bool, true, false, None, not, refl, sym, ◌∙◌, IfChosen}
 use Rattle.pgn_extract.specs.declared.marks.Met.{Met}
 
 -- it is the one or the other

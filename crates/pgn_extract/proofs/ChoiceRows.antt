@@ -1,20 +1,14 @@
 -- Worked rows of the pieces that are chosen and of the lines that have their marks; and what these
 -- definitions refuse.
-use Rattle.std.proofs.Common.{◌≡◌, ◌≢◌, ℕ, true, false, List, [], ◌∷◌, ◌++◌, codes, Option, None}
-use Rattle.std.proofs.Common.{Some, refl, sym, ap, ◌∙◌, subst}
-use Rattle.pgn_text.specs.Public.Marks.{MarkedPiece, ReadableGame}
-use Rattle.pgn_text.specs.Public.Parts.{Part}
-use Rattle.pgn_extract.specs.Public.Aims.{Aim, GameId}
-use Rattle.pgn_extract.specs.Public.Choices.{id_of, IfChosen, is_among, is_chosen, is_mark_of}
-use Rattle.pgn_extract.specs.Public.Exports.{AreExports}
-use Rattle.pgn_extract.specs.Public.Index.{index, mark_line}
-use Rattle.pgn_extract.specs.Public.Listing.{Entry, IsPlyOfGame}
+use Rattle.pgn_extract.proofs.Common.{◌≡◌, ◌≢◌, ℕ, true, false, List, [], ◌∷◌, ◌++◌, codes, Option}
+use Rattle.pgn_extract.proofs.Common.{None, Some, refl, sym, ap, ◌∙◌, subst, MarkedPiece}
+use Rattle.pgn_extract.proofs.Common.{ReadableGame, Part, Aim, GameId, id_of, IfChosen, is_among}
+use Rattle.pgn_extract.proofs.Common.{is_chosen, is_mark_of, AreExports, index, mark_line, Entry}
+use Rattle.pgn_extract.proofs.Common.{IsPlyOfGame, line_mark, rest_after, PacksAll, of_all}
+use Rattle.pgn_extract.proofs.Common.{IsVerdict, SoundGame, output_of, game_id}
 use Rattle.pgn_extract.specs.Private.MarkLines.{first_mark, front_mark, front_of, is_mark_byte}
-use Rattle.pgn_extract.specs.Private.MarkLines.{line_mark, mark_of_rest, rest_after}
-use Rattle.pgn_extract.specs.Public.Searching.{PacksAll, of_all}
-use Rattle.pgn_extract.specs.Public.Verdicts.{IsVerdict, SoundGame, output_of}
+use Rattle.pgn_extract.specs.Private.MarkLines.{mark_of_rest}
 use Rattle.pgn_extract.proofs.ChoiceFacts.{when_passed}
-use Rattle.pgn_extract.specs.Public.GivenMarks.{game_id}
 
 -- ---- pieces
 
@@ -58,8 +52,7 @@ no_verdict_without_a_mark aim parts text chosen some is =
 
 -- and it has no entry
 no_entry_without_a_mark : (aim : Aim) (number : ℕ) (pieces : List MarkedPiece) (entry : Entry)
-    → aim.chosen ≡ Some []
-    → IsPlyOfGame aim number pieces entry → ⊥
+    → aim.chosen ≡ Some [] → IsPlyOfGame aim number pieces entry → ⊥
 no_entry_without_a_mark aim number pieces entry none is =
     let chosen =
     subst (λ (marks : Option (List GameId)). is_chosen marks entry.id ≡ true) none is.chosen in
@@ -67,8 +60,7 @@ no_entry_without_a_mark aim number pieces entry none is =
 
 -- nor is it exported
 no_export_without_a_mark : (aim : Aim) (piece : MarkedPiece) (text : List ℕ) → aim.chosen ≡ Some []
-    → text ≢ []
-    → AreExports aim 1 (piece ∷ []) text → ⊥
+    → text ≢ [] → AreExports aim 1 (piece ∷ []) text → ⊥
 no_export_without_a_mark aim piece text none some (own, rest, parted, is, empty) =
     let passed = ap (λ (marks : Option (List GameId)). is_chosen marks (id_of 1 piece)) none in
     let nothing = when_passed (is_chosen aim.chosen (id_of 1 piece)) _ passed is in
@@ -116,8 +108,7 @@ mark_of_what_follows : mark_of_rest (Some (codes "1@2")) ∷ mark_of_rest None �
 mark_of_what_follows = refl
 
 first_of_marks : first_mark (None ∷ Some (game_id 1 2) ∷ Some (game_id 3 4) ∷ []) ∷ first_mark []
-    ∷ []
-    ≡ Some (game_id 1 2) ∷ None ∷ []
+    ∷ [] ≡ Some (game_id 1 2) ∷ None ∷ []
 first_of_marks = refl
 
 -- each form of a line of a run over a.pgn

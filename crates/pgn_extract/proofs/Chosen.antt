@@ -1,11 +1,7 @@
 -- Entries that are chosen by their plies.
-use Rattle.std.proofs.Common.{◌≡◌, ◌<◌, ℕ, zero, suc, List, [], ◌∷◌, refl, sym, ap, ◌∙◌, subst}
-use Rattle.std.proofs.Common.{arith, inl, inr, ◌⊎◌}
-use Rattle.std.specs.List.{Contains}
-use Rattle.std.proofs.lemmas.List.Elements.{Contains-append_right}
-use Rattle.pgn_extract.specs.Public.Listing.{Entry, Ascend}
-use Rattle.pgn_extract.specs.Public.GameReports.{AreChosen}
-use Rattle.pgn_extract.specs.Public.GameReports.AreChosen.{none, keep, leave}
+use Rattle.pgn_extract.proofs.Common.{◌≡◌, ◌<◌, ℕ, zero, suc, List, [], ◌∷◌, refl, sym, ap, ◌∙◌}
+use Rattle.pgn_extract.proofs.Common.{subst, arith, inl, inr, ◌⊎◌, Contains, Contains-append_right}
+use Rattle.pgn_extract.proofs.Common.{Entry, Ascend, AreChosen, none, keep, leave}
 use Rattle.pgn_extract.specs.declared.marks.GameId.{GameId}
 
 -- the entry of a game at a ply
@@ -48,8 +44,7 @@ module _ (id : GameId) (P : ℕ → Type 0) (S : ℕ → List ℕ → Type 0) wh
 
   -- what is chosen is among all, and has the fact
   pub chosen_from : (all : List ℕ) (chosen : List Entry) → AreChosen id P S all chosen
-      → (entry : Entry) → Contains chosen entry
-      → IsPicked id P S all entry
+      → (entry : Entry) → Contains chosen entry → IsPicked id P S all entry
   chosen_from _ _ none entry has = absurd (none_in entry has)
   chosen_from _ _ (keep first shown all chosen holds shows more) entry has =
       elim (in_front (entry_at id first shown) chosen entry has) [
@@ -84,10 +79,8 @@ module _ (id : GameId) (P : ℕ → Type 0) (S : ℕ → List ℕ → Type 0) wh
       (λ ply has. shows ply (Contains-append_right (first ∷ []) all ply has)) in
       let own = shows first (0, omega arith, refl) in
       elim (decides first (0, omega arith, refl)) [
-        | inl holds ↦ (
-          entry_at id first own.0 ∷ later.0,
-          keep first own.0 all later.0 holds own.1 later.1,
-        )
+        | inl holds ↦
+            (entry_at id first own.0 ∷ later.0, keep first own.0 all later.0 holds own.1 later.1)
         | inr fails ↦ (later.0, leave first all later.0 fails later.1)
       ]
 
@@ -95,8 +88,7 @@ module _ (id : GameId) (P : ℕ → Type 0) (S : ℕ → List ℕ → Type 0) wh
   module _ (one : (ply : ℕ) (x y : List ℕ) → S ply x → S ply y → x ≡ y) where
     -- the entry of each ply that is among all and has the fact is chosen
     pub chosen_all : (all : List ℕ) (chosen : List Entry) → AreChosen id P S all chosen
-        → (entry : Entry)
-        → IsPicked id P S all entry → Contains chosen entry
+        → (entry : Entry) → IsPicked id P S all entry → Contains chosen entry
     chosen_all _ _ none entry of = absurd (none_in entry.ply of.among)
     chosen_all _ _ (keep first shown all chosen held shows more) entry of =
         elim (in_front first all entry.ply of.among) [

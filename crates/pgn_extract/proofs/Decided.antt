@@ -1,26 +1,18 @@
 -- Each position of each sound game meets the criteria or does not, whatever they are.
-use Rattle.std.proofs.Common.{◌⊎◌, ℕ, ◌<◌, List, length, Option, Some, None, inl}
-use Rattle.pgn_text.specs.Public.GameTexts.{GameText, tag_in}
-use Rattle.pgn_game.specs.Public.Replays.{Replay}
-use Rattle.pgn_game.specs.Public.Starts.{fen_tag}
-use Rattle.pgn_game.specs.declared.replays.replayer.Lines.{Lines}
-use Rattle.pgn_criteria.specs.Public.Conditions.{Conditions}
+use Rattle.pgn_extract.proofs.Common.{◌⊎◌, ℕ, ◌<◌, List, length, Option, Some, None, inl, GameText}
+use Rattle.pgn_extract.proofs.Common.{tag_in, Replay, fen_tag, Lines, Conditions, Aim, IsMet}
+use Rattle.pgn_extract.proofs.Common.{heading_of, IsReplayOf}
 use Rattle.pgn_criteria.proofs.MeetSettled.{each_position_meets}
-use Rattle.pgn_extract.specs.Public.Aims.{Aim, IsMet}
-use Rattle.pgn_criteria.specs.Public.Meeting.{heading_of}
-use Rattle.pgn_extract.specs.Public.GameReports.{IsReplayOf}
 
 -- the position is decided
 abbrev pub IsDecidedAt : Option (List Conditions) → GameText → Replay → ℕ → Type 0
 IsDecidedAt criteria game replay ply =
-    IsMet criteria (heading_of game) replay ply
-    ⊎ (IsMet criteria (heading_of game) replay ply → ⊥)
+    IsMet criteria (heading_of game) replay ply ⊎ (IsMet criteria (heading_of game) replay ply → ⊥)
 
 abbrev pub IsDecided : Aim → Type 0
 IsDecided aim =
     (lines : Lines) (game : GameText) (replay : Replay) → IsReplayOf lines game replay
-    → (ply : ℕ) → ply < length replay.positions
-    → IsDecidedAt aim.criteria game replay ply
+    → (ply : ℕ) → ply < length replay.positions → IsDecidedAt aim.criteria game replay ply
 
 decided_at : (criteria : Option (List Conditions)) (lines : Lines) (game : GameText)
     (replay : Replay) → IsReplayOf lines game replay → (ply : ℕ)

@@ -1,12 +1,9 @@
 -- Bytes dropped from the front of an input.
 use Rattle.std.proofs.Common.{◌≡◌, ℕ, ◌+◌, ◌-◌, ◌^◌, ◌≤◌, min, Bool, false, List, ◌++◌, length}
 use Rattle.std.proofs.Common.{Option, Some, None, ap, ◌∙◌, sym, arith, length-append}
-use Rattle.std.specs.Prelude.{IfSome}
-use Rattle.std.specs.Io.KnownBytes.{Consumes, IsAtEnd}
 use Rattle.std.proofs.lemmas.List.{append-nil}
-use Rattle.pgn_text.specs.Public.Tallies.{Reads}
+use Rattle.pgn_extract.proofs.Common.{IfSome, Consumes, IsAtEnd, Reads, Drops, DropsSome}
 use Rattle.pgn_text.proofs.Joined.{reads_join, reads_counted}
-use Rattle.pgn_extract.specs.Private.Blockwise.{Drops, DropsSome}
 
 -- some bytes are dropped, and so many are to be dropped still
 pub record Dropping (first now : Option (List ℕ)) (moved count most left : ℕ)

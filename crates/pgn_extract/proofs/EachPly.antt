@@ -1,17 +1,10 @@
 -- The entries of a game where there are no criteria: plies in a row.
 use Rattle.std.proofs.Common.{◌≡◌, zero, List, ◌++◌, length, drop, Option, None, true, subst, arith}
 use Rattle.std.proofs.Common.{◌↔◌, ℕ, suc, ◌+◌, ◌-◌, ◌<◌, ◌≤◌, [], ◌∷◌, sym, refl, ap, inl, inr}
-use Rattle.std.proofs.lemmas.Bool.{cases_lt}
-use Rattle.chess.specs.Public.Positions.{State}
-use Rattle.pgn_game.specs.Public.Replays.{Replay}
-use Rattle.pgn_criteria.specs.Public.Meeting.{Heading}
-use Rattle.pgn_criteria.specs.Public.Conditions.{Conditions}
-use Rattle.pgn_extract.specs.Public.Aims.{Aim, GameId, IsMet, IsEntry}
+use Rattle.pgn_extract.proofs.Common.{cases_lt, State, Replay, Heading, Conditions, Aim, GameId}
+use Rattle.pgn_extract.proofs.Common.{IsMet, IsEntry, named_mark, Entry, AreFields, is_plain}
+use Rattle.pgn_extract.proofs.Common.{entry_line, listing, plies_of, AreListed, AreChosen, keep}
 use Rattle.pgn_extract.specs.Private.Blockwise.{IsPlainEntry, lines_from}
-use Rattle.pgn_extract.specs.Private.Finding.{named_mark}
-use Rattle.pgn_extract.specs.Public.Listing.{Entry, AreFields, is_plain, entry_line, listing}
-use Rattle.pgn_extract.specs.Public.GameReports.{plies_of, AreListed, AreChosen}
-use Rattle.pgn_extract.specs.Public.GameReports.AreChosen.{keep}
 use Rattle.pgn_extract.proofs.Chosen.{entry_at}
 use Rattle.pgn_extract.proofs.FieldTexts.{no_fields}
 use Rattle.pgn_extract.proofs.Picks.{leaves, leaves_all, dropped}
@@ -79,11 +72,8 @@ plain_entry aim no_criteria tags replay plies n within = (to, from)
           low,
           high,
           λ first. elim (cases_lt aim.min_ply n) [
-            | inl less ↦ absurd (entry.1 first aim.min_ply less (
-              omega arith,
-              omega arith,
-              met aim.min_ply,
-            ))
+            | inl less ↦ absurd (entry.1 first aim.min_ply less
+                (omega arith, omega arith, met aim.min_ply))
             | inr least ↦ omega arith
           ],
         )
@@ -91,8 +81,7 @@ plain_entry aim no_criteria tags replay plies n within = (to, from)
     from : IsPlainEntry aim plies n → IsEntry aim tags replay n
     from (_, low, high, only) = (
       (low, high, met n),
-      λ first before less wanted. let is = only first in let least =
-          wanted.0 in omega arith,
+      λ first before less wanted. let is = only first in let least = wanted.0 in omega arith,
     )
 
 -- so the entries are the plies from the least one on

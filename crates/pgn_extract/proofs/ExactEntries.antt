@@ -1,35 +1,22 @@
 -- The entries of pieces in a row: which they are, and their order.
-use Rattle.std.proofs.Common.{◌≡◌, ℕ, ◌+◌, ◌<◌, ◌≤◌, zero, suc, Bool, true, false, List, [], ◌∷◌}
-use Rattle.std.proofs.Common.{◌++◌, length, Option, Some, refl, sym, ap, ap₂, ◌∙◌, subst, arith}
-use Rattle.std.proofs.Common.{inl, inr}
-use Rattle.std.specs.List.{Contains, slice_get}
-use Rattle.std.proofs.lemmas.Bool.{cases_lt}
-use Rattle.std.proofs.lemmas.List.Elements.{Contains-append_left, Contains-append_right}
-use Rattle.std.proofs.lemmas.List.Elements.{Contains-append_cases}
-use Rattle.chess.specs.Public.Positions.{State}
-use Rattle.pgn_text.specs.Public.Marks.{PieceKind, ReadableGame, UnreadableRest, TooLongBlock}
-use Rattle.pgn_text.specs.Public.Marks.{MarkedPiece}
-use Rattle.pgn_text.specs.Public.Parts.{Part}
-use Rattle.pgn_text.specs.Public.Games.{Item}
-use Rattle.pgn_text.specs.Public.GameTexts.{GameText, tag_in}
-use Rattle.pgn_game.proofs.OneReplay.{one_replay, no_fault}
-use Rattle.pgn_game.specs.Public.Replays.{Replay, IsReplay, IsMainReplay}
-use Rattle.pgn_game.specs.declared.replays.replayer.Lines.TheVariants.{Main}
-use Rattle.pgn_game.specs.Public.Starts.{fen_tag}
-use Rattle.pgn_extract.specs.Public.Aims.{Aim, GameId, IsEntry}
-use Rattle.pgn_extract.specs.Public.Choices.{id_of, is_chosen, IfChosen}
+use Rattle.std.proofs.lemmas.List.Elements.{Contains-append_left, Contains-append_cases}
+use Rattle.pgn_extract.proofs.Common.{◌≡◌, ℕ, ◌+◌, ◌<◌, ◌≤◌, zero, suc, Bool, true, false, List, []}
+use Rattle.pgn_extract.proofs.Common.{◌∷◌, ◌++◌, length, Option, Some, refl, sym, ap, ap₂, ◌∙◌}
+use Rattle.pgn_extract.proofs.Common.{subst, arith, inl, inr, Contains, slice_get, cases_lt}
+use Rattle.pgn_extract.proofs.Common.{Contains-append_right, State, PieceKind, ReadableGame}
+use Rattle.pgn_extract.proofs.Common.{UnreadableRest, TooLongBlock, MarkedPiece, Part, Item}
+use Rattle.pgn_extract.proofs.Common.{GameText, tag_in, one_replay, no_fault, Replay, IsReplay}
+use Rattle.pgn_extract.proofs.Common.{Main, fen_tag, Aim, GameId, IsEntry, id_of, is_chosen}
+use Rattle.pgn_extract.proofs.Common.{IfChosen, heading_of, Entry, AreFields, IsGameOf, IsPlyOfGame}
+use Rattle.pgn_extract.proofs.Common.{IsEarlier, Ascend, AreEntries, plies_of, IsReplayOf}
+use Rattle.pgn_extract.proofs.Common.{AreGameEntries, ArePieceEntries, AreEntryRows, game_id}
+use Rattle.pgn_game.specs.Public.Replays.{IsMainReplay}
 use Rattle.pgn_extract.proofs.ChoiceFacts.{by_choice, when_taken}
 use Rattle.pgn_extract.proofs.Chosen.{entry_at, none_in, in_front, Rise, IsPicked, chosen_from}
 use Rattle.pgn_extract.proofs.Chosen.{chosen_all, chosen_ascend}
 use Rattle.pgn_extract.proofs.FieldTexts.{one_text}
 use Rattle.pgn_extract.proofs.GameExport.{one_game}
-use Rattle.pgn_criteria.specs.Public.Meeting.{heading_of}
-use Rattle.pgn_extract.specs.Public.Listing.{Entry, AreFields, IsGameOf, IsPlyOfGame, IsEarlier}
-use Rattle.pgn_extract.specs.Public.Listing.{Ascend, AreEntries}
-use Rattle.pgn_extract.specs.Public.GameReports.{plies_of, IsReplayOf}
-use Rattle.pgn_extract.specs.Private.EntryRows.{AreGameEntries, sound, faulty, ArePieceEntries}
-use Rattle.pgn_extract.specs.Private.EntryRows.{AreEntryRows}
-use Rattle.pgn_extract.specs.Public.GivenMarks.{game_id}
+use Rattle.pgn_extract.specs.Private.EntryRows.{sound, faulty}
 
 -- a replay of the main line alone is said in two ways
 main_of : {fen : Option (List ℕ)} {items : List Item} {replay : Replay}
@@ -78,8 +65,7 @@ own_ply : (aim : Aim) (kind : PieceKind) (id : GameId) (own : List Entry)
     → (parts : List Part) × (game : GameText) × (replay : Replay) × (kind ≡ ReadableGame parts)
     × IsGameOf parts game × IsReplayOf Main game replay × IsOfGame aim id game replay entry
 own_ply aim (ReadableGame parts) id own (game, made, sound replay is these) entry has =
-    let of =
-    chosen_from id (IsEntry aim (heading_of game) replay) (AreFields aim.fields replay)
+    let of = chosen_from id (IsEntry aim (heading_of game) replay) (AreFields aim.fields replay)
     (plies_of 0 replay.positions) own these entry has in
     (parts, game, replay, refl, made, is, of)
 own_ply aim (ReadableGame parts) id own (game, made, faulty fault is none) entry has =
@@ -176,8 +162,7 @@ from_ply aim number pieces entries are entry of =
     by_place number pieces entries are of.place of.piece of.numbered
   where
     by_place : (number : ℕ) (pieces : List MarkedPiece) (entries : List Entry)
-        → AreEntryRows aim number pieces entries
-        → (place : ℕ) → slice_get pieces place
+        → AreEntryRows aim number pieces entries → (place : ℕ) → slice_get pieces place
         ≡ Some (record { offset = entry.id.offset; kind = ReadableGame of.parts })
         → entry.id.number ≡ number + place → Contains entries entry
     by_place number [] entries are place none numbered = absurd (cc)
@@ -192,20 +177,14 @@ from_ply aim number pieces entries are entry of =
         let (game, made, entered) =
         subst (λ (p : MarkedPiece). ArePieceEntries aim p.kind (id_of number piece) own) is
         own_here in
-        let has =
-        own_has aim (id_of number piece) of.game own
+        let has = own_has aim (id_of number piece) of.game own
         (subst (λ g. AreGameEntries aim (id_of number piece) g own)
         (one_game of.parts game of.game made of.is_game) entered)
         of.replay (replay_of of.is_replay) entry (ap (λ i. entry_at i entry.ply entry.shown) same)
         of.within of.listed of.shows in
         subst (λ e. Contains e entry) (sym parted) (Contains-append_left own rest entry has)
-    by_place number (piece ∷ more) entries (
-      own,
-      rest,
-      parted,
-      here,
-      others,
-    ) (suc place) game numbered =
+    by_place number (piece ∷ more) entries
+        (own, rest, parted, here, others) (suc place) game numbered =
         subst (λ e. Contains e entry) (sym parted)
         (Contains-append_right own rest entry
         (by_place (number + 1) more rest others place game (omega arith)))

@@ -1,39 +1,26 @@
 -- What the definitions refuse: of a search of a pack, of an index, of files, of marks and of
 -- exports.
-use Rattle.std.proofs.Common.{◌≡◌, ◌+◌, ◌<◌, ◌==◌, ◌∙◌, ℕ, true, false, List, [], ◌∷◌, ◌++◌, length}
-use Rattle.std.proofs.Common.{decimal, drop, map, take, zero, suc, Option, Some, None, codes}
-use Rattle.std.proofs.Common.{encode_utf8_all, get_or, ap, sym, subst, refl, arith}
-use Rattle.std.proofs.lemmas.Fmt.{decimal_digit}
 use Rattle.std.proofs.lemmas.List.{length-append}
 use Rattle.std.proofs.lemmas.Str.{chars-IsAscii, encodes-IsAscii}
 use Rattle.std.proofs.lemmas.Str.Ascii.{IsAscii-from_all}
-use Rattle.std.specs.Io.KnownBytes.{Appends}
 use Rattle.std.specs.Str.{IsAscii}
-use Rattle.pgn_text.specs.Public.GameTexts.{GameText, IsGameText, tag_in}
-use Rattle.pgn_text.specs.Public.Limits.{largest_offset}
-use Rattle.pgn_text.specs.Public.Marks.{MarkedPiece}
-use Rattle.pgn_game.specs.Public.PackedGames.{PackedGame, FitsRecord, IsPacked, pack_bytes}
-use Rattle.pgn_game.specs.Public.PackedGames.{record_bytes}
-use Rattle.pgn_game.specs.Public.Replays.{Replay, IsReplay}
-use Rattle.pgn_game.specs.Public.Starts.{fen_tag}
-use Rattle.pgn_game.specs.declared.replays.replayer.Lines.TheVariants.{Main}
-use Rattle.pgn_game.proofs.PackStreamFacts.{record_size}
+use Rattle.pgn_extract.proofs.Common.{◌≡◌, ◌+◌, ◌<◌, ◌==◌, ◌∙◌, ℕ, true, false, List, [], ◌∷◌, ◌++◌}
+use Rattle.pgn_extract.proofs.Common.{length, decimal, drop, map, take, zero, suc, Option, Some}
+use Rattle.pgn_extract.proofs.Common.{None, codes, encode_utf8_all, get_or, ap, sym, subst, refl}
+use Rattle.pgn_extract.proofs.Common.{arith, decimal_digit, Appends, GameText, IsGameText, tag_in}
+use Rattle.pgn_extract.proofs.Common.{largest_offset, MarkedPiece, PackedGame, FitsRecord, IsPacked}
+use Rattle.pgn_extract.proofs.Common.{pack_bytes, record_bytes, Replay, IsReplay, fen_tag, Main}
+use Rattle.pgn_extract.proofs.Common.{record_size, Aim, GameId, IsInOneOf, in_first, in_second}
+use Rattle.pgn_extract.proofs.Common.{in_third, Passage, IsOfNoGame, HasNoGame, IsIndexOfSoundGames}
+use Rattle.pgn_extract.proofs.Common.{IsSoundPiece, StopsAtLimit, AtPath, BeginsPath, NamesUnopened}
+use Rattle.pgn_extract.proofs.Common.{NoFile, Order, StopsAmong, StopsAtPath, WritesPaths, name_at}
+use Rattle.pgn_extract.proofs.Common.{order_at, own_summary, summary_text, RunError, InputTooLong}
+use Rattle.pgn_extract.proofs.Common.{OutOfMemory, Read, Write, Summary, id_of}
 use Rattle.pgn_extract.proofs.ChoiceFacts.{none_met}
-use Rattle.pgn_extract.specs.Public.Aims.{Aim, GameId}
 use Rattle.pgn_extract.specs.Public.Index.{mark, mark_line, shown_char, shown_name, titled}
-use Rattle.pgn_extract.specs.Public.Laws.{IsInOneOf, in_first, in_second, in_third, HasAMark}
-use Rattle.pgn_extract.specs.Public.Runs.{Passage}
-use Rattle.pgn_extract.specs.Public.Searching.{IsOfNoGame, HasNoGame, IsIndexOfSoundGames, none}
-use Rattle.pgn_extract.specs.Public.Searching.{keep, leave, IsSoundPiece, StopsAtLimit}
-use Rattle.pgn_extract.specs.Public.Several.{AtPath, BeginsPath, NamesUnopened, NoFile, Order}
-use Rattle.pgn_extract.specs.Public.Several.{StopsAmong, StopsAtPath, WritesPaths, name_at}
-use Rattle.pgn_extract.specs.Public.Several.{order_at, own_summary, summary_text}
+use Rattle.pgn_extract.specs.Public.Laws.{HasAMark}
+use Rattle.pgn_extract.specs.Public.Searching.{none, keep, leave}
 use Rattle.pgn_extract.specs.declared.app.files.Task.{Task}
-use Rattle.pgn_extract.specs.declared.output.outcome.RunError.{RunError}
-use Rattle.pgn_extract.specs.declared.output.outcome.RunError.TheVariants.{InputTooLong}
-use Rattle.pgn_extract.specs.declared.output.outcome.RunError.TheVariants.{OutOfMemory, Read, Write}
-use Rattle.pgn_extract.specs.declared.output.outcome.Summary.{Summary}
-use Rattle.pgn_extract.specs.Public.Choices.{id_of}
 
 -- ---- a pack
 
@@ -44,8 +31,7 @@ its_own_record : (game : GameText) (replay : Replay) (packed : PackedGame) → I
 its_own_record game replay packed text is kept bad = bad game replay text is kept
 
 a_record_of_a_game : (game : GameText) (replay : Replay) (packed : PackedGame) (rest : List ℕ)
-    → IsGameText game
-    → IsReplay Main (tag_in fen_tag game.tags) game.elements replay
+    → IsGameText game → IsReplay Main (tag_in fen_tag game.tags) game.elements replay
     → IsPacked packed.name packed.number packed.offset game replay packed → FitsRecord packed
     → HasNoGame (record_bytes packed ++ rest) → ⊥
 a_record_of_a_game game replay packed rest text is kept fits bad = its_own_record game replay packed
@@ -180,8 +166,7 @@ own_summaries name summary = (refl, refl, refl)
 
 -- at one of the paths
 not_at_no_path : (order : List ℕ → Order) (known : List ℕ → AtPath) (error : RunError)
-    (out err : Passage)
-    → StopsAmong order known [] error out err → ⊥
+    (out err : Passage) → StopsAmong order known [] error out err → ⊥
 not_at_no_path order known error out err stops = no_cons stops.before stops.parted
   where
     no_cons : (before : List (List ℕ)) → [] ≡ before ++ stops.path ∷ stops.after → ⊥

@@ -1,10 +1,7 @@
 -- Which games are selected: whether a game has an entry shows by the first ply that is looked for.
-use Rattle.std.proofs.Common.{◌↔◌, ◌⊎◌, Bool, true, false, IsTrue, refl, inl, inr}
-use Rattle.std.proofs.lemmas.Bool.{false≢true}
 use Rattle.std.specs.Prelude.{not}
-use Rattle.pgn_extract.specs.Public.Exports.{IsSelected}
-use Rattle.pgn_extract.specs.declared.settings.Select.{Select}
-use Rattle.pgn_extract.specs.declared.settings.Select.TheVariants.{Matching, Others, Faulty}
+use Rattle.pgn_extract.proofs.Common.{◌↔◌, ◌⊎◌, Bool, true, false, IsTrue, refl, inl, inr}
+use Rattle.pgn_extract.proofs.Common.{false≢true, IsSelected, Select, Matching, Others, Faulty}
 
 -- a test of a fact is turned round
 pub turned : (test : Bool) (P : Type 0) → (IsTrue test ↔ P) → IsTrue (not test) ↔ (P → ⊥)

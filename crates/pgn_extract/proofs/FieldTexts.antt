@@ -1,27 +1,18 @@
 -- What a line shows after a ply is one text, and there is one for each ply of a main line.
-use Rattle.std.proofs.Common.{◌≡◌, ◌<◌, ℕ, zero, suc, Bool, true, false, not, List, [], ◌∷◌, ◌++◌}
-use Rattle.std.proofs.Common.{length, Some, refl, sym, ap, ◌∙◌, subst, arith}
-use Rattle.std.specs.Prelude.{◌&&◌, Option, None, MatchOption, codes}
-use Rattle.std.specs.List.{slice_get}
-use Rattle.std.proofs.lemmas.Option.{slice_get-get_or, same_Some}
+use Rattle.std.specs.Prelude.{◌&&◌, Option, None, codes}
+use Rattle.pgn_extract.proofs.Common.{◌≡◌, ◌<◌, ℕ, zero, suc, Bool, true, false, not, List, [], ◌∷◌}
+use Rattle.pgn_extract.proofs.Common.{◌++◌, length, Some, refl, sym, ap, ◌∙◌, subst, arith}
+use Rattle.pgn_extract.proofs.Common.{MatchOption, slice_get, slice_get-get_or, same_Some, State}
+use Rattle.pgn_extract.proofs.Common.{after, IsSan, Move, Item, main_words, IsMainLine, Replay}
+use Rattle.pgn_extract.proofs.Common.{IsReplay, Lines, IsFenField, IsNextMove, IsNextField}
+use Rattle.pgn_extract.proofs.Common.{AreFields, is_plain, Fields}
 use Rattle.chess.specs.Public.Placements.{AreOnBoard}
-use Rattle.chess.specs.Public.Positions.{State}
-use Rattle.chess.specs.Public.Moves.{after}
 use Rattle.chess.specs.Public.Fen.{IsFen}
-use Rattle.chess.specs.Public.San.{IsSan}
-use Rattle.chess.specs.declared.moves.Move.{Move}
 use Rattle.chess.proofs.FenOneText.{one_fen, some_fen}
 use Rattle.chess.proofs.OnBoard.{men_stay_on_board}
 use Rattle.chess.proofs.SanOnce.{one_san}
 use Rattle.chess.proofs.SanSettled.{some_san}
-use Rattle.pgn_text.specs.Public.Games.{Item}
-use Rattle.pgn_game.specs.Public.MainLines.{main_words, IsMainLine}
-use Rattle.pgn_game.specs.Public.Replays.{Replay, IsReplay}
-use Rattle.pgn_game.specs.declared.replays.replayer.Lines.{Lines}
 use Rattle.pgn_game.proofs.StartTexts.{start_read_back}
-use Rattle.pgn_extract.specs.Public.Listing.{IsFenField, IsNextMove, IsNextField, AreFields}
-use Rattle.pgn_extract.specs.Public.Listing.{is_plain}
-use Rattle.pgn_extract.specs.declared.settings.Fields.{Fields}
 
 one_fen_field : (fen : Bool) (replay : Replay) (ply : ℕ) (x y : List ℕ)
     → IsFenField fen replay ply x → IsFenField fen replay ply y → x ≡ y
@@ -49,8 +40,7 @@ one_next_field : (next : Bool) (replay : Replay) (ply : ℕ) (x y : List ℕ)
 one_next_field false replay ply x y first other = first ∙ sym other
 one_next_field true replay ply x y (text, is, shown) (also, of, seen) =
     shown ∙ ap (λ (t : List ℕ). 32
-    ∷ t) (one_next (slice_get replay.played ply) replay.positions ply text also is of)
-    ∙ sym seen
+    ∷ t) (one_next (slice_get replay.played ply) replay.positions ply text also is of) ∙ sym seen
 
 pub one_text : (fields : Fields) (replay : Replay) (ply : ℕ) (x y : List ℕ)
     → AreFields fields replay ply x → AreFields fields replay ply y → x ≡ y
@@ -80,33 +70,16 @@ some_next now [] positions played stands line ply = (
   codes "-",
   subst (λ (ms : List Move). IsNextMove positions ms ply (codes "-")) (sym line.1) refl,
 )
-some_next now (word ∷ words) positions played stands (
-  m,
-  later,
-  more,
-  positions_is,
-  played_is,
-  named,
-  rest,
-) zero =
+some_next now (word ∷ words) positions played stands
+    (m, later, more, positions_is, played_is, named, rest) zero =
     let own = some_san now m stands named.named.legal in (
       own.0,
       subst (λ (ms : List Move). IsNextMove positions ms 0 own.0) (sym played_is)
-          (subst (λ (ps : List State). IsNextMove ps (m ∷ more) 0 own.0) (sym positions_is) (
-            now,
-            refl,
-            own.1,
-          )),
+          (subst (λ (ps : List State). IsNextMove ps (m ∷ more) 0 own.0) (sym positions_is)
+          (now, refl, own.1)),
     )
-some_next now (word ∷ words) positions played stands (
-  m,
-  later,
-  more,
-  positions_is,
-  played_is,
-  named,
-  rest,
-) (suc ply) =
+some_next now (word ∷ words) positions played stands
+    (m, later, more, positions_is, played_is, named, rest) (suc ply) =
     let own =
     some_next (after now m) words later more (men_stay_on_board now m stands named.named.legal)
     rest ply in (
@@ -128,8 +101,7 @@ some_next_field true lines fen items replay is ply =
     (32 ∷ text.0, (text.0, text.1, refl))
 
 pub some_fields : (fields : Fields) (lines : Lines) (fen : Option (List ℕ)) (items : List Item)
-    (replay : Replay) → IsReplay lines fen items replay
-    → (ply : ℕ) → ply < length replay.positions
+    (replay : Replay) → IsReplay lines fen items replay → (ply : ℕ) → ply < length replay.positions
     → (shown : List ℕ) × AreFields fields replay ply shown
 some_fields fields lines fen items replay is ply less =
     let first = some_fen_field fields.fen replay ply less in

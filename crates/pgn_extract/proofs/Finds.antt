@@ -1,30 +1,19 @@
 -- The entries of a line that are found so far, and one more position of it.
 use Rattle.std.proofs.Common.{◌≡◌, ◌⊎◌, ◌↔◌, ℕ, ◌+◌, ◌<◌, ◌≤◌, Bool, true, false, List, [], ◌∷◌}
 use Rattle.std.proofs.Common.{◌++◌, length, drop, Option, Some, IsTrue, refl, sym, ap, ◌∙◌, subst}
-use Rattle.std.proofs.Common.{append_assoc, append-nil, length-append, inl, inr, not, arith}
-use Rattle.std.proofs.lemmas.Bool.{cases_lt, both_ways, not-false, false≢true}
-use Rattle.std.proofs.lemmas.Option.{slice_get_within}
-use Rattle.std.specs.List.{slice_get}
+use Rattle.std.proofs.Common.{append_assoc, append-nil, length-append, inl, inr, not, arith, Result}
+use Rattle.std.proofs.Common.{Ok, Err, OnOk, IfErr}
+use Rattle.std.proofs.lemmas.Bool.{not-false}
 use Rattle.std.proofs.Math.Seq.{drop-append_seam}
-use Rattle.std.proofs.Common.{Result, Ok, Err, OnOk, IfErr}
-use Rattle.std.specs.Prelude.{MatchResult}
-use Rattle.chess.specs.Public.Positions.{State}
-use Rattle.pgn_text.specs.Public.GameTexts.{GameText, tag_in}
-use Rattle.pgn_game.specs.Public.Faults.{Fault, IsFault}
-use Rattle.pgn_game.specs.Public.Starts.{fen_tag}
-use Rattle.pgn_game.specs.Public.Replays.{Replay}
-use Rattle.pgn_game.specs.declared.replays.replayer.Lines.TheVariants.{Main}
-use Rattle.pgn_criteria.specs.Public.Conditions.{Conditions}
-use Rattle.pgn_criteria.specs.Public.Meeting.{Heading, SomeHold, heading_of}
-use Rattle.pgn_criteria.proofs.MeetFacts.{meets_at}
-use Rattle.pgn_extract.specs.Public.Aims.{Aim, GameId, IsWanted, IsEntry}
-use Rattle.pgn_extract.specs.Public.GameReports.{plies_of, AreChosen, AreListed}
-use Rattle.pgn_extract.specs.Public.GameReports.AreChosen.{none, keep, leave}
-use Rattle.pgn_extract.specs.Public.Listing.{Entry, AreFields, entry_line, listing}
-use Rattle.pgn_extract.specs.Private.Finding.{IsOfGame, AsksFor, named_mark, AddsEntries}
-use Rattle.pgn_extract.specs.Private.Finding.{StopsAtFault}
-use Rattle.pgn_extract.specs.Private.Lines.{EachReplay, MeetsHere, GoesTo, IsNeverMet, Finds}
-use Rattle.pgn_extract.specs.Private.Lines.{HandsOn, NoneBefore, Stands, marked_lines, or_some}
+use Rattle.pgn_extract.proofs.Common.{cases_lt, both_ways, false≢true, slice_get_within, slice_get}
+use Rattle.pgn_extract.proofs.Common.{MatchResult, State, GameText, tag_in, Fault, IsFault, fen_tag}
+use Rattle.pgn_extract.proofs.Common.{Replay, Main, Conditions, Heading, SomeHold, heading_of}
+use Rattle.pgn_extract.proofs.Common.{meets_at, Aim, GameId, IsWanted, IsEntry, plies_of, AreChosen}
+use Rattle.pgn_extract.proofs.Common.{AreListed, none, keep, leave, Entry, AreFields, entry_line}
+use Rattle.pgn_extract.proofs.Common.{listing, IsOfGame, AsksFor, named_mark, AddsEntries}
+use Rattle.pgn_extract.proofs.Common.{StopsAtFault, MeetsHere, GoesTo, IsNeverMet, HandsOn}
+use Rattle.pgn_extract.proofs.Common.{NoneBefore, Stands, marked_lines, or_some}
+use Rattle.pgn_extract.specs.Private.Lines.{EachReplay, Finds}
 use Rattle.pgn_extract.proofs.Chosen.{entry_at}
 use Rattle.pgn_extract.proofs.Picks.{leaves, leaves_all}
 
@@ -199,8 +188,7 @@ module _ (aim : Aim) (game : GameText) (before : List State) (P : State) (met : 
       → EachReplay game before P (λ replay. IsWanted aim (heading_of game) replay (length before))
   is_wanted holds low high replay own rest is = (low, high, (reports replay own rest is).0 holds)
 
-  pub not_wanted : met ≡ false
-      → EachReplay game before P
+  pub not_wanted : met ≡ false → EachReplay game before P
       (λ replay. IsWanted aim (heading_of game) replay (length before) → ⊥)
   not_wanted fails replay own rest is wanted =
       let holds : IsTrue met = (reports replay own rest is).1 wanted.2 in
@@ -277,10 +265,8 @@ ends_at {aim} {id} {game} {Got} {on} At before P stands (sound, unwanted) finds 
     ap length all ∙ length-append (before ++ P ∷ []) rest in
     let left : (n : ℕ) → length (before ++ P ∷ []) ≤ n → n < length (before ++ P ∷ []) + length rest
     → IsEntry aim (heading_of game) replay n → ⊥ = λ n low less. elim (either on refl) [
-      | inl is_on ↦ λ entry. unwanted is_on replay (
-        Main,
-        is,
-      ) rest parts n (omega (arith, size, low)) (omega (arith, whole, less)) entry.0
+      | inl is_on ↦ λ entry. unwanted is_on replay
+          (Main, is) rest parts n (omega (arith, size, low)) (omega (arith, whole, less)) entry.0
       | inr off ↦ finds.shut off replay (Main, is) rest all n low (omega (arith, whole, less))
     ] in (
       replay,

@@ -1,30 +1,21 @@
 -- What is exported is the same whether the first of each game is asked for or all: a game has an
 -- entry exactly where it has a first.
-use Rattle.std.proofs.Common.{ℕ, zero, suc, ◌+◌, ◌<◌, true, false, Bool, List, [], ◌∷◌, length}
-use Rattle.std.proofs.Common.{arith, inl, inr}
-use Rattle.pgn_text.specs.Public.Marks.{PieceKind, ReadableGame, UnreadableRest, TooLongBlock}
-use Rattle.pgn_text.specs.Public.Marks.{MarkedPiece}
-use Rattle.pgn_text.specs.Public.GameTexts.{GameText}
-use Rattle.pgn_game.specs.Public.Replays.{Replay}
-use Rattle.pgn_extract.specs.Public.Aims.{Aim, GameId, IsWanted}
-use Rattle.pgn_extract.specs.Public.Exports.{AreExports, HasEntry, IsGameExport, IsPieceExport}
-use Rattle.pgn_extract.specs.Public.Exports.{IsTextOf, IsWritten, faulty, sound, selected}
-use Rattle.pgn_extract.specs.Public.Exports.{unselected, written_lines}
-use Rattle.pgn_extract.specs.Public.GameReports.{IsReplayOf}
-use Rattle.pgn_extract.specs.Public.Choices.{id_of, is_chosen}
+use Rattle.pgn_extract.proofs.Common.{ℕ, zero, suc, ◌+◌, ◌<◌, true, false, Bool, List, [], ◌∷◌}
+use Rattle.pgn_extract.proofs.Common.{length, arith, inl, inr, PieceKind, ReadableGame}
+use Rattle.pgn_extract.proofs.Common.{UnreadableRest, TooLongBlock, MarkedPiece, GameText, Replay}
+use Rattle.pgn_extract.proofs.Common.{Aim, GameId, IsWanted, AreExports, HasEntry, IsGameExport}
+use Rattle.pgn_extract.proofs.Common.{IsPieceExport, IsTextOf, IsWritten, faulty, sound, selected}
+use Rattle.pgn_extract.proofs.Common.{unselected, written_lines, IsReplayOf, id_of, is_chosen}
+use Rattle.pgn_extract.proofs.Common.{heading_of, Form, Standard, AsItStands, Line, Record}
 use Rattle.pgn_extract.specs.Public.Laws.{FirstChangesNoExport, with_first}
 use Rattle.pgn_extract.proofs.ChoiceFacts.{choice_of}
-use Rattle.pgn_criteria.specs.Public.Meeting.{heading_of}
-use Rattle.pgn_extract.specs.declared.settings.Form.{Form}
-use Rattle.pgn_extract.specs.declared.settings.Form.TheVariants.{Standard, AsItStands, Line, Record}
 use Rattle.pgn_extract.proofs.Decided.{all_decided}
 use Rattle.pgn_extract.proofs.Exported.{selected_by}
 use Rattle.pgn_extract.proofs.SomeReport.{none_before}
 
 -- the text of a game is the same whether the first of its entries is asked for or all
 text_of_any : (aim : Aim) (id : GameId) (game : GameText) (text : List ℕ) (form : Form)
-    (first other : Bool)
-    → IsTextOf form (with_first first aim) id game text
+    (first other : Bool) → IsTextOf form (with_first first aim) id game text
     → IsTextOf form (with_first other aim) id game text
 text_of_any aim id game text Standard first other own = own
 text_of_any aim id game text AsItStands first other own = own
@@ -94,8 +85,7 @@ module _ (aim : Aim) where
   piece_first : (id : GameId) (kind : PieceKind) (text : List ℕ)
       → IsPieceExport (with_first false aim) id kind text
       → IsPieceExport (with_first true aim) id kind text
-  piece_first id (ReadableGame parts) text (game, is, of) =
-      (game, is, game_first id game text of)
+  piece_first id (ReadableGame parts) text (game, is, of) = (game, is, game_first id game text of)
   piece_first id (UnreadableRest bytes) text of = of
   piece_first id TooLongBlock text of = of
 

@@ -1,14 +1,9 @@
 -- A game that some parts make: there is one at most; and its export and its record are those of the
 -- game that is given where these parts stand.
-use Rattle.std.proofs.Common.{◌≡◌, ℕ, List, Option, sym, subst, ◌∙◌}
-use Rattle.pgn_text.specs.Public.GameTexts.{GameText, ShowsGame}
-use Rattle.pgn_text.specs.Public.Parts.{Part}
+use Rattle.pgn_extract.proofs.Common.{◌≡◌, ℕ, List, Option, sym, subst, ◌∙◌, GameText, ShowsGame}
+use Rattle.pgn_extract.proofs.Common.{Part, IsRecordOf, Style, by_itself, IsGameOf}
 use Rattle.pgn_text.proofs.ShownOnce.{one_game_text}
 use Rattle.pgn_game.specs.Public.Exports.{IsExport}
-use Rattle.pgn_game.specs.Public.PackedGames.{IsRecordOf}
-use Rattle.pgn_game.specs.declared.exports.style.Style.{Style}
-use Rattle.pgn_extract.specs.Private.Blockwise.{by_itself}
-use Rattle.pgn_extract.specs.Public.Listing.{IsGameOf}
 
 pub one_game : (parts : List Part) (game other : GameText) → IsGameOf parts game
     → IsGameOf parts other → game ≡ other

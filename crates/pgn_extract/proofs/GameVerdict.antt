@@ -1,37 +1,25 @@
 -- One piece reported: a game by the index, by the listing of its replay or by its fault, or bytes
 -- that are no game.
-use Rattle.std.proofs.Common.{◌≡◌, ℕ, ◌+◌, Bool, true, false, List, [], ◌++◌, Vec, Global, refl}
-use Rattle.std.proofs.Common.{sym, ap, ◌∙◌, subst, arith, codes}
 use Rattle.std.proofs.lemmas.List.{append-nil}
-use Rattle.std.specs.Prelude.{if◌then◌else◌}
-use Rattle.pgn_text.specs.Public.GameTexts.{GameText, IsGameText, ShowsGame}
-use Rattle.pgn_text.specs.Public.Left.{IsPiece, piece_place}
-use Rattle.pgn_text.specs.Public.LeftMarks.{mark_place}
-use Rattle.pgn_text.specs.Public.Limits.{depth_limit}
+use Rattle.pgn_extract.proofs.Common.{◌≡◌, ℕ, ◌+◌, Bool, true, false, List, [], ◌++◌, Vec, Global}
+use Rattle.pgn_extract.proofs.Common.{refl, sym, ap, ◌∙◌, subst, arith, codes, if◌then◌else◌}
+use Rattle.pgn_extract.proofs.Common.{GameText, IsGameText, ShowsGame, piece_place, mark_place}
+use Rattle.pgn_extract.proofs.Common.{depth_limit, marked, Part, PieceStart, is_chosen, id_at}
+use Rattle.pgn_extract.proofs.Common.{AddsMark, IsPieceOf, AddsPiece, by_itself, AddsVerdict}
+use Rattle.pgn_extract.proofs.Common.{IsMarkReport, NamesBlockStop, IsMarkVerdict, fault_text}
+use Rattle.pgn_extract.proofs.Common.{mark_line, IsGameOf, faulty_text, NamesByte, NamesStop}
+use Rattle.pgn_extract.proofs.Common.{Verdict, SoundGame, FaultyGame, output_of, fault_line_of}
+use Rattle.pgn_extract.proofs.Common.{is_faulty, IsReplayedGame, IsVerdictIn, IsUnreadableVerdict}
+use Rattle.pgn_extract.proofs.Common.{Report, Aim, GameId, Mode}
+use Rattle.pgn_text.specs.Public.Left.{IsPiece}
 use Rattle.pgn_text.proofs.StopsThere.{stops_alone}
-use Rattle.pgn_text.specs.Public.Marks.{marked}
-use Rattle.pgn_text.specs.Public.Parts.{Part}
-use Rattle.pgn_text.specs.Public.Pieces as spec
-use Rattle.pgn_text.specs.declared.game.pieces.PieceStart.{PieceStart}
-use Rattle.pgn_text.specs.declared.game.pieces.PieceStart.TheVariants as marks
 use Rattle.pgn_text.specs.declared.game.pieces.Piece.{Piece}
-use Rattle.pgn_text.specs.declared.game.pieces.Piece.TheVariants as given
-use Rattle.pgn_extract.specs.Public.Choices.{is_chosen}
-use Rattle.pgn_extract.specs.Private.Blockwise.{id_at, AddsGame, AddsMark, IsPieceOf, AddsPiece}
-use Rattle.pgn_extract.specs.Private.Blockwise.{by_itself, AddsVerdict, AddsReplayed, IsMarkReport}
-use Rattle.pgn_extract.specs.Private.Blockwise.{NamesBlockStop, IsBlockVerdict, IsMarkVerdict}
-use Rattle.pgn_extract.specs.Public.Index.{fault_text, mark_line}
-use Rattle.pgn_extract.specs.Public.Listing.{IsGameOf}
-use Rattle.pgn_extract.specs.Public.Exports.{faulty_text}
-use Rattle.pgn_extract.specs.Public.Notes.{NamesByte, NamesStop}
-use Rattle.pgn_extract.specs.Public.Verdicts.{Verdict, SoundGame, FaultyGame, output_of}
-use Rattle.pgn_extract.specs.Public.Verdicts.{fault_line_of, is_faulty, IsReplayedGame, IsVerdictIn}
-use Rattle.pgn_extract.specs.Public.Verdicts.{IsUnreadableVerdict}
-use Rattle.pgn_extract.specs.declared.engine.report.Report.{Report}
-use Rattle.pgn_extract.specs.Public.Aims.{Aim, GameId}
+use Rattle.pgn_extract.specs.Private.Blockwise.{AddsGame, AddsReplayed, IsBlockVerdict}
 use Rattle.pgn_extract.proofs.ChoiceFacts.{if_passed, if_taken}
 use Rattle.pgn_extract.proofs.RestOfBlock.{rest_of_block}
-use Rattle.pgn_extract.specs.declared.settings.Mode.{Mode}
+use Rattle.pgn_text.specs.Public.Pieces as spec
+use Rattle.pgn_text.specs.declared.game.pieces.PieceStart.TheVariants as marks
+use Rattle.pgn_text.specs.declared.game.pieces.Piece.TheVariants as given
 use Rattle.pgn_extract.specs.declared.settings.Mode.TheVariants as modes
 
 -- a game that is given, read by itself, is the one that its parts make
@@ -108,8 +96,7 @@ pub piece_game : (aim : Aim) {old mid new : Report} (id own : GameId) (block : L
     → mid.faults ≡ old.faults → mid.games ≡ old.games + 1 → mid.faulty ≡ old.faulty
     → AddsPiece aim old new id block piece
 piece_game aim {old} {mid} {new} id own block piece game is_game place taken adds output faults
-    games faulty shown is among =
-    shows shown (subst (λ p. IsPiece p shown) is_game is)
+    games faulty shown is among = shows shown (subst (λ p. IsPiece p shown) is_game is)
   where
     shows : (shown : spec.Piece) → IsPiece (given.Game game) shown
         → AddsMark aim old new id.number (marked id.offset shown)
@@ -142,8 +129,7 @@ stop_alone true offset block at bytes note (before, after, are) (
 
 -- the verdict on bytes of a block that are no game is that on the piece at the same place
 pub unreadable_there : (aim : Aim) (id : GameId) (block : List ℕ) (place at : ℕ) (bytes : List ℕ)
-    (verdict : Verdict) → place ≡ at
-    → IsPieceOf id.offset block (spec.Unreadable at bytes)
+    (verdict : Verdict) → place ≡ at → IsPieceOf id.offset block (spec.Unreadable at bytes)
     → IsBlockVerdict aim id block place verdict
     → IsUnreadableVerdict aim (id.offset
     + at) bytes (fault_text aim.name (id_at id at) (codes "unreadable")) verdict
@@ -169,15 +155,12 @@ pub piece_unreadable : (aim : Aim) {old mid new : Report} (id : GameId) (block :
     → piece ≡ given.Unreadable place → is_chosen aim.chosen (id_at id place) ≡ true
     → IsBlockVerdict aim id block place verdict → AddsVerdict mid new verdict 0
     → mid.output ≡ old.output → mid.faults ≡ old.faults → mid.games ≡ old.games + 1
-    → mid.faulty ≡ old.faulty
-    → AddsPiece aim old new id block piece
+    → mid.faulty ≡ old.faulty → AddsPiece aim old new id block piece
 piece_unreadable aim {old} {mid} {new} id block piece place verdict is_none taken by adds output
-    faults games faulty shown is among =
-    shows shown (subst (λ p. IsPiece p shown) is_none is) among
+    faults games faulty shown is among = shows shown (subst (λ p. IsPiece p shown) is_none is) among
   where
     shows : (shown : spec.Piece) → IsPiece (given.Unreadable place) shown
-        → IsPieceOf id.offset block shown
-        → AddsMark aim old new id.number (marked id.offset shown)
+        → IsPieceOf id.offset block shown → AddsMark aim old new id.number (marked id.offset shown)
     shows (spec.Game at parts) is among = absurd is
     shows (spec.Unreadable at bytes) is among = (
       verdict,
@@ -189,8 +172,7 @@ piece_unreadable aim {old} {mid} {new} id block piece place verdict is_none take
 
 -- a piece that is passed over is counted, and nothing is reported of it
 nothing_added : {old new : Report} → new.output ≡ old.output → new.faults ≡ old.faults
-    → new.games ≡ old.games + 1 → new.faulty ≡ old.faulty
-    → AddsVerdict old new (SoundGame []) 1
+    → new.games ≡ old.games + 1 → new.faulty ≡ old.faulty → AddsVerdict old new (SoundGame []) 1
 nothing_added {old} {new} output faults games faulty = record {
   output = ap (λ (v : Vec ℕ Global). v.items) output ∙ sym (append-nil old.output.items);
   faults = ap (λ (v : Vec ℕ Global). v.items) faults ∙ sym (append-nil old.faults.items);
@@ -248,8 +230,7 @@ mark_game aim {old} {new} id block place mark is taken output faults games fault
       record {
         output = output;
         faults = faults ∙ sym (append-nil old.faults.items);
-        games =
-            games;
+        games = games;
         faulty = faulty ∙ omega arith;
       },
     )

@@ -1,16 +1,11 @@
 -- What is reported of the first pieces of a block: a beginning is written, and a report has the
 -- rest.
-use Rattle.std.proofs.Common.{◌≡◌, ℕ, ◌+◌, List, [], ◌∷◌, ◌++◌, length, Option, refl, sym, ap, ◌∙◌}
-use Rattle.std.proofs.Common.{subst, arith, append_assoc, length-append}
-use Rattle.std.specs.Prelude.{if◌then◌else◌}
 use Rattle.std.proofs.lemmas.List.Sums.{fold_push}
-use Rattle.pgn_text.specs.Public.Marks.{MarkedPiece}
-use Rattle.pgn_extract.specs.Private.Blockwise.{Reports, Gathers, Passes, AddsMark, Begins}
-use Rattle.pgn_extract.specs.Public.Outcomes.{AppendsFront}
-use Rattle.pgn_extract.specs.Public.Verdicts.{Verdict, AreVerdicts, output_of, fault_line_of}
-use Rattle.pgn_extract.specs.Public.Verdicts.{is_faulty}
-use Rattle.pgn_extract.specs.declared.engine.report.Report.{Report}
-use Rattle.pgn_extract.specs.Public.Aims.{Aim}
+use Rattle.pgn_extract.proofs.Common.{◌≡◌, ℕ, ◌+◌, List, [], ◌∷◌, ◌++◌, length, Option, refl, sym}
+use Rattle.pgn_extract.proofs.Common.{ap, ◌∙◌, subst, arith, append_assoc, length-append}
+use Rattle.pgn_extract.proofs.Common.{if◌then◌else◌, MarkedPiece, Reports, Gathers, Passes}
+use Rattle.pgn_extract.proofs.Common.{AddsMark, Begins, AppendsFront, Verdict, AreVerdicts}
+use Rattle.pgn_extract.proofs.Common.{output_of, fault_line_of, is_faulty, Report, Aim}
 use Rattle.pgn_extract.proofs.Beginnings.{front_join}
 use Rattle.pgn_extract.proofs.VerdictFacts.{output_text-append, fault_lines-append, verdicts-append}
 use Rattle.pgn_extract.proofs.VerdictFacts.{joined}
@@ -43,8 +38,7 @@ gathers_none aim report number out err output faults games faulty =
       verdicts = [];
       each = refl;
       output = output;
-      faults =
-          faults;
+      faults = faults;
       same = refl;
       games = games;
       faulty = faulty;
@@ -73,13 +67,8 @@ module _ {aim : Aim} {report : Report} {out out' err err' : Option (List ℕ)} {
   gathers_more new here piece is (verdict, how, adds) = record {
     verdicts = g.verdicts ++ verdict ∷ [];
     each = verdicts-append aim number pieces (piece ∷ []) g.verdicts (verdict ∷ []) g.each
-        (subst (λ n. AreVerdicts aim n (piece ∷ []) (verdict ∷ [])) is (
-          verdict,
-          [],
-          refl,
-          how,
-          refl,
-        ));
+        (subst (λ n. AreVerdicts aim n (piece ∷ []) (verdict ∷ [])) is
+        (verdict, [], refl, how, refl));
     first_output = g.first_output;
     first_faults = g.first_faults;
     out_grew = g.out_grew;
@@ -90,12 +79,8 @@ module _ {aim : Aim} {report : Report} {out out' err err' : Option (List ℕ)} {
     faults =
         push_text g.first_faults _ _ (fault_line_of verdict) _ _ g.faults adds.faults
         (fault_lines-append g.verdicts (verdict ∷ []));
-    same = omega (
-      arith,
-      g.same,
-      length-append g.verdicts (verdict ∷ []),
-      length-append pieces (piece ∷ []),
-    );
+    same = omega
+        (arith, g.same, length-append g.verdicts (verdict ∷ []), length-append pieces (piece ∷ []));
     games = adds.games ∙ ap (λ n. n + 1) g.games ∙ omega (arith, length-append pieces (piece ∷ []));
     faulty = adds.faulty ∙ ap (λ n. n + (if is_faulty verdict then 1 else 0)) g.faulty
         ∙ sym (fold_push (λ (n : ℕ) (x : Verdict).

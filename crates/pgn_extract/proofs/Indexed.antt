@@ -1,38 +1,30 @@
 -- The marks of a block that the iterator has given so far.
-use Rattle.std.proofs.Common.{◌≡◌, ◌==◌, ℕ, ◌+◌, ◌≤◌, false, List, [], ◌∷◌, ◌++◌, map, length}
-use Rattle.std.proofs.Common.{Option, refl, sym, ap, ◌∙◌, subst, arith, append_assoc, length-append}
-use Rattle.std.proofs.lemmas.List.{append-nil, map_push, length-map}
-use Rattle.pgn_text.specs.Public.Limits.{block_limit, depth_limit}
-use Rattle.pgn_text.specs.Public.Left.{Left, ArePiecesLeft}
+use Rattle.std.proofs.lemmas.List.{append-nil}
+use Rattle.pgn_extract.proofs.Common.{◌≡◌, ◌==◌, ℕ, ◌+◌, ◌≤◌, false, List, [], ◌∷◌, ◌++◌, map}
+use Rattle.pgn_extract.proofs.Common.{length, Option, refl, sym, ap, ◌∙◌, subst, arith}
+use Rattle.pgn_extract.proofs.Common.{append_assoc, length-append, map_push, length-map}
+use Rattle.pgn_extract.proofs.Common.{block_limit, depth_limit, Left, ArePiecesLeft, marked}
+use Rattle.pgn_extract.proofs.Common.{PieceStart, Aim, GameId, id_at, Gathers, GathersBlock, Passes}
+use Rattle.pgn_extract.proofs.Common.{BeginsBlock, AddsVerdict, IsPieceOf, IsMarkReport}
+use Rattle.pgn_extract.proofs.Common.{IsMarkVerdict, id_of, is_chosen, IfChosen, mark_line}
+use Rattle.pgn_extract.proofs.Common.{AppendsFront, Verdict, SoundGame, is_faulty, IsPieceVerdict}
+use Rattle.pgn_extract.proofs.Common.{IsVerdict, IsVerdictIn, Report, game_id}
 use Rattle.pgn_text.specs.Public.LeftMarks.{IsMark, TakesMark}
-use Rattle.pgn_text.specs.Public.Marks.{marked, within as in_limit}
-use Rattle.pgn_text.specs.Public.Pieces as spec
-use Rattle.pgn_text.specs.declared.game.pieces.PieceStart.{PieceStart}
+use Rattle.pgn_text.specs.Public.Marks.{within as in_limit}
 use Rattle.pgn_text.specs.declared.game.pieces.PieceStart.TheVariants.{Game, Unreadable}
-use Rattle.pgn_extract.specs.Public.Aims.{Aim, GameId}
-use Rattle.pgn_extract.specs.Private.Blockwise.{id_at, Gathers, GathersBlock, Passes, BeginsBlock}
-use Rattle.pgn_extract.specs.Private.Blockwise.{AddsVerdict, IsPieceOf, IsMarkReport, IsMarkVerdict}
-use Rattle.pgn_extract.specs.Public.Choices.{id_of, is_chosen, IfChosen}
-use Rattle.pgn_extract.specs.Public.Index.{mark_line}
-use Rattle.pgn_extract.specs.Public.Outcomes.{AppendsFront}
-use Rattle.pgn_extract.specs.Public.Verdicts.{Verdict, SoundGame, is_faulty, IsPieceVerdict}
-use Rattle.pgn_extract.specs.Public.Verdicts.{IsVerdict, IsVerdictIn}
-use Rattle.pgn_extract.specs.declared.engine.report.Report.{Report}
-use Rattle.pgn_extract.specs.declared.settings.Mode.TheVariants as modes
 use Rattle.pgn_extract.proofs.ChoiceFacts.{choice_of}
 use Rattle.pgn_extract.proofs.GameVerdict.{unreadable_there}
 use Rattle.pgn_extract.proofs.Gathered.{gathers_none, gathers_more, gathers_passed}
 use Rattle.pgn_extract.proofs.Listed.{piece_in, begun_of}
-use Rattle.pgn_extract.specs.Public.GivenMarks.{game_id}
 use Rattle.pgn_criteria.proofs.SpanFacts.{at_most_one}
+use Rattle.pgn_text.specs.Public.Pieces as spec
+use Rattle.pgn_extract.specs.declared.settings.Mode.TheVariants as modes
 
 -- whether the piece is chosen, by the same place
 at_place : (aim : Aim) (id : GameId) (place at : ℕ) (shown : spec.Piece) (verdict : Verdict)
-    → place ≡ at
-    → IfChosen (is_chosen aim.chosen (id_at id place))
+    → place ≡ at → IfChosen (is_chosen aim.chosen (id_at id place))
     (IsPieceVerdict (marked id.offset shown).kind aim (id_of id.number (marked id.offset shown))
-    verdict) (verdict ≡ SoundGame [])
-    → IfChosen (is_chosen aim.chosen (id_at id at))
+    verdict) (verdict ≡ SoundGame []) → IfChosen (is_chosen aim.chosen (id_at id at))
     (IsPieceVerdict (marked id.offset shown).kind aim (id_of id.number (marked id.offset shown))
     verdict) (verdict ≡ SoundGame [])
 at_place aim id place at shown verdict is has =
@@ -72,8 +64,7 @@ mark_is_verdict aim id block (Game place) (spec.Unreadable at bytes) verdict ind
 mark_is_verdict aim id block (Unreadable place) (spec.Game at parts) verdict index is among by =
     absurd is
 mark_is_verdict aim id block (Unreadable place) (spec.Unreadable at bytes) verdict index is among
-    by =
-    at_place aim id place at (spec.Unreadable at bytes) verdict is
+    by = at_place aim id place at (spec.Unreadable at bytes) verdict is
     (choice_of (is_chosen aim.chosen (id_at id place))
     (own_mark aim id block (Unreadable place) (spec.Unreadable at bytes) verdict index is among)
     (λ none. none) by)
@@ -118,8 +109,7 @@ module _ {aim : Aim} {start now : Left} {report : Report} {id : GameId}
       → aim.mode ≡ modes.Index → TakesMark depth_limit now next mark
       → here ≡ id.number + report.games → (verdict : Verdict)
       × IsMarkReport aim (game_id here id.offset) block mark verdict
-      × AddsVerdict report report' verdict 1
-      → Indexed aim start next report' id out out' err err'
+      × AddsVerdict report report' verdict 1 → Indexed aim start next report' id out out' err err'
   indexed_more {next} {report'} {here} block mark begins index takes is (verdict, by, adds) =
       record {
         done = l.done ++ takes.shown ∷ [];
@@ -128,11 +118,9 @@ module _ {aim : Aim} {start now : Left} {report : Report} {id : GameId}
             (sym (append_assoc l.done (takes.shown ∷ []) more))
             (l.completes (takes.shown ∷ more) (takes.completes more left));
         written =
-            let among =
-            piece_in start next block id.offset l.done takes.shown begins (λ more left.
+            let among = piece_in start next block id.offset l.done takes.shown begins (λ more left.
             l.completes (takes.shown ∷ more) (takes.completes more left)) in
-            let more =
-            gathers_more l.written report' here (marked id.offset takes.shown) (is
+            let more = gathers_more l.written report' here (marked id.offset takes.shown) (is
             ∙ ap (λ n. id.number + n) l.written.games) (
               verdict,
               mark_is_verdict aim (game_id here id.offset) block mark takes.shown verdict index
@@ -181,8 +169,7 @@ module _ {aim : Aim} {start now : Left} {report : Report} {id : GameId}
   -- all of them, where none is left
   pub indexed_all : (block : List ℕ) → start
       ≡ record { block = block; file_start = id.offset == 0; at = 0; failed = false }
-      → length block ≤ block_limit
-      → ArePiecesLeft depth_limit now []
+      → length block ≤ block_limit → ArePiecesLeft depth_limit now []
       → GathersBlock aim report block_limit depth_limit id block out out' err err'
   indexed_all block is fits end = record {
     own = map (marked id.offset) l.done;

@@ -1,10 +1,8 @@
 -- What is reported of a text is what is reported of its parts, where it is cut at a piece.
-use Rattle.std.proofs.Common.{◌≡◌, ◌+◌, ◌-◌, ◌∷◌, ◌++◌, length, take, drop, ap, ◌∙◌, subst}
-use Rattle.pgn_text.proofs.FrontText.{front_of_text}
-use Rattle.pgn_text.proofs.MarkedPieces.{one_marked_pieces}
+use Rattle.pgn_extract.proofs.Common.{◌≡◌, ◌+◌, ◌-◌, ◌∷◌, ◌++◌, length, take, drop, ap, ◌∙◌, subst}
+use Rattle.pgn_extract.proofs.Common.{front_of_text, one_marked_pieces, AreVerdicts, fault_lines}
 use Rattle.pgn_text.proofs.ResumedText.{resumes}
 use Rattle.pgn_extract.specs.Public.Laws.{PartsJoin}
-use Rattle.pgn_extract.specs.Public.Verdicts.{AreVerdicts, fault_lines}
 use Rattle.pgn_extract.proofs.OneReport.{same_report}
 use Rattle.pgn_extract.proofs.VerdictFacts.{output_text-append, fault_lines-append, verdicts-append}
 use Rattle.pgn_extract.proofs.VerdictFacts.{count_by-join, same_output, same_faulty}
@@ -21,8 +19,7 @@ parts_join aim limit max_depth id text before piece after all whole first second
     (resumes limit max_depth id.offset text before piece after whole.each) in
     let verdicts_after =
     subst (λ p. AreVerdicts aim (id.number + length first) p rest) same_after two.written in
-    let both =
-    verdicts-append aim id.number before (piece
+    let both = verdicts-append aim id.number before (piece
     ∷ after) front rest (subst (λ p. AreVerdicts aim id.number p front) same_before one.written)
     (subst (λ p. AreVerdicts aim (id.number + length p) (piece ∷ after) rest) same_before
     verdicts_after) in

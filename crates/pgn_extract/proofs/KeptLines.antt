@@ -1,35 +1,24 @@
 -- A line that is kept stands at a position of the game, and goes on by one ply.
-use Rattle.std.proofs.Common.{◌≡◌, ◌↔◌, ◌+◌, ◌-◌, ◌<◌, ◌≤◌, ℕ, zero, suc, List, [], ◌∷◌, ◌++◌}
-use Rattle.std.proofs.Common.{length, Option, Some, Bool, true, false, IsTrue, refl, sym, ap, ◌∙◌}
-use Rattle.std.proofs.Common.{subst, append_assoc, length-append, arith, None}
-use Rattle.std.specs.List.{slice_get}
 use Rattle.std.proofs.lemmas.Option.{same_Some, slice_get_within, slice_get_past}
-use Rattle.chess.specs.Public.Moves.{after, IsLegal}
-use Rattle.chess.specs.Public.Positions.{State}
-use Rattle.chess.specs.declared.moves.Move.{Move}
-use Rattle.pgn_text.specs.Public.GameTexts.{GameText, tag_in}
-use Rattle.pgn_game.specs.Public.CodeLines.{AreLegalMoves, positions_from, IsLegalLine}
-use Rattle.pgn_game.specs.Public.MainLines.{main_words}
-use Rattle.pgn_game.specs.Public.Replays.{Replay, IsReplay}
-use Rattle.pgn_game.specs.Public.Starts.{fen_tag}
-use Rattle.pgn_game.specs.declared.replays.replayer.Lines.TheVariants.{Main}
-use Rattle.pgn_game.proofs.CodeLineFacts.{line_legal, line_positions}
-use Rattle.pgn_criteria.specs.Public.Meeting.{heading_of, Heading, Meets, IsFirst}
-use Rattle.pgn_extract.specs.Public.Aims.{Aim, GameId, IsMet, IsWanted, IsEntry}
-use Rattle.pgn_extract.specs.Public.Listing.{AreFields, IsFenField, IsNextMove, IsNextField}
+use Rattle.std.specs.Prelude.{is_some, codes}
+use Rattle.pgn_extract.proofs.Common.{◌≡◌, ◌↔◌, ◌+◌, ◌-◌, ◌<◌, ◌≤◌, ℕ, zero, suc, List, [], ◌∷◌}
+use Rattle.pgn_extract.proofs.Common.{◌++◌, length, Option, Some, Bool, true, false, IsTrue, refl}
+use Rattle.pgn_extract.proofs.Common.{sym, ap, ◌∙◌, subst, append_assoc, length-append, arith, None}
+use Rattle.pgn_extract.proofs.Common.{slice_get, after, IsLegal, State, Move, GameText, tag_in}
+use Rattle.pgn_extract.proofs.Common.{positions_from, main_words, Replay, IsReplay, fen_tag, Main}
+use Rattle.pgn_extract.proofs.Common.{line_legal, line_positions, heading_of, Heading, Meets, Aim}
+use Rattle.pgn_extract.proofs.Common.{GameId, IsMet, IsWanted, IsEntry, AreFields, IsFenField}
+use Rattle.pgn_extract.proofs.Common.{IsNextMove, IsNextField, IsOfGame, ShowsPosition, GoesTo}
+use Rattle.pgn_extract.proofs.Common.{MeetsHere, ShowsFields, HandsOn, or_some, Fields, false≢true}
+use Rattle.pgn_extract.proofs.Common.{MatchOption, IsSan, Conditions, HasEntry}
+use Rattle.pgn_game.specs.Public.CodeLines.{AreLegalMoves, IsLegalLine}
+use Rattle.pgn_criteria.specs.Public.Meeting.{IsFirst}
 use Rattle.pgn_extract.specs.Private.KeptLines.{IsKeptWith}
-use Rattle.pgn_extract.specs.Private.Finding.{IsOfGame, IsChosen, ShowsPosition}
-use Rattle.pgn_extract.specs.Private.Lines.{GoesTo, MeetsHere, ShowsFields, HandsOn, or_some}
-use Rattle.pgn_extract.specs.declared.settings.Fields.{Fields}
+use Rattle.pgn_extract.specs.Private.Finding.{IsChosen}
 use Rattle.pgn_extract.proofs.Finds.{some_chosen}
 use Rattle.pgn_extract.proofs.PackedFacts.{line_begins}
 use Rattle.pgn_extract.proofs.OneMain.{one_main, stands_main}
-use Rattle.std.proofs.lemmas.Bool.{false≢true}
-use Rattle.std.specs.Prelude.{is_some, MatchOption, codes}
-use Rattle.chess.specs.Public.San.{IsSan}
-use Rattle.pgn_criteria.specs.Public.Conditions.{Conditions}
 use Rattle.pgn_criteria.proofs.OpeningFacts.{met_alike}
-use Rattle.pgn_extract.specs.Public.Exports.{HasEntry}
 use Rattle.pgn_extract.proofs.FieldTexts.{IsTextAt}
 
 -- replays with the same positions and moves meet the same criteria
@@ -48,8 +37,7 @@ fen_alike true kept other same ply shown (position, text, here, is, whole) =
     (position, text, ap (λ ps. slice_get ps ply) (sym same) ∙ here, is, whole)
 
 next_alike : (next : Bool) (kept other : Replay) → kept.positions ≡ other.positions
-    → kept.played ≡ other.played
-    → (ply : ℕ) (shown : List ℕ) → IsNextField next kept ply shown
+    → kept.played ≡ other.played → (ply : ℕ) (shown : List ℕ) → IsNextField next kept ply shown
     → IsNextField next other ply shown
 next_alike false kept other positions played ply shown bare = bare
 next_alike true kept other positions played ply shown (text, is, whole) = (
@@ -60,8 +48,7 @@ next_alike true kept other positions played ply shown (text, is, whole) = (
 )
 
 pub fields_there : (fields : Fields) (kept other : Replay) → kept.positions ≡ other.positions
-    → kept.played ≡ other.played
-    → (ply : ℕ) (shown : List ℕ) → AreFields fields kept ply shown
+    → kept.played ≡ other.played → (ply : ℕ) (shown : List ℕ) → AreFields fields kept ply shown
     → AreFields fields other ply shown
 fields_there fields kept other positions played ply shown (fen, next, of_fen, of_next, whole) = (
   fen,
@@ -84,11 +71,8 @@ pub next_played : (replay : Replay) (ply : ℕ) (P : State) (m : Move) (text : L
     → IsNextMove replay.positions replay.played ply text
 next_played replay ply P m text here played san =
     subst (λ (o : Option Move).
-    MatchOption o (text ≡ codes "-") (IsTextAt replay.positions ply text)) (sym played) (
-      P,
-      here,
-      san,
-    )
+    MatchOption o (text ≡ codes "-") (IsTextAt replay.positions ply text)) (sym played)
+    (P, here, san)
 
 pub none_played : (replay : Replay) (ply : ℕ) → length replay.played ≤ ply
     → IsNextMove replay.positions replay.played ply (codes "-")
@@ -165,8 +149,7 @@ reports_there kept met ply aim game before P r at here replay own rest is =
 pub shows_kept : (kept : Replay) (met : List Bool) (ply : ℕ) (fields : Fields) (shown : List ℕ)
     (aim : Aim) (game : GameText)
     (before : List State) (P : State) → IsKeptWith kept met ply aim game before P
-    → AreFields fields kept ply shown
-    → ShowsFields fields shown aim game before P
+    → AreFields fields kept ply shown → ShowsFields fields shown aim game before P
 shows_kept kept met ply fields shown aim game before P at of same replay own rest is =
     let alike = one_main game kept replay (Main, at.is_replay) own in
     subst (λ f. AreFields f replay (length before) shown) same

@@ -1,20 +1,11 @@
 -- The line that the codes of a record tell is the main line of each game that has the record.
-use Rattle.std.proofs.Common.{◌≡◌, List, sym, ap, ◌∙◌, subst}
-use Rattle.std.proofs.lemmas.Option.{same_Some}
-use Rattle.chess.specs.Public.Positions.{State}
-use Rattle.chess.specs.declared.moves.Move.{Move}
-use Rattle.pgn_text.specs.Public.GameTexts.{GameText, tag_in}
-use Rattle.pgn_game.specs.Public.CodeLines.{positions_from, IsCodedLine, IsCodedReplay}
-use Rattle.pgn_game.specs.Public.MainLines.{main_words, IsMainLine}
-use Rattle.pgn_game.specs.Public.PackReading.{RawRecord}
-use Rattle.pgn_game.specs.Public.PackedGames.{PackedGame}
-use Rattle.pgn_game.specs.Public.PlyCodes.{AreCodes}
-use Rattle.pgn_game.specs.Public.Replays.{Replay}
-use Rattle.pgn_game.specs.Public.Starts.{fen_tag, IsStart}
-use Rattle.pgn_game.proofs.CodeLineFacts.{line_legal, line_positions}
-use Rattle.pgn_game.proofs.OneReplay.{one_start, line_head}
+use Rattle.pgn_extract.proofs.Common.{◌≡◌, List, sym, ap, ◌∙◌, subst, same_Some, State, Move}
+use Rattle.pgn_extract.proofs.Common.{GameText, tag_in, positions_from, IsCodedLine, IsCodedReplay}
+use Rattle.pgn_extract.proofs.Common.{main_words, IsMainLine, RawRecord, PackedGame, AreCodes}
+use Rattle.pgn_extract.proofs.Common.{Replay, fen_tag, IsStart, line_legal, line_positions}
+use Rattle.pgn_extract.proofs.Common.{one_start, IsOfRecord, HasNoText}
+use Rattle.pgn_game.proofs.OneReplay.{line_head}
 use Rattle.pgn_extract.specs.Private.KeptPacked.{IsStartOf, IsKeptOf}
-use Rattle.pgn_extract.specs.Private.Packed.{IsOfRecord, HasNoText}
 
 module _ {raw : RawRecord} {game : GameText} {replay : Replay} {packed : PackedGame}
     (own : IsOfRecord raw game replay packed) (start : State)
@@ -27,8 +18,7 @@ module _ {raw : RawRecord} {game : GameText} {replay : Replay} {packed : PackedG
       same_Some own.kept.start own.is_replay.start
       (sym own.kept.first
       ∙ line_head own.is_replay.start (main_words game.elements 0) replay.positions
-      replay.played own.is_replay.line)
-      ∙ starts
+      replay.played own.is_replay.line) ∙ starts
 
   line_there : IsMainLine start (main_words game.elements 0) replay.positions replay.played
   line_there =

@@ -6,6 +6,7 @@ pub mod BlocksGiven
 pub mod Chosen
 pub mod ChoiceFacts
 pub mod ChoiceRows
+pub mod Common
 pub mod Dropping
 pub mod ModeOutputs
 pub mod ExactEntries

@@ -1,11 +1,9 @@
 -- Worked rows of the lines of a text and of the marks that stand in a stretch; and what these
 -- definitions refuse.
-use Rattle.std.proofs.Common.{◌≡◌, ◌<◌, inl, inr, List, ℕ, [], ◌∷◌, ◌++◌, None, Some, codes, length}
-use Rattle.std.proofs.Common.{refl, sym, ap, arith}
-use Rattle.pgn_extract.specs.Private.MarkLines.{AreMarksOf, IsBeforeLine, IsLineOf, IsWithin}
-use Rattle.pgn_extract.specs.Private.MarkLines.{pairs_of}
+use Rattle.pgn_extract.proofs.Common.{◌≡◌, ◌<◌, inl, inr, List, ℕ, [], ◌∷◌, ◌++◌, None, Some, codes}
+use Rattle.pgn_extract.proofs.Common.{length, refl, sym, ap, arith, AreMarksOf, IsBeforeLine}
+use Rattle.pgn_extract.proofs.Common.{IsLineOf, IsWithin, pairs_of, game_id}
 use Rattle.pgn_extract.proofs.LinesOfMarks.{first_or_later, none_of_none}
-use Rattle.pgn_extract.specs.Public.GivenMarks.{game_id}
 
 -- ---- lines
 

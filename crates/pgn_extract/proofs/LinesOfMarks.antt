@@ -4,18 +4,13 @@ use Rattle.std.proofs.Common.{◌≡◌, ◌≢◌, ◌⊎◌, ℕ, ◌==◌, �
 use Rattle.std.proofs.Common.{inl, inr, List, [], ◌∷◌, ◌++◌, map, Option, Some, None, IfSome, refl}
 use Rattle.std.proofs.Common.{sym, ap, ap₂, ◌∙◌, append_assoc, append-nil, arith, ◌≤◌, ◌<◌, subst}
 use Rattle.std.proofs.Common.{length, if◌then◌else◌}
-use Rattle.std.proofs.lemmas.Bool.{cases_Bool, eqb-true}
-use Rattle.std.proofs.lemmas.Bool.Decides.{nat_tests}
-use Rattle.std.proofs.lemmas.List.{map-append}
-use Rattle.std.proofs.lemmas.List.Folds.{list_any-append}
 use Rattle.std.specs.Io.BufRead.{take_through, drop_through, DropsThrough}
-use Rattle.std.specs.Io.KnownBytes.{IsAtEnd, prepend_known}
-use Rattle.pgn_extract.specs.Public.Choices.{is_among, is_mark_of}
-use Rattle.pgn_extract.specs.Private.MarkLines.{AreMarksOf, HasMark, IsBeforeLine, IsLineOf}
-use Rattle.pgn_extract.specs.Private.MarkLines.{IsWithin, line_mark, pairs_of}
-use Rattle.pgn_extract.specs.Private.MarkOrder.{given_of}
+use Rattle.std.specs.Io.KnownBytes.{prepend_known}
+use Rattle.pgn_extract.proofs.Common.{cases_Bool, eqb-true, nat_tests, map-append, list_any-append}
+use Rattle.pgn_extract.proofs.Common.{IsAtEnd, is_among, is_mark_of, AreMarksOf, IsBeforeLine}
+use Rattle.pgn_extract.proofs.Common.{IsLineOf, IsWithin, line_mark, pairs_of, given_of, game_id}
+use Rattle.pgn_extract.specs.Private.MarkLines.{HasMark}
 use Rattle.pgn_extract.specs.declared.marks.GameId.{GameId}
-use Rattle.pgn_extract.specs.Public.GivenMarks.{game_id}
 
 -- past a line feed within the text stands what follows the first one
 past_feed : (front rest : List ℕ)
@@ -92,8 +87,7 @@ later text line of =
         | inl none ↦ (end.0, ap (λ b. head ++ b) none ∙ append-nil head ∙ end.1)
         | inr more ↦ (
           head ++ more.0,
-          ap (λ b. head ++ b) more.1
-              ∙ sym (append_assoc head more.0 (10 ∷ [])),
+          ap (λ b. head ++ b) more.1 ∙ sym (append_assoc head more.0 (10 ∷ [])),
         )
       ]);
       some = of.some;
@@ -270,8 +264,7 @@ pub record IsReadTo (name text : List ℕ) (begin end : ℕ) (pairs : List (ℕ
 
 -- what a new reader over these bytes has left
 pub all_left : (capacity : ℕ) (buffer : List ℕ) (known : Option (List ℕ)) → capacity ≡ 8192
-    → buffer ≡ []
-    → (if capacity == 0 then None else prepend_known buffer known) ≡ known
+    → buffer ≡ [] → (if capacity == 0 then None else prepend_known buffer known) ≡ known
 all_left capacity buffer None size empty = rw size refl
 all_left capacity buffer (Some text) size empty = rw (size, empty) refl
 
@@ -303,8 +296,7 @@ module _ (name : List ℕ) (begin end : ℕ) where
   pub line_read : (known left left' : Option (List ℕ)) (pairs pairs' : List (ℕ
       × ℕ)) (old line : List ℕ) → old ≡ []
       → IfSome left (λ rest. line ≡ old ++ take_through 10 rest) → DropsThrough left left' 10
-      → 0 < length line
-      → pairs' ≡ pairs ++ pairs_of begin end (line_mark name line)
+      → 0 < length line → pairs' ≡ pairs ++ pairs_of begin end (line_mark name line)
       → IfSome known (λ text. IsReadTo name text begin end pairs left)
       → IfSome known (λ text. IsReadTo name text begin end pairs' left')
   line_read None left left' pairs pairs' old line empty bytes drops some added before = tt

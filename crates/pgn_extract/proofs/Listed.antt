@@ -1,30 +1,24 @@
 -- The pieces of a block that the iterator has given so far.
-use Rattle.std.proofs.Common.{◌≡◌, ◌==◌, ℕ, ◌+◌, ◌≤◌, true, false, List, [], ◌∷◌, ◌++◌, map, length}
-use Rattle.std.proofs.Common.{take, drop, Option, refl, sym, ap, ◌∙◌, subst, arith, append_assoc}
-use Rattle.std.proofs.Common.{length-append, ◌⊎◌, inl, inr}
-use Rattle.std.proofs.lemmas.Bool.{both_ways}
 use Rattle.std.proofs.lemmas.List.{append-nil, map_push, map-append, length-map}
-use Rattle.pgn_text.specs.Public.Limits.{block_limit, depth_limit}
-use Rattle.pgn_text.specs.Public.Left.{Left, ArePiecesLeft, TakesPiece}
-use Rattle.pgn_text.specs.Public.Marks.{marked, within as in_limit}
-use Rattle.pgn_text.specs.Public.Pieces as spec
+use Rattle.pgn_extract.proofs.Common.{◌≡◌, ◌==◌, ℕ, ◌+◌, ◌≤◌, true, false, List, [], ◌∷◌, ◌++◌, map}
+use Rattle.pgn_extract.proofs.Common.{length, take, drop, Option, refl, sym, ap, ◌∙◌, subst, arith}
+use Rattle.pgn_extract.proofs.Common.{append_assoc, length-append, ◌⊎◌, inl, inr, both_ways}
+use Rattle.pgn_extract.proofs.Common.{block_limit, depth_limit, Left, ArePiecesLeft, marked}
+use Rattle.pgn_extract.proofs.Common.{Gathers, GathersBlock, Passes, BeginsBlock, IsPieceOf}
+use Rattle.pgn_extract.proofs.Common.{AddsPiece, AppendsFront, Report, Aim, GameId, game_id}
+use Rattle.pgn_text.specs.Public.Left.{TakesPiece}
+use Rattle.pgn_text.specs.Public.Marks.{within as in_limit}
 use Rattle.pgn_text.specs.declared.game.pieces.Piece.{Piece}
 use Rattle.pgn_text.proofs.Existence.{pieces_exist}
-use Rattle.pgn_extract.specs.Private.Blockwise.{Gathers, GathersBlock, Passes, BeginsBlock}
-use Rattle.pgn_extract.specs.Private.Blockwise.{IsPieceOf, AddsPiece}
-use Rattle.pgn_extract.specs.Public.Outcomes.{AppendsFront}
-use Rattle.pgn_extract.specs.declared.engine.report.Report.{Report}
-use Rattle.pgn_extract.specs.Public.Aims.{Aim, GameId}
 use Rattle.pgn_extract.proofs.Gathered.{gathers_none, gathers_more, gathers_passed, gathers_begun}
-use Rattle.pgn_extract.specs.Public.GivenMarks.{game_id}
+use Rattle.pgn_text.specs.Public.Pieces as spec
 
 -- the piece that completes those given is one of the block's
 pub piece_in : (start next : Left) (block : List ℕ) (offset : ℕ) (done : List spec.Piece)
     (shown : spec.Piece)
     → start ≡ record { block = block; file_start = offset == 0; at = 0; failed = false }
     → ((more : List spec.Piece) → ArePiecesLeft depth_limit next more
-    → ArePiecesLeft depth_limit start (done ++ shown ∷ more))
-    → IsPieceOf offset block shown
+    → ArePiecesLeft depth_limit start (done ++ shown ∷ more)) → IsPieceOf offset block shown
 piece_in start next block offset done shown begins completes =
     let more =
     pieces_exist depth_limit next.file_start (take next.at next.block) (drop next.at next.block)
@@ -92,8 +86,7 @@ module _ {aim : Aim} {start now : Left} {report : Report} {id : GameId}
   -- one more piece
   pub listed_more : {next : Left} {report' : Report} {here : ℕ} (block : List ℕ) (piece : Piece)
       → start ≡ record { block = block; file_start = id.offset == 0; at = 0; failed = false }
-      → TakesPiece depth_limit now next piece
-      → here ≡ id.number + report.games
+      → TakesPiece depth_limit now next piece → here ≡ id.number + report.games
       → AddsPiece aim report report' (game_id here id.offset) block piece
       → Listed aim start next report' id out out' err err'
   listed_more {next} {report'} {here} block piece begins takes is adds = record {
@@ -102,11 +95,9 @@ module _ {aim : Aim} {start now : Left} {report : Report} {id : GameId}
         subst (ArePiecesLeft depth_limit start) (sym (append_assoc l.done (takes.shown ∷ []) more))
         (l.completes (takes.shown ∷ more) (takes.completes more left));
     written =
-        let among =
-        piece_in start next block id.offset l.done takes.shown begins (λ more left.
+        let among = piece_in start next block id.offset l.done takes.shown begins (λ more left.
         l.completes (takes.shown ∷ more) (takes.completes more left)) in
-        let more =
-        gathers_more l.written report' here (marked id.offset takes.shown) (is
+        let more = gathers_more l.written report' here (marked id.offset takes.shown) (is
         ∙ ap (λ n. id.number + n) l.written.games) (adds takes.shown takes.is among) in
         subst (Gathers aim report' out out' err err' id.number)
         (sym (map_push (marked id.offset) l.done takes.shown)) more;
@@ -143,8 +134,7 @@ module _ {aim : Aim} {start now : Left} {report : Report} {id : GameId}
   -- all of them, where none is left
   pub listed_all : (block : List ℕ) → start
       ≡ record { block = block; file_start = id.offset == 0; at = 0; failed = false }
-      → length block ≤ block_limit
-      → (now.failed ≡ true) ⊎ ArePiecesLeft depth_limit now []
+      → length block ≤ block_limit → (now.failed ≡ true) ⊎ ArePiecesLeft depth_limit now []
       → GathersBlock aim report block_limit depth_limit id block out out' err err'
   listed_all block is fits end = record {
     own = map (marked id.offset) l.done;

@@ -2,9 +2,8 @@
 -- line.
 use Rattle.std.proofs.Common.{◌≡◌, ℕ, ◌==◌, List, [], ◌∷◌, ◌++◌, Bor, inl, inr, Option, None, Some}
 use Rattle.std.proofs.Common.{MatchOption, refl, sym, ap, ◌∙◌}
-use Rattle.std.specs.Option.{option_map}
-use Rattle.std.proofs.lemmas.Bool.{cases_Bool, eqb-true, eq-eqb}
-use Rattle.pgn_extract.specs.Private.MarkLines.{rest_after}
+use Rattle.std.proofs.lemmas.Bool.{eq-eqb}
+use Rattle.pgn_extract.proofs.Common.{option_map, cases_Bool, eqb-true, rest_after}
 
 -- a text that begins with the prefix
 follows : (prefix rest : List ℕ) → rest_after prefix (prefix ++ rest) ≡ Some rest

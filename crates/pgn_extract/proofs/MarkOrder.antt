@@ -2,22 +2,20 @@
 use Rattle.std.proofs.Common.{◌≡◌, ℕ, suc, ◌+◌, ◌<◌, ◌||◌, inl, inr, zero, ◌==◌, ◌&&◌}
 use Rattle.std.proofs.Common.{if◌then◌else◌, Bool, true, false, List, [], ◌∷◌, map, length, get_or}
 use Rattle.std.proofs.Common.{Ok, Err, refl, sym, ap, ◌∙◌, subst, arith}
-use Rattle.std.specs.List.{list_any, dedup, dedup_from}
+use Rattle.std.specs.List.{dedup, dedup_from}
 use Rattle.std.specs.List.Sorted.{IsSorted, IsBinarySearchResult, IsPermutation, IsSearchInRange}
 use Rattle.std.specs.List.Sorted.{IsNonDecreasingBy, IsStrictlySortedBy}
 use Rattle.std.specs.Ordering.{nat_cmp, ordering_then, ordering_index, is_lt, eq_by_cmp}
 use Rattle.std.proofs.lemmas.Cmp.{nat_cmp_total, on_total, then_total}
 use Rattle.std.proofs.lemmas.List.Folds.{list_any_at}
-use Rattle.std.proofs.lemmas.Bool.Decides.{nat_tests}
-use Rattle.std.proofs.lemmas.Bool.{cases_lt}
 use Rattle.std.specs.declared.cmp.Ordering.{Ordering}
 use Rattle.std.specs.declared.cmp.Ordering.TheVariants.{Less, Equal, Greater}
 use Rattle.std.proofs.lemmas.List.Sorted.{searchable_from_sorted, list_any-IsPermutation}
 use Rattle.std.proofs.lemmas.List.Kept.{IsStrictlySortedBy-dedup}
 use Rattle.std.proofs.lemmas.Map.Keys.{sorted_tail}
 use Rattle.std.proofs.lemmas.Map.Views.{All-after_first}
-use Rattle.pgn_extract.specs.Private.MarkOrder.{AreInOrder, given_of}
-use Rattle.pgn_extract.specs.Public.Choices.{is_among, is_mark_of}
+use Rattle.pgn_extract.proofs.Common.{list_any, nat_tests, cases_lt, given_of, is_among, is_mark_of}
+use Rattle.pgn_extract.specs.Private.MarkOrder.{AreInOrder}
 use Rattle.pgn_extract.specs.declared.marks.GameId.{GameId}
 
 -- a test of marks, over the pairs that they are made of
@@ -61,10 +59,8 @@ module _ (pairs : List (ℕ × ℕ)) (sorted : AreInOrder pairs) (id : GameId) w
       → is_among (map given_of pairs) id ≡ true
   found at within equal =
       any_of_pairs (is_mark_of id) pairs
-      ∙ list_any_at (λ pair. is_mark_of id (given_of pair)) pairs at (
-        0,
-        0,
-      ) within (passes _ id (equal (0, 0)))
+      ∙ list_any_at (λ pair. is_mark_of id (given_of pair)) pairs at
+      (0, 0) within (passes _ id (equal (0, 0)))
 
   pub not_found : (at : ℕ)
       → IsBinarySearchResult (λ (y : ℕ × ℕ).

@@ -2,23 +2,18 @@
 -- or the exports of their games.
 use Rattle.std.proofs.Common.{◌≡◌, ℕ, ◌+◌, Bool, true, false, if◌then◌else◌, List, [], ◌∷◌, ◌++◌}
 use Rattle.std.proofs.Common.{refl, sym, ap, ◌∙◌, subst, append_assoc, Option}
-use Rattle.pgn_text.specs.Public.Marks.{PieceKind, ReadableGame, UnreadableRest, TooLongBlock}
-use Rattle.pgn_text.specs.Public.Marks.{MarkedPiece}
-use Rattle.pgn_text.specs.Public.GameTexts.{GameText}
-use Rattle.pgn_extract.specs.Public.Choices.{id_of, IfChosen, is_chosen}
-use Rattle.pgn_extract.specs.Public.Index.{index, index_line}
-use Rattle.pgn_extract.specs.Public.Listing.{Entry, entry_line, listing}
-use Rattle.pgn_extract.specs.Private.EntryRows.{AreGameEntries, sound, faulty, ArePieceEntries}
-use Rattle.pgn_extract.specs.Private.EntryRows.{AreEntryRows}
-use Rattle.pgn_extract.specs.Public.Exports.{IsGameExport, sound as exported, faulty as unexported}
-use Rattle.pgn_extract.specs.Public.Exports.{IsPieceExport, AreExports, faulty_text}
+use Rattle.pgn_extract.proofs.Common.{PieceKind, ReadableGame, UnreadableRest, TooLongBlock}
+use Rattle.pgn_extract.proofs.Common.{MarkedPiece, GameText, id_of, IfChosen, is_chosen, index}
+use Rattle.pgn_extract.proofs.Common.{index_line, Entry, entry_line, listing, AreGameEntries}
+use Rattle.pgn_extract.proofs.Common.{ArePieceEntries, AreEntryRows, IsGameExport, IsPieceExport}
+use Rattle.pgn_extract.proofs.Common.{AreExports, faulty_text, Adds, Verdict, SoundGame, FaultyGame}
+use Rattle.pgn_extract.proofs.Common.{output_of, IsReplayed, output_text, IsVerdictIn}
+use Rattle.pgn_extract.proofs.Common.{IsPieceVerdict, AreVerdicts, Aim, GameId}
+use Rattle.pgn_extract.specs.Private.EntryRows.{sound, faulty}
+use Rattle.pgn_extract.specs.Public.Exports.{sound as exported, faulty as unexported}
 use Rattle.pgn_extract.specs.Public.Laws.{RunIndexes, RunExports}
-use Rattle.pgn_extract.specs.Public.Runs.{Adds}
-use Rattle.pgn_extract.specs.Public.Verdicts.{Verdict, SoundGame, FaultyGame, output_of, IsReplayed}
-use Rattle.pgn_extract.specs.Public.Verdicts.{output_text, IsVerdictIn, IsPieceVerdict, AreVerdicts}
-use Rattle.pgn_extract.specs.Public.Aims.{Aim, GameId}
-use Rattle.pgn_extract.specs.declared.settings.Mode.TheVariants as modes
 use Rattle.pgn_extract.proofs.ChoiceFacts.{choice_of}
+use Rattle.pgn_extract.specs.declared.settings.Mode.TheVariants as modes
 
 -- the lines of entries, and then of others
 pub listing-append : (name : Option (List ℕ)) (xs ys : List Entry)
@@ -68,8 +63,7 @@ pub of_pieces : (aim : Aim) → aim.mode ≡ modes.List
     × (output_text verdicts ≡ listing aim.name entries)
 of_pieces aim lists number [] verdicts none = ([], refl, ap output_text none)
 of_pieces aim lists number (piece ∷ more) verdicts (verdict, rest, parted, is, others) =
-    let own =
-    of_taken (is_chosen aim.chosen (id_of number piece)) piece.kind aim lists
+    let own = of_taken (is_chosen aim.chosen (id_of number piece)) piece.kind aim lists
     (id_of number piece) verdict is in
     let later = of_pieces aim lists (number + 1) more rest others in (
       own.0 ++ later.0,
@@ -81,8 +75,7 @@ of_pieces aim lists number (piece ∷ more) verdicts (verdict, rest, parted, is,
 
 -- a game's export
 export_of_game : (aim : Aim) (verdict : Verdict) (id : GameId) (game : GameText)
-    → IsReplayed modes.Export aim id game verdict
-    → IsGameExport aim id game (output_of verdict)
+    → IsReplayed modes.Export aim id game verdict → IsGameExport aim id game (output_of verdict)
 export_of_game aim (SoundGame text) id game (replay, is, written) = exported replay is written
 export_of_game aim (FaultyGame text line note) id game (fault, is, here, noted, written) =
     unexported fault is written
@@ -101,8 +94,7 @@ export_of_piece TooLongBlock aim exports id verdict (note, noted, is) = ap outpu
 -- the exports of pieces in a row
 pub exports_of_pieces : (aim : Aim) → aim.mode ≡ modes.Export
     → (number : ℕ) (pieces : List MarkedPiece) (verdicts : List Verdict)
-    → AreVerdicts aim number pieces verdicts
-    → AreExports aim number pieces (output_text verdicts)
+    → AreVerdicts aim number pieces verdicts → AreExports aim number pieces (output_text verdicts)
 exports_of_pieces aim exports number [] verdicts none = ap output_text none
 exports_of_pieces aim exports number (piece ∷ more) verdicts (verdict, rest, parted, is, others) = (
   output_of verdict,
@@ -127,8 +119,7 @@ indexed_piece TooLongBlock aim indexes id verdict (note, noted, is) = ap output_
 indexed_taken : (taken : Bool) (aim : Aim) → aim.mode ≡ modes.Index
     → (number : ℕ) (piece : MarkedPiece) (verdict : Verdict)
     → IfChosen taken (IsPieceVerdict piece.kind aim (id_of number piece) verdict) (verdict
-    ≡ SoundGame [])
-    → output_of verdict ≡ (if taken then index_line aim.name number piece else [])
+    ≡ SoundGame []) → output_of verdict ≡ (if taken then index_line aim.name number piece else [])
 indexed_taken true aim indexes number piece verdict is =
     indexed_piece piece.kind aim indexes (id_of number piece) verdict is
 indexed_taken false aim indexes number piece verdict none = ap output_of none

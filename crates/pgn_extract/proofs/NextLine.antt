@@ -1,10 +1,9 @@
 -- The line of an entry, and the one of the entry at the next ply.
-use Rattle.std.proofs.Common.{◌≡◌, ℕ, ◌+◌, ◌-◌, ◌/◌, ◌%◌, ◌^◌, ◌<◌, List, [], ◌∷◌, ◌++◌, length}
-use Rattle.std.proofs.Common.{get_or, set, decimal, sym, ap, ◌∙◌, arith, append_assoc}
-use Rattle.std.proofs.Common.{length-append, inl, inr}
 use Rattle.std.proofs.Math.Seq.{get_or-append_seam, set-append_seam}
-use Rattle.std.proofs.lemmas.Bool.{cases_lt}
-use Rattle.std.proofs.lemmas.Fmt.{decimal_digit, decimal_step}
+use Rattle.pgn_extract.proofs.Common.{◌≡◌, ℕ, ◌+◌, ◌-◌, ◌/◌, ◌%◌, ◌^◌, ◌<◌, List, [], ◌∷◌, ◌++◌}
+use Rattle.pgn_extract.proofs.Common.{length, get_or, set, decimal, sym, ap, ◌∙◌, arith}
+use Rattle.pgn_extract.proofs.Common.{append_assoc, length-append, inl, inr, cases_lt}
+use Rattle.pgn_extract.proofs.Common.{decimal_digit, decimal_step}
 
 -- the last digit of a number, if it is not 9, is one less than that of the next number, and the
 -- others are the same

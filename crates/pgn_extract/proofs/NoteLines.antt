@@ -1,30 +1,26 @@
 -- Notes are lines: no text of theirs holds a line feed.
-use Rattle.std.proofs.Common.{◌≡◌, ℕ, ◌+◌, ◌/◌, ◌%◌, ◌<◌, ◌≤◌, Bool, true, false, ◌&&◌, List, []}
-use Rattle.std.proofs.Common.{◌∷◌, ◌++◌, take, drop, length, refl, sym, ap, ◌∙◌, subst, arith, inl}
-use Rattle.std.proofs.Common.{inr, codes, decimal, append_assoc, Option, Some, None}
-use Rattle.std.specs.Prelude.{IsTrue, ◌==◌, nat_le, nat_lt, slice_index, if◌then◌else◌}
-use Rattle.std.specs.List.{list_all}
+use Rattle.std.specs.Prelude.{IsTrue, ◌==◌, nat_lt, slice_index}
 use Rattle.std.proofs.lemmas.Bool.{and_from, and_parts, cases_eq}
-use Rattle.std.proofs.lemmas.Bool.Decides.{nat_tests}
 use Rattle.std.proofs.lemmas.List.{length-take-le}
 use Rattle.std.proofs.lemmas.List.Folds.{list_all-append}
+use Rattle.pgn_extract.proofs.Common.{◌≡◌, ℕ, ◌+◌, ◌/◌, ◌%◌, ◌<◌, ◌≤◌, Bool, true, false, ◌&&◌}
+use Rattle.pgn_extract.proofs.Common.{List, [], ◌∷◌, ◌++◌, take, drop, length, refl, sym, ap, ◌∙◌}
+use Rattle.pgn_extract.proofs.Common.{subst, arith, inl, inr, codes, decimal, append_assoc, Option}
+use Rattle.pgn_extract.proofs.Common.{Some, None, nat_le, if◌then◌else◌, list_all, nat_tests}
+use Rattle.pgn_extract.proofs.Common.{depth_limit, AreDigits, decimal_digits, NamesBlockStop}
+use Rattle.pgn_extract.proofs.Common.{IsNote, NamesByte, NamesStop, AreLines, indented, line_feeds}
+use Rattle.pgn_extract.proofs.Common.{column_after, too_long_text, Origin}
 use Rattle.pgn_text.specs.Public.Bytes.{is_white, is_name_byte, is_not_line_feed, after_run}
-use Rattle.pgn_text.specs.Public.Limits.{depth_limit}
 use Rattle.pgn_text.specs.Public.StopPlaces.{tag_name_of}
 use Rattle.pgn_text.specs.declared.error.error_position.Within.{Within}
 use Rattle.pgn_text.specs.declared.error.error_position.Within.TheVariants.{Comment, Tags, MainLine}
-use Rattle.pgn_text.specs.declared.error.error_position.Within.TheVariants.{TagName, Game}
-use Rattle.pgn_text.specs.declared.error.error_position.Within.TheVariants.{TagValue, Variation}
+use Rattle.pgn_text.specs.declared.error.error_position.Within.TheVariants.{TagName, Game, TagValue}
+use Rattle.pgn_text.specs.declared.error.error_position.Within.TheVariants.{Variation}
 use Rattle.pgn_text.proofs.EachStops.{stop_exists}
 use Rattle.pgn_text.proofs.Fronts.{list_all-run}
-use Rattle.pgn_game.proofs.PlainTokens.{AreDigits, decimal_digits}
-use Rattle.pgn_extract.specs.Private.Blockwise.{NamesBlockStop}
-use Rattle.pgn_extract.specs.Public.Notes.{IsNote, NamesByte, NamesStop, AreLines, indented}
-use Rattle.pgn_extract.specs.Private.NoteTexts.{line_feeds, column_after, position_text, place_in}
-use Rattle.pgn_extract.specs.Private.NoteTexts.{place_text, begin_in, begin_text, hex_digit}
-use Rattle.pgn_extract.specs.Private.NoteTexts.{byte_text, stopper_text, context_text, stop_line}
-use Rattle.pgn_extract.specs.Private.NoteTexts.{IsStopNote, too_long_text}
-use Rattle.pgn_extract.specs.declared.explain.notes.Origin.{Origin}
+use Rattle.pgn_extract.specs.Private.NoteTexts.{position_text, place_in, place_text, begin_in}
+use Rattle.pgn_extract.specs.Private.NoteTexts.{begin_text, hex_digit, byte_text, stopper_text}
+use Rattle.pgn_extract.specs.Private.NoteTexts.{context_text, stop_line, IsStopNote}
 use Rattle.pgn_extract.proofs.StopNotes.{stops_within}
 
 -- a note may say nothing
@@ -260,8 +256,7 @@ stopper_is block place = said_of (place == length block)
 
 -- so a note on bytes that are no game names the byte at which they stop agreeing with games
 pub names_stop : (explain : Bool) (origin : Origin) (block : List ℕ) (begin : ℕ) (note : List ℕ)
-    → begin ≤ length block
-    → (is : IsStopNote origin block begin note)
+    → begin ≤ length block → (is : IsStopNote origin block begin note)
     → NamesBlockStop explain origin.offset block begin note
 names_stop false origin block begin note fits is = tt
 names_stop true origin block begin note fits is =
@@ -272,17 +267,14 @@ names_stop true origin block begin note fits is =
     length-take-le is.place block (omega (arith, inside, is.stops.1)) in
     let context = context_text origin block (is.place == length block) is.within in
     let tail = 10 ∷ [] in
-    let names =
-    names_place origin.line (origin.offset
+    let names = names_place origin.line (origin.offset
     + length (take is.place block)) (take is.place block) said.0 context tail in
     let shaped = 32 ∷ 32
     ∷ (((place_text origin (take is.place block) ++ (codes ": " ++ said.0)) ++ context) ++ tail)
     in
-    let whole : note ≡ shaped =
-    is.says ∙ ap (λ t. 32 ∷ 32
+    let whole : note ≡ shaped = is.says ∙ ap (λ t. 32 ∷ 32
     ∷ (((place_text origin (take is.place block) ++ t) ++ context) ++ tail)) said.1 in
-    let named =
-    subst (NamesByte (origin.offset + is.place)) (sym whole)
+    let named = subst (NamesByte (origin.offset + is.place)) (sym whole)
     (subst (λ n. NamesByte (origin.offset + n) shaped) size names) in
     (is.place, is.stops, named)
 

@@ -1,17 +1,14 @@
 -- A note names one byte at most, and what is no note.
-use Rattle.std.proofs.Common.{◌≡◌, ◌⊎◌, ℕ, ◌+◌, ◌^◌, ◌<◌, List, [], ◌∷◌, ◌++◌, refl, sym, ap, ◌∙◌}
-use Rattle.std.proofs.Common.{arith, inl, inr, codes, decimal, append_assoc}
 use Rattle.std.proofs.lemmas.Fmt.{decimal_injective}
-use Rattle.std.proofs.lemmas.List.{append_cancel_left}
-use Rattle.pgn_game.proofs.PlainTokens.{AreDigits, decimal_digits}
-use Rattle.pgn_game.proofs.Cells.{same_first}
+use Rattle.pgn_extract.proofs.Common.{◌≡◌, ◌⊎◌, ℕ, ◌+◌, ◌^◌, ◌<◌, List, [], ◌∷◌, ◌++◌, refl, sym}
+use Rattle.pgn_extract.proofs.Common.{ap, ◌∙◌, arith, inl, inr, codes, decimal, append_assoc}
+use Rattle.pgn_extract.proofs.Common.{append_cancel_left, AreDigits, decimal_digits, same_first}
 use Rattle.pgn_extract.specs.Public.Laws.{NoNotes, NoteNamesTheStop}
 use Rattle.pgn_extract.specs.Public.Notes.{IsLinePlace, NamesByte, indented}
 
 -- digits end where another byte follows
 digits_once : (c : ℕ) → (c < 48) ⊎ (57 < c) → (xs ys more others : List ℕ) → AreDigits xs
-    → AreDigits ys → xs ++ c ∷ more ≡ ys ++ c ∷ others
-    → (xs ≡ ys) × (more ≡ others)
+    → AreDigits ys → xs ++ c ∷ more ≡ ys ++ c ∷ others → (xs ≡ ys) × (more ≡ others)
 digits_once c other [] [] more others a b e = (refl, cc)
 digits_once c (inl low) [] (y ∷ ys) more others a b e =
     (let is : c ≡ y = cc in let digit = b.0.0 in absurd (omega arith))
@@ -48,8 +45,7 @@ flat offset place after = simp append_assoc refl
 
 -- it is the same after each place
 after_place : (first second : List ℕ) (offset other : ℕ) (more others : List ℕ) → IsLinePlace first
-    → IsLinePlace second
-    → first ++ rest_of offset more ≡ second ++ rest_of other others
+    → IsLinePlace second → first ++ rest_of offset more ≡ second ++ rest_of other others
     → rest_of offset more ≡ rest_of other others
 after_place first second offset other more others (inl none) (inl empty) e =
     sym (ap (λ p. p ++ rest_of offset more) none) ∙ e ∙ ap (λ p. p ++ rest_of other others) empty
@@ -67,36 +63,27 @@ after_place first second offset other more others (inr (line, column, is)) (inl 
 after_place first second offset other more others (inr (line, column, is)) (inr (row, at, also)) e =
     let both : line_and line column (rest_of offset more) ≡ line_and row at (rest_of other others) =
     sym (placed line column (rest_of offset more)) ∙ sym (ap (λ p. p ++ rest_of offset more) is) ∙ e
-    ∙ ap (λ p. p ++ rest_of other others) also
-    ∙ placed row at (rest_of other others) in
-    let lines =
-    append_cancel_left (codes "line ") (decimal line
+    ∙ ap (λ p. p ++ rest_of other others) also ∙ placed row at (rest_of other others) in
+    let lines = append_cancel_left (codes "line ") (decimal line
     ++ (codes ", column " ++ (decimal column ++ (codes ", " ++ rest_of offset more))))
     (decimal row ++ (codes ", column " ++ (decimal at ++ (codes ", " ++ rest_of other others))))
     both in
-    let after_line =
-    (digits_once 44 (inl (omega arith)) (decimal line) (decimal row)
+    let after_line = (digits_once 44 (inl (omega arith)) (decimal line) (decimal row)
     (codes " column " ++ (decimal column ++ (codes ", " ++ rest_of offset more))) (codes " column "
     ++ (decimal at ++ (codes ", " ++ rest_of other others)))
     (decimal_digits line) (decimal_digits row) lines).1 in
-    let columns =
-    append_cancel_left (codes " column ") (decimal column
+    let columns = append_cancel_left (codes " column ") (decimal column
     ++ (codes ", " ++ rest_of offset more)) (decimal at
     ++ (codes ", " ++ rest_of other others)) after_line in
-    let after_column =
-    (digits_once 44 (inl (omega arith)) (decimal column) (decimal at) (codes " "
+    let after_column = (digits_once 44 (inl (omega arith)) (decimal column) (decimal at) (codes " "
     ++ rest_of offset more) (codes " " ++ rest_of other others)
     (decimal_digits column) (decimal_digits at) columns).1 in
     append_cancel_left (codes " ") (rest_of offset more) (rest_of other others) after_column
 
 names_once : (offset other : ℕ) (note : List ℕ) → offset < 2 ^ 64 → other < 2 ^ 64
     → NamesByte offset note → NamesByte other note → offset ≡ other
-names_once offset other note small fits (place, after, is_place, is) (
-  second,
-  rest,
-  also_place,
-  also,
-) =
+names_once offset other note small fits (place, after, is_place, is)
+    (second, rest, also_place, also) =
     let places =
     append_cancel_left (codes "  ") (place ++ rest_of offset after) (second ++ rest_of other rest)
     (sym (flat offset place after) ∙ sym is ∙ also ∙ flat other second rest) in

@@ -1,14 +1,9 @@
 -- The exports of pieces are one text.
-use Rattle.std.proofs.Common.{◌≡◌, ℕ, ◌+◌, List, [], ◌∷◌, ◌++◌, sym, ap, ◌∙◌, subst}
-use Rattle.pgn_text.specs.Public.GameTexts.{GameText, tag_in}
-use Rattle.pgn_text.specs.Public.Marks.{PieceKind, ReadableGame, UnreadableRest, TooLongBlock}
-use Rattle.pgn_game.specs.Public.Replays.{Replay}
-use Rattle.pgn_game.specs.Public.Starts.{fen_tag}
-use Rattle.pgn_game.proofs.OneReplay.{one_replay, no_fault}
-use Rattle.pgn_extract.specs.Public.Aims.{Aim, GameId}
-use Rattle.pgn_extract.specs.Public.Choices.{id_of, is_chosen}
-use Rattle.pgn_extract.specs.Public.Exports.{written_lines, IsWritten, IsGameExport, sound, faulty}
-use Rattle.pgn_extract.specs.Public.Exports.{IsPieceExport}
+use Rattle.pgn_extract.proofs.Common.{◌≡◌, ℕ, ◌+◌, List, [], ◌∷◌, ◌++◌, sym, ap, ◌∙◌, subst}
+use Rattle.pgn_extract.proofs.Common.{GameText, tag_in, PieceKind, ReadableGame, UnreadableRest}
+use Rattle.pgn_extract.proofs.Common.{TooLongBlock, Replay, fen_tag, one_replay, no_fault, Aim}
+use Rattle.pgn_extract.proofs.Common.{GameId, id_of, is_chosen, written_lines, IsWritten}
+use Rattle.pgn_extract.proofs.Common.{IsGameExport, sound, faulty, IsPieceExport}
 use Rattle.pgn_extract.specs.Public.Laws.{TextHasOneExport}
 use Rattle.pgn_extract.proofs.GameExport.{one_game}
 use Rattle.pgn_extract.proofs.OneVerdict.{one_written}
@@ -23,15 +18,11 @@ of_game aim id game x y (sound first is this) (sound second also that) =
     one_written aim id game first x y this
     (subst (λ (r : Replay). IsWritten aim id game r y) same that)
 of_game aim id game x y (sound first is this) (faulty fault also none) =
-    absurd (no_fault (written_lines aim) (tag_in fen_tag game.tags) game.elements fault (
-      first,
-      is,
-    ) also)
+    absurd (no_fault (written_lines aim) (tag_in fen_tag game.tags) game.elements fault
+    (first, is) also)
 of_game aim id game x y (faulty fault is none) (sound second also that) =
-    absurd (no_fault (written_lines aim) (tag_in fen_tag game.tags) game.elements fault (
-      second,
-      also,
-    ) is)
+    absurd (no_fault (written_lines aim) (tag_in fen_tag game.tags) game.elements fault
+    (second, also) is)
 of_game aim id game x y (faulty fault is none) (faulty other also empty) = none ∙ sym empty
 
 of_piece : (kind : PieceKind) (aim : Aim) (id : GameId) (x y : List ℕ) → IsPieceExport aim id kind x
@@ -44,15 +35,9 @@ of_piece TooLongBlock aim id x y a b = a ∙ sym b
 
 pub one_exports : TextHasOneExport
 one_exports aim number [] text other a b = a ∙ sym b
-one_exports aim number (piece ∷ more) text other (own, rest, parted, is, others) (
-  also,
-  later,
-  split,
-  that,
-  those,
-) =
-    let one =
-    by_both (is_chosen aim.chosen (id_of number piece))
+one_exports aim number (piece ∷ more) text other (own, rest, parted, is, others)
+    (also, later, split, that, those) =
+    let one = by_both (is_chosen aim.chosen (id_of number piece))
     (of_piece piece.kind aim (id_of number piece) own also) (λ none also_none. none
     ∙ sym also_none) is that in
     parted ∙ ap (λ t. t ++ rest) one

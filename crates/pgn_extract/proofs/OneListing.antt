@@ -1,21 +1,16 @@
 -- The entries of pieces are one list, and those of the pieces from a mark on are the entries of all
 -- with no lower number.
-use Rattle.std.proofs.Common.{◌≡◌, ℕ, ◌+◌, ◌-◌, ◌≤◌, true, false, suc, List, [], ◌∷◌, ◌++◌, length}
-use Rattle.std.proofs.Common.{refl, sym, ap, ◌∙◌, subst, arith, inl, inr}
 use Rattle.std.specs.Prelude.{nat_le, cond}
-use Rattle.std.specs.List.{Contains, slice_get}
-use Rattle.std.proofs.lemmas.Bool.{cases_lt}
-use Rattle.std.proofs.lemmas.Bool.Decides.{nat_tests}
-use Rattle.pgn_text.specs.Public.Marks.{MarkedPiece}
-use Rattle.pgn_extract.specs.Public.Aims.{Aim}
+use Rattle.pgn_extract.proofs.Common.{◌≡◌, ℕ, ◌+◌, ◌-◌, ◌≤◌, true, false, suc, List, [], ◌∷◌, ◌++◌}
+use Rattle.pgn_extract.proofs.Common.{length, refl, sym, ap, ◌∙◌, subst, arith, inl, inr, Contains}
+use Rattle.pgn_extract.proofs.Common.{slice_get, cases_lt, nat_tests, MarkedPiece, Aim, Entry}
+use Rattle.pgn_extract.proofs.Common.{IsPlyOfGame, IsEarlier, Ascend, AreEntries, entries_at_least}
 use Rattle.pgn_extract.specs.Public.Laws.{PiecesHaveOneListing}
-use Rattle.pgn_extract.specs.Public.Listing.{Entry, IsPlyOfGame, IsEarlier, Ascend, AreEntries}
-use Rattle.pgn_extract.specs.Public.Listing.{entries_at_least}
-use Rattle.pgn_extract.specs.declared.settings.Mode.TheVariants as modes
 use Rattle.pgn_extract.proofs.Chosen.{none_in, in_front}
 use Rattle.pgn_extract.proofs.ExactEntries.{are_entries}
 use Rattle.pgn_extract.proofs.ModeOutputs.{of_pieces}
 use Rattle.pgn_extract.proofs.SomeReport.{some_report}
+use Rattle.pgn_extract.specs.declared.settings.Mode.TheVariants as modes
 
 -- of two entries one at most is earlier
 not_both : (x y : Entry) → IsEarlier x y → IsEarlier y x → ⊥
@@ -71,8 +66,7 @@ one_ascending (x ∷ xs) (y ∷ ys) up also_up there back =
 
 -- the entries of pieces are one list
 pub one_listing : (aim : Aim) (number : ℕ) (pieces : List MarkedPiece) (entries others : List Entry)
-    → AreEntries aim number pieces entries → AreEntries aim number pieces others
-    → entries ≡ others
+    → AreEntries aim number pieces entries → AreEntries aim number pieces others → entries ≡ others
 one_listing aim number pieces entries others are also =
     one_ascending entries others are.ascend also.ascend (λ e has.
     (also.exact e).1 ((are.exact e).0 has)) (λ e has. (are.exact e).1 ((also.exact e).0 has))
@@ -112,8 +106,7 @@ kept_from least (x ∷ xs) e has =
     elim (cases_lt x.id.number least) [
       | inl below ↦
           let out : nat_le least x.id.number ≡ false = grind (arith, nat_tests) in
-          let of =
-          kept_from least xs e
+          let of = kept_from least xs e
           (subst (λ b.
           Contains (cond b (x ∷ entries_at_least least xs) (entries_at_least least xs)) e) out
           has) in

@@ -1,20 +1,10 @@
 -- The main line of a game is one, whichever replay of the game is taken.
-use Rattle.std.proofs.Common.{◌≡◌, ◌↔◌, ℕ, ◌+◌, ◌≤◌, Bool, List, ◌∷◌, ◌++◌, [], length, Option}
-use Rattle.std.proofs.Common.{None, IsTrue, refl, sym, ap, ◌∙◌, subst, arith}
-use Rattle.chess.specs.Public.Positions.{State}
-use Rattle.pgn_text.specs.Public.GameTexts.{GameText, tag_in}
-use Rattle.pgn_game.specs.Public.Faults.{Fault, IsFault}
-use Rattle.pgn_game.specs.Public.MainLines.{main_words, IsMainLine}
-use Rattle.pgn_game.specs.Public.Replays.{Replay, IsReplay}
-use Rattle.pgn_game.specs.declared.replays.replayer.Lines.TheVariants.{Main}
-use Rattle.pgn_game.specs.Public.Starts.{fen_tag}
+use Rattle.pgn_extract.proofs.Common.{◌≡◌, ◌↔◌, ℕ, ◌+◌, ◌≤◌, Bool, List, ◌∷◌, ◌++◌, [], length}
+use Rattle.pgn_extract.proofs.Common.{Option, None, IsTrue, refl, sym, ap, ◌∙◌, subst, arith, State}
+use Rattle.pgn_extract.proofs.Common.{GameText, tag_in, Fault, IsFault, main_words, IsMainLine}
+use Rattle.pgn_extract.proofs.Common.{Replay, IsReplay, Main, fen_tag, Conditions, heading_of, Aim}
+use Rattle.pgn_extract.proofs.Common.{IsMet, HasEntry, IsOfGame, Stands}
 use Rattle.pgn_game.proofs.OneReplay.{line_length, no_fault, one_line, one_start}
-use Rattle.pgn_criteria.specs.Public.Conditions.{Conditions}
-use Rattle.pgn_criteria.specs.Public.Meeting.{heading_of}
-use Rattle.pgn_extract.specs.Public.Aims.{Aim, IsMet}
-use Rattle.pgn_extract.specs.Public.Exports.{HasEntry}
-use Rattle.pgn_extract.specs.Private.Finding.{IsOfGame}
-use Rattle.pgn_extract.specs.Private.Lines.{Stands}
 
 -- the main line of a game is the same in each replay
 pub one_main : (game : GameText) (replay other : Replay) → IsOfGame game replay

@@ -1,19 +1,12 @@
 -- With games as they stand, each piece is in one of three exports: with an entry, without one, or
 -- faulty.
-use Rattle.std.proofs.Common.{◌≡◌, ℕ, List, subst}
-use Rattle.pgn_text.specs.Public.GameTexts.{GameText, tag_in}
-use Rattle.pgn_text.specs.Public.Marks.{ReadableGame, UnreadableRest, TooLongBlock}
-use Rattle.pgn_game.specs.Public.Exports.{lines_with}
-use Rattle.pgn_game.specs.Public.Replays.{Replay}
-use Rattle.pgn_game.specs.Public.Starts.{fen_tag}
-use Rattle.pgn_game.proofs.OneReplay.{one_replay, no_fault}
-use Rattle.pgn_extract.specs.Public.Aims.{Aim, GameId}
-use Rattle.pgn_extract.specs.Public.Exports.{as_it_stands, IsWritten, selected, unselected}
-use Rattle.pgn_extract.specs.Public.Exports.{IsGameExport, sound, faulty}
-use Rattle.pgn_extract.specs.Public.Laws.{as_they_stand, IsInOneOf, in_first, in_second, in_third}
-use Rattle.pgn_extract.specs.Public.Laws.{PieceIsInOneExport}
+use Rattle.pgn_extract.proofs.Common.{◌≡◌, ℕ, List, subst, GameText, tag_in, ReadableGame}
+use Rattle.pgn_extract.proofs.Common.{UnreadableRest, TooLongBlock, lines_with, Replay, fen_tag}
+use Rattle.pgn_extract.proofs.Common.{one_replay, no_fault, Aim, GameId, as_it_stands, IsWritten}
+use Rattle.pgn_extract.proofs.Common.{selected, unselected, IsGameExport, sound, faulty, IsInOneOf}
+use Rattle.pgn_extract.proofs.Common.{in_first, in_second, in_third, Matching, Others, Faulty}
+use Rattle.pgn_extract.specs.Public.Laws.{as_they_stand, PieceIsInOneExport}
 use Rattle.pgn_extract.proofs.GameExport.{one_game}
-use Rattle.pgn_extract.specs.declared.settings.Select.TheVariants.{Matching, Others, Faulty}
 
 module _ (aim : Aim) (id : GameId) (game : GameText) where
   -- a sound game has an entry or none, and is not faulty
@@ -34,8 +27,7 @@ module _ (aim : Aim) (id : GameId) (game : GameText) where
 
   game_in_one : (x y z : List ℕ) → IsGameExport (as_they_stand Matching aim) id game x
       → IsGameExport (as_they_stand Others aim) id game y
-      → IsGameExport (as_they_stand Faulty aim) id game z
-      → IsInOneOf (as_it_stands game.text) x y z
+      → IsGameExport (as_they_stand Faulty aim) id game z → IsInOneOf (as_it_stands game.text) x y z
   game_in_one x y z (sound replay is a) (sound other also b) (sound third same c) =
       let lines = lines_with aim.style.variations in
       let second : other ≡ replay =

@@ -1,9 +1,7 @@
 -- The pieces of a text are reported in only one way, but for the notes.
-use Rattle.std.proofs.Common.{ℕ, List, sym, ◌∙◌}
-use Rattle.pgn_text.specs.Public.Marks.{MarkedPiece}
-use Rattle.pgn_extract.specs.Public.Aims.{Aim}
+use Rattle.pgn_extract.proofs.Common.{ℕ, List, sym, ◌∙◌, MarkedPiece, Aim, Verdict, AreVerdicts}
+use Rattle.pgn_extract.proofs.Common.{IsSameReport}
 use Rattle.pgn_extract.specs.Public.Laws.{TextHasOneReport}
-use Rattle.pgn_extract.specs.Public.Verdicts.{Verdict, AreVerdicts, IsSameReport}
 use Rattle.pgn_extract.proofs.OneVerdict.{all_one_verdict, bare_verdicts}
 
 pub same_report : (aim : Aim) (number : ℕ) (pieces : List MarkedPiece) (xs ys : List Verdict)

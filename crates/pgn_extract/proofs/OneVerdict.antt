@@ -1,38 +1,24 @@
 -- A piece is reported in one way in a mode, but for its note: its game has one replay or one fault,
 -- and one export.
-use Rattle.std.proofs.Common.{◌≡◌, ℕ, ◌+◌, false, List, [], ◌∷◌, map, sym, ap, ◌∙◌, subst, refl}
-use Rattle.std.proofs.Common.{codes}
-use Rattle.pgn_text.specs.Public.GameTexts.{GameText, tag_in}
-use Rattle.pgn_text.specs.Public.Marks.{PieceKind, ReadableGame, UnreadableRest, TooLongBlock}
-use Rattle.pgn_text.specs.Public.Marks.{MarkedPiece}
-use Rattle.pgn_text.specs.Public.Parts.{Part}
-use Rattle.pgn_game.specs.Public.Faults.{Fault}
+use Rattle.pgn_extract.proofs.Common.{◌≡◌, ℕ, ◌+◌, false, List, [], ◌∷◌, map, sym, ap, ◌∙◌, subst}
+use Rattle.pgn_extract.proofs.Common.{refl, codes, GameText, tag_in, PieceKind, ReadableGame}
+use Rattle.pgn_extract.proofs.Common.{UnreadableRest, TooLongBlock, MarkedPiece, Part, Fault}
+use Rattle.pgn_extract.proofs.Common.{Replay, fen_tag, heading_of, Form, Standard, AsItStands, Line}
+use Rattle.pgn_extract.proofs.Common.{Record, line_with, IsTextOf, IsWritten, selected, unselected}
+use Rattle.pgn_extract.proofs.Common.{faulty_text, fault_text, AreFields, listing, plies_of}
+use Rattle.pgn_extract.proofs.Common.{cause_text, IsNote, Verdict, SoundGame, FaultyGame}
+use Rattle.pgn_extract.proofs.Common.{AreEntryLines, IsOutput, IsReplayed, IsReplayedGame}
+use Rattle.pgn_extract.proofs.Common.{replayed_lines, IsVerdictIn, IsReportedBy, IsPieceVerdict}
+use Rattle.pgn_extract.proofs.Common.{AreVerdicts, without_note, IsUnreadableVerdict, Aim, GameId}
+use Rattle.pgn_extract.proofs.Common.{IsEntry, id_of, is_chosen, Mode}
 use Rattle.pgn_game.proofs.OneReplay.{one_replay, one_fault, no_fault}
-use Rattle.pgn_game.specs.Public.Replays.{Replay}
-use Rattle.pgn_game.specs.Public.Starts.{fen_tag}
 use Rattle.pgn_game.proofs.GameLineFacts.{one_game_line}
 use Rattle.pgn_game.proofs.OneExport.{one_export}
 use Rattle.pgn_game.proofs.SomeRecord.{one_spelling}
-use Rattle.pgn_criteria.specs.Public.Meeting.{heading_of}
-use Rattle.pgn_extract.specs.declared.settings.Form.{Form}
-use Rattle.pgn_extract.specs.declared.settings.Form.TheVariants.{Standard, AsItStands, Line, Record}
-use Rattle.pgn_extract.specs.Public.Exports.{line_with, IsTextOf, IsWritten, selected, unselected}
-use Rattle.pgn_extract.specs.Public.Exports.{faulty_text}
-use Rattle.pgn_extract.specs.Public.Index.{fault_text}
-use Rattle.pgn_extract.specs.Public.Listing.{AreFields, listing}
-use Rattle.pgn_extract.specs.Public.GameReports.{plies_of, cause_text}
-use Rattle.pgn_extract.specs.Public.Notes.{IsNote}
-use Rattle.pgn_extract.specs.Public.Verdicts.{Verdict, SoundGame, FaultyGame, AreEntryLines}
-use Rattle.pgn_extract.specs.Public.Verdicts.{IsOutput, IsReplayed, IsReplayedGame, replayed_lines}
-use Rattle.pgn_extract.specs.Public.Verdicts.{IsVerdictIn, IsReportedBy, IsPieceVerdict}
-use Rattle.pgn_extract.specs.Public.Verdicts.{AreVerdicts, without_note, IsUnreadableVerdict}
-use Rattle.pgn_extract.specs.Public.Aims.{Aim, GameId, IsEntry}
-use Rattle.pgn_extract.specs.Public.Choices.{id_of, is_chosen}
 use Rattle.pgn_extract.proofs.ChoiceFacts.{by_both, by_choice}
 use Rattle.pgn_extract.proofs.Chosen.{one_chosen}
 use Rattle.pgn_extract.proofs.FieldTexts.{one_text as one_fields}
 use Rattle.pgn_extract.proofs.GameExport.{one_game}
-use Rattle.pgn_extract.specs.declared.settings.Mode.{Mode}
 use Rattle.pgn_extract.specs.declared.settings.Mode.TheVariants as modes
 
 -- the text of a game
@@ -42,8 +28,7 @@ one_text Standard aim id game x y first second = one_export aim.style game x y f
 one_text AsItStands aim id game x y first second = first ∙ sym second
 one_text (Line notation) aim id game x y (own, is, first) (other, also, second) =
     first ∙ ap (line_with aim.name id)
-    (one_game_line notation (tag_in fen_tag game.tags) game.elements own other is also)
-    ∙ sym second
+    (one_game_line notation (tag_in fen_tag game.tags) game.elements own other is also) ∙ sym second
 one_text Record aim id game x y first second =
     one_spelling aim.name id.number id.offset game x y first second
 
@@ -52,10 +37,8 @@ pub one_written : (aim : Aim) (id : GameId) (game : GameText) (replay : Replay) 
     → IsWritten aim id game replay x → IsWritten aim id game replay y → x ≡ y
 one_written aim id game replay x y (selected is first) (selected also second) =
     one_text aim.form aim id game x y first second
-one_written aim id game replay x y (selected is first) (unselected none second) =
-    absurd (none is)
-one_written aim id game replay x y (unselected none first) (selected is second) =
-    absurd (none is)
+one_written aim id game replay x y (selected is first) (unselected none second) = absurd (none is)
+one_written aim id game replay x y (unselected none first) (selected is second) = absurd (none is)
 one_written aim id game replay x y (unselected none first) (unselected also second) =
     first ∙ sym second
 
@@ -65,13 +48,11 @@ one_lines : (aim : Aim) (id : GameId) (game : GameText) (replay : Replay) (x y :
 one_lines aim id game replay x y (xs, these, first) (ys, those, second) =
     first ∙ ap (listing aim.name)
     (one_chosen id (IsEntry aim (heading_of game) replay) (AreFields aim.fields replay)
-    (one_fields aim.fields replay) (plies_of 0 replay.positions) xs ys these those)
-    ∙ sym second
+    (one_fields aim.fields replay) (plies_of 0 replay.positions) xs ys these those) ∙ sym second
 
 -- what goes to the output of it
 one_output : (mode : Mode) (aim : Aim) (id : GameId) (game : GameText) (replay : Replay)
-    (x y : List ℕ)
-    → IsOutput mode aim id game replay x → IsOutput mode aim id game replay y → x ≡ y
+    (x y : List ℕ) → IsOutput mode aim id game replay x → IsOutput mode aim id game replay y → x ≡ y
 one_output modes.Index aim id game replay x y first second =
     one_lines aim id game replay x y first second
 one_output modes.List aim id game replay x y first second =
@@ -95,46 +76,23 @@ reported_by aim offset bytes line v (note, noted, names, is) = (note, noted, is)
 one_replayed : (mode : Mode) (aim : Aim) (id : GameId) (game : GameText) (a b : Verdict)
     → IsReplayed mode aim id game a → IsReplayed mode aim id game b
     → without_note a ≡ without_note b
-one_replayed mode aim id game (SoundGame x) (SoundGame y) (first, is, text) (
-  second,
-  also,
-  other,
-) =
+one_replayed mode aim id game (SoundGame x) (SoundGame y) (first, is, text) (second, also, other) =
     let of : second ≡ first =
     one_replay (replayed_lines mode aim) (tag_in fen_tag game.tags) game.elements second first
     also is in
     ap SoundGame
     (one_output mode aim id game first x y text
     (subst (λ (r : Replay). IsOutput mode aim id game r y) of other))
-one_replayed mode aim id game (SoundGame x) (FaultyGame z y v) (first, is, text) (
-  second,
-  also,
-  other,
-  noted,
-  written,
-) =
-    absurd (no_fault (replayed_lines mode aim) (tag_in fen_tag game.tags) game.elements second (
-      first,
-      is,
-    ) also)
-one_replayed mode aim id game (FaultyGame w x u) (SoundGame y) (
-  first,
-  is,
-  text,
-  note,
-  out,
-) (second, also, other) =
-    absurd (no_fault (replayed_lines mode aim) (tag_in fen_tag game.tags) game.elements first (
-      second,
-      also,
-    ) is)
-one_replayed mode aim id game (FaultyGame w x u) (FaultyGame z y v) (
-  first,
-  is,
-  text,
-  note,
-  out,
-) (second, also, other, noted, written) =
+one_replayed mode aim id game (SoundGame x) (FaultyGame z y v) (first, is, text)
+    (second, also, other, noted, written) =
+    absurd (no_fault (replayed_lines mode aim) (tag_in fen_tag game.tags) game.elements second
+    (first, is) also)
+one_replayed mode aim id game (FaultyGame w x u) (SoundGame y)
+    (first, is, text, note, out) (second, also, other) =
+    absurd (no_fault (replayed_lines mode aim) (tag_in fen_tag game.tags) game.elements first
+    (second, also) is)
+one_replayed mode aim id game (FaultyGame w x u) (FaultyGame z y v)
+    (first, is, text, note, out) (second, also, other, noted, written) =
     ap (λ (t : List ℕ). FaultyGame t x []) (out ∙ sym written)
     ∙ ap (λ (l : List ℕ). FaultyGame z l [])
     (text ∙ ap (λ (f : Fault). fault_text aim.name id (cause_text f))
@@ -158,8 +116,7 @@ one_in modes.Export aim id parts a b x y = one_of_parts modes.Export aim id part
 
 -- a piece
 one_verdict : (kind : PieceKind) (aim : Aim) (id : GameId) (a b : Verdict)
-    → IsPieceVerdict kind aim id a → IsPieceVerdict kind aim id b
-    → without_note a ≡ without_note b
+    → IsPieceVerdict kind aim id a → IsPieceVerdict kind aim id b → without_note a ≡ without_note b
 one_verdict (ReadableGame parts) aim id a b x y = one_in aim.mode aim id parts a b x y
 one_verdict (UnreadableRest bytes) aim id a b x y =
     one_line aim (faulty_text aim.mode aim.select bytes)
@@ -173,15 +130,9 @@ pub all_one_verdict : (aim : Aim) (number : ℕ) (pieces : List MarkedPiece) (xs
     → AreVerdicts aim number pieces xs → AreVerdicts aim number pieces ys
     → map without_note xs ≡ map without_note ys
 all_one_verdict aim number [] xs ys x y = ap (map without_note) (x ∙ sym y)
-all_one_verdict aim number (piece ∷ more) xs ys (a, rest, parted, is, others) (
-  b,
-  last,
-  split,
-  also,
-  later,
-) =
-    let one =
-    by_both (is_chosen aim.chosen (id_of number piece))
+all_one_verdict aim number (piece ∷ more) xs ys (a, rest, parted, is, others)
+    (b, last, split, also, later) =
+    let one = by_both (is_chosen aim.chosen (id_of number piece))
     (one_verdict piece.kind aim (id_of number piece) a b) (λ none also_none.
     ap without_note (none ∙ sym also_none)) is also in
     ap (map without_note) parted ∙ ap (λ t. t ∷ map without_note rest) one
@@ -221,8 +172,7 @@ module _ (aim : Aim) (plain : aim.explain ≡ false) where
       → AreVerdicts aim number pieces verdicts → map without_note verdicts ≡ verdicts
   bare_verdicts number [] verdicts none = ap (map without_note) none ∙ sym none
   bare_verdicts number (piece ∷ more) verdicts (own, rest, parted, is, others) =
-      let one =
-      by_choice (is_chosen aim.chosen (id_of number piece)) (λ _.
+      let one = by_choice (is_chosen aim.chosen (id_of number piece)) (λ _.
       bare_piece piece.kind (id_of number piece) own) (λ _ none. ap without_note none
       ∙ sym none) is in
       ap (map without_note) parted ∙ ap (λ t. t ∷ map without_note rest) one

@@ -1,32 +1,24 @@
 -- Where each sound game of a text is packed, each of its records has a spelling, and so what is
 -- exported is the pack of the text.
-use Rattle.std.proofs.Common.{◌≡◌, ℕ, ◌+◌, ◌^◌, ◌<◌, ◌≤◌, ◌==◌, Bool, List, [], ◌∷◌, ◌++◌, map}
-use Rattle.std.proofs.Common.{length, drop, Option, Some, refl, sym, ap, ◌∙◌, subst, append_assoc}
-use Rattle.std.proofs.Common.{length-append, length-drop, arith}
-use Rattle.std.specs.List.{AllByRecursion}
-use Rattle.std.proofs.lemmas.Bool.Decides.{nat_tests}
 use Rattle.std.specs.Prelude.{true, nat_le, IfSome, IsTrue}
-use Rattle.pgn_text.specs.Public.GameTexts.{GameText, ShowsGame}
-use Rattle.pgn_text.specs.Public.Limits.{block_limit, depth_limit, largest_offset}
-use Rattle.pgn_text.specs.Public.Marks.{PieceKind, ReadableGame, UnreadableRest, TooLongBlock}
-use Rattle.pgn_text.specs.Public.Marks.{MarkedPiece, marked, AreOfBlock, over, within, AreOfBlocks}
-use Rattle.pgn_text.specs.Public.Marks.{AreMarkedPieces}
-use Rattle.pgn_text.specs.Public.Parts.{Part, spelled}
-use Rattle.pgn_text.specs.Public.Pieces.{Piece, Game, Unreadable, ArePieces}
-use Rattle.pgn_text.proofs.MarkBounds.{mark_bounds}
+use Rattle.pgn_extract.proofs.Common.{◌≡◌, ℕ, ◌+◌, ◌^◌, ◌<◌, ◌≤◌, ◌==◌, Bool, List, [], ◌∷◌, ◌++◌}
+use Rattle.pgn_extract.proofs.Common.{map, length, drop, Option, Some, refl, sym, ap, ◌∙◌, subst}
+use Rattle.pgn_extract.proofs.Common.{append_assoc, length-append, length-drop, arith}
+use Rattle.pgn_extract.proofs.Common.{AllByRecursion, nat_tests, GameText, ShowsGame, block_limit}
+use Rattle.pgn_extract.proofs.Common.{depth_limit, largest_offset, PieceKind, ReadableGame}
+use Rattle.pgn_extract.proofs.Common.{UnreadableRest, TooLongBlock, MarkedPiece, marked, AreOfBlock}
+use Rattle.pgn_extract.proofs.Common.{over, within, AreOfBlocks, AreMarkedPieces, Part, spelled}
+use Rattle.pgn_extract.proofs.Common.{Piece, Game, Unreadable, mark_bounds, PackedGame, FitsRecord}
+use Rattle.pgn_extract.proofs.Common.{job_of, Completes, AreGameRecords, ArePieceRecords}
+use Rattle.pgn_extract.proofs.Common.{AreRecords, IsPackOf, IsGameOf, game_id, id_of}
+use Rattle.pgn_text.specs.Public.Pieces.{ArePieces}
 use Rattle.pgn_game.proofs.PackRoom.{game_fits}
-use Rattle.pgn_game.specs.Public.PackedGames.{PackedGame, FitsRecord, longest_name, is_origin}
-use Rattle.pgn_game.specs.Public.PackedGames.{is_shown_name}
+use Rattle.pgn_game.specs.Public.PackedGames.{longest_name, is_origin, is_shown_name}
 use Rattle.pgn_extract.specs.Public.Laws.{PackIsListedAsItsText}
-use Rattle.pgn_extract.specs.Public.Runs.{job_of, Completes}
 use Rattle.pgn_extract.proofs.ModeOutputs.{run_exports}
-use Rattle.pgn_extract.specs.Public.Searching.{AreGameRecords, sound, faulty, ArePieceRecords}
-use Rattle.pgn_extract.specs.Public.Searching.{AreRecords, IsPackOf, PackedTextIsAPack}
-use Rattle.pgn_extract.specs.Public.Listing.{IsGameOf}
+use Rattle.pgn_extract.specs.Public.Searching.{sound, faulty, PackedTextIsAPack}
 use Rattle.pgn_extract.proofs.PackTaken.{pieces_records}
 use Rattle.pgn_extract.specs.declared.marks.GameId.{GameId}
-use Rattle.pgn_extract.specs.Public.GivenMarks.{game_id}
-use Rattle.pgn_extract.specs.Public.Choices.{id_of}
 
 both_parts : {X : Type 0} (P : X → Type 0) (xs ys : List X) → AllByRecursion P xs
     → AllByRecursion P ys → AllByRecursion P (xs ++ ys)
@@ -43,38 +35,23 @@ abbrev IsSmall : MarkedPiece → Type 0
 IsSmall piece = IsSmallKind piece.kind
 
 small_pieces : (max_depth offset : ℕ) (file_start : Bool) (before : List ℕ) (pieces : List Piece)
-    (text : List ℕ) → length text ≤ block_limit
-    → ArePieces max_depth file_start before pieces text
+    (text : List ℕ) → length text ≤ block_limit → ArePieces max_depth file_start before pieces text
     → AllByRecursion IsSmall (map (marked offset) pieces)
 small_pieces max_depth offset file_start before [] text bounded are = tt
-small_pieces max_depth offset file_start before (Game at parts ∷ more) text bounded (
-  gap,
-  after,
-  parted,
-  longest,
-  here,
-  is_game,
-  others,
-) =
+small_pieces max_depth offset file_start before (Game at parts ∷ more) text bounded
+    (gap, after, parted, longest, here, is_game, others) =
     let size = ap length parted ∙ length-append (spelled gap) (spelled parts ++ after) in
     let rest = length-append (spelled parts) after in (
       omega arith,
       small_pieces max_depth offset file_start ((before ++ spelled gap)
           ++ spelled parts) more after (omega arith) others,
     )
-small_pieces max_depth offset file_start before (Unreadable at bytes ∷ more) text bounded (
-  gap,
-  parted,
-  longest,
-  here,
-  some,
-  no_game,
-  none,
-) = (
-  tt,
-  subst (λ (pieces : List Piece).
-      AllByRecursion IsSmall (map (marked offset) pieces)) (sym none) tt,
-)
+small_pieces max_depth offset file_start before (Unreadable at bytes ∷ more) text bounded
+    (gap, parted, longest, here, some, no_game, none) = (
+      tt,
+      subst (λ (pieces : List Piece).
+          AllByRecursion IsSmall (map (marked offset) pieces)) (sym none) tt,
+    )
 
 small_of_block : (max_depth offset : ℕ) (block : List ℕ) (marks : List MarkedPiece)
     → AreOfBlock block_limit max_depth offset block marks → AllByRecursion IsSmall marks
@@ -120,8 +97,7 @@ record_fits name id parts game made records short number_fits offset_fits origin
 piece_fits : (name : Option (List ℕ)) (id : GameId) (kind : PieceKind) (records : List PackedGame)
     → IfSome name (λ own. length own ≤ longest_name)
     → id.number < 2 ^ 64 → id.offset < 2 ^ 64 → IsTrue (is_origin id.number id.offset name)
-    → IsSmallKind kind → ArePieceRecords name kind id records
-    → AllByRecursion FitsRecord records
+    → IsSmallKind kind → ArePieceRecords name kind id records → AllByRecursion FitsRecord records
 piece_fits name id (ReadableGame parts) records short number_fits offset_fits origin small
     (game, made, are) =
     record_fits name id parts game made records short number_fits offset_fits origin small are
@@ -144,8 +120,7 @@ pieces_fit name number max_depth offset text before (piece
     ∷ more) records short shown counted few bounded each small (own, rest, parted, here, others) =
     let bounds = mark_bounds block_limit max_depth offset text before piece more each in
     let origin = is_met_there (id_of number piece) name counted (omega (arith, bounds.1)) shown in
-    let first =
-    piece_fits name (id_of number piece) piece.kind own short
+    let first = piece_fits name (id_of number piece) piece.kind own short
     (omega (arith, bounds.0, bounds.1)) (omega (arith, bounds.1)) origin small.0 here in
     let next : AreMarkedPieces block_limit max_depth offset text ((before ++ piece ∷ []) ++ more) =
     subst (AreMarkedPieces block_limit max_depth offset text)

@@ -1,35 +1,24 @@
 -- The listing of a pack is that of the text that was packed, and its index is that of the sound
 -- games.
-use Rattle.std.proofs.Common.{◌≡◌, ◌⊎◌, ℕ, ◌+◌, inl, inr, List, [], ◌∷◌, ◌++◌, Option, refl, sym}
-use Rattle.std.proofs.Common.{ap, ap₂, ◌∙◌, subst, append_assoc, append-nil}
-use Rattle.pgn_text.specs.Public.GameTexts.{GameText, IsGameText, tag_in}
-use Rattle.pgn_text.specs.Public.Marks.{PieceKind, ReadableGame, UnreadableRest, TooLongBlock}
-use Rattle.pgn_text.specs.Public.Marks.{MarkedPiece}
-use Rattle.pgn_text.specs.Public.Parts.{Part}
-use Rattle.pgn_game.proofs.OneReplay.{no_fault}
+use Rattle.pgn_extract.proofs.Common.{◌≡◌, ◌⊎◌, ℕ, ◌+◌, inl, inr, List, [], ◌∷◌, ◌++◌, Option, refl}
+use Rattle.pgn_extract.proofs.Common.{sym, ap, ap₂, ◌∙◌, subst, append_assoc, append-nil, GameText}
+use Rattle.pgn_extract.proofs.Common.{IsGameText, tag_in, PieceKind, ReadableGame, UnreadableRest}
+use Rattle.pgn_extract.proofs.Common.{TooLongBlock, MarkedPiece, Part, no_fault, PackedGame}
+use Rattle.pgn_extract.proofs.Common.{IsPacked, pack_bytes, fen_tag, Main, heading_of, Aim, GameId}
+use Rattle.pgn_extract.proofs.Common.{AreGameEntries, ArePieceEntries, AreEntryRows, AreListed}
+use Rattle.pgn_extract.proofs.Common.{IsReplayOf, mark_line, Entry, AreEntries, IsGameOf, listing}
+use Rattle.pgn_extract.proofs.Common.{AreGameRecords, AreRecordLines, IsSoundPiece, AreRecords}
+use Rattle.pgn_extract.proofs.Common.{IsPackOf, of_all, ArePieceRecords, IsRecordListing}
+use Rattle.pgn_extract.proofs.Common.{ArePackLines, BeginsWithRecords, IsIndexOfSoundGames, Mode}
+use Rattle.pgn_extract.proofs.Common.{game_id, id_of}
 use Rattle.pgn_game.proofs.PackOnce.{one_pack}
-use Rattle.pgn_game.specs.Public.PackedGames.{PackedGame, IsPacked, pack_bytes}
-use Rattle.pgn_game.specs.Public.Starts.{fen_tag}
-use Rattle.pgn_game.specs.declared.replays.replayer.Lines.TheVariants.{Main}
-use Rattle.pgn_criteria.specs.Public.Meeting.{heading_of}
-use Rattle.pgn_extract.specs.Public.Aims.{Aim, GameId}
-use Rattle.pgn_extract.specs.Private.EntryRows.{AreGameEntries, ArePieceEntries, AreEntryRows}
 use Rattle.pgn_extract.specs.Private.EntryRows.{sound as sound_rows, faulty as faulty_rows}
-use Rattle.pgn_extract.specs.Public.GameReports.{AreListed, IsReplayOf}
-use Rattle.pgn_extract.specs.Public.Index.{mark_line}
-use Rattle.pgn_extract.specs.Public.Listing.{Entry, AreEntries, IsGameOf, listing}
-use Rattle.pgn_extract.specs.Public.Searching.{AreGameRecords, faulty, AreRecordLines, IsSoundPiece}
-use Rattle.pgn_extract.specs.Public.Searching.{sound, AreRecords, IsPackOf, keep, leave, of_all}
-use Rattle.pgn_extract.specs.Public.Searching.{ArePieceRecords, IsRecordListing, none as no_pieces}
-use Rattle.pgn_extract.specs.Public.Searching.{ArePackLines, BeginsWithRecords, IsIndexOfSoundGames}
-use Rattle.pgn_extract.specs.declared.settings.Mode.{Mode}
-use Rattle.pgn_extract.specs.declared.settings.Mode.TheVariants as modes
+use Rattle.pgn_extract.specs.Public.Searching.{faulty, sound, keep, leave, none as no_pieces}
 use Rattle.pgn_extract.proofs.ExactEntries.{are_entries}
 use Rattle.pgn_extract.proofs.GameExport.{one_game}
 use Rattle.pgn_extract.proofs.ModeOutputs.{listing-append}
 use Rattle.pgn_extract.proofs.OneListing.{one_listing}
-use Rattle.pgn_extract.specs.Public.GivenMarks.{game_id}
-use Rattle.pgn_extract.specs.Public.Choices.{id_of}
+use Rattle.pgn_extract.specs.declared.settings.Mode.TheVariants as modes
 
 -- the lines of records, and then of others
 lines_cut : (aim : Aim) (own rest : List PackedGame) (text : List ℕ)
@@ -41,8 +30,7 @@ lines_cut aim (packed ∷ more) rest text (lines, others, parted, of, listed) =
     let cut = lines_cut aim more rest others listed in (
       lines ++ cut.0,
       cut.1,
-      parted ∙ ap (λ t. lines ++ t) cut.2
-          ∙ sym (append_assoc lines cut.0 cut.1),
+      parted ∙ ap (λ t. lines ++ t) cut.2 ∙ sym (append_assoc lines cut.0 cut.1),
       (lines, cut.0, refl, of, cut.3),
       cut.4,
     )
@@ -96,8 +84,7 @@ game_rows aim list name id game good own text (faulty fault is none) listed =
 
 piece_rows : (aim : Aim) → aim.mode ≡ modes.List
     → (name : Option (List ℕ)) (kind : PieceKind) (id : GameId) (own : List PackedGame)
-    (text : List ℕ)
-    → ArePieceRecords name kind id own → ArePackLines aim own text
+    (text : List ℕ) → ArePieceRecords name kind id own → ArePackLines aim own text
     → (rows : List Entry) × ArePieceEntries (of_all aim) kind id rows × (text ≡ listing name rows)
 piece_rows aim list name (ReadableGame parts) id own text (game, made, are) listed =
     let rows = game_rows aim list name id game made.0 own text are listed in
@@ -109,8 +96,7 @@ piece_rows aim list name TooLongBlock id own text none listed =
 
 all_rows : (aim : Aim) → aim.mode ≡ modes.List
     → (name : Option (List ℕ)) (number : ℕ) (pieces : List MarkedPiece) (records : List PackedGame)
-    (text : List ℕ)
-    → AreRecords name number pieces records → ArePackLines aim records text
+    (text : List ℕ) → AreRecords name number pieces records → ArePackLines aim records text
     → (rows : List Entry) × AreEntryRows (of_all aim) number pieces rows
     × (text ≡ listing name rows)
 all_rows aim list name number [] records text none listed =
@@ -144,8 +130,7 @@ pub packed_listing : (aim : Aim) → aim.mode ≡ modes.List
     → text ≡ listing name entries
 packed_listing aim list whole records text read name number pieces pack entries are =
     let same = same_records aim whole records text read name number pieces pack in
-    let rows =
-    all_rows aim list name number pieces records text
+    let rows = all_rows aim list name number pieces records text
     (subst (AreRecords name number pieces) same pack.are) read.lines in
     rows.2 ∙ ap (listing name)
     (one_listing (of_all aim) number pieces rows.0 entries
@@ -209,19 +194,13 @@ one_before name number piece more line text (inr (bad, is)) rest =
 
 sound_index : (aim : Aim) → aim.mode ≡ modes.Index
     → (name : Option (List ℕ)) (number : ℕ) (pieces : List MarkedPiece) (records : List PackedGame)
-    (text : List ℕ)
-    → AreRecords name number pieces records → ArePackLines aim records text
+    (text : List ℕ) → AreRecords name number pieces records → ArePackLines aim records text
     → IsIndexOfSoundGames name number pieces text
 sound_index aim index name number [] records text empty lines =
     subst (IsIndexOfSoundGames name number [])
     (sym (subst (λ r. ArePackLines aim r text) empty lines)) (no_pieces number)
-sound_index aim index name number (piece ∷ more) records text (
-  own,
-  rest,
-  parted,
-  here,
-  others,
-) lines =
+sound_index aim index name number (piece ∷ more) records text
+    (own, rest, parted, here, others) lines =
     let cut = lines_cut aim own rest text (subst (λ r. ArePackLines aim r text) parted lines) in
     subst (IsIndexOfSoundGames name number (piece ∷ more)) (sym cut.2)
     (one_before name number piece more cut.0 cut.1

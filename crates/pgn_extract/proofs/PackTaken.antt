@@ -1,37 +1,24 @@
 -- Where each sound game is packed, what is exported of pieces is the records of these games.
-use Rattle.std.proofs.Common.{◌≡◌, ℕ, ◌+◌, ◌<◌, List, [], ◌∷◌, ◌++◌, length, Option, refl, sym, ap}
-use Rattle.std.proofs.Common.{◌∙◌, subst, append-nil, arith}
-use Rattle.std.proofs.lemmas.List.Concat.{flat_map-append}
-use Rattle.pgn_text.specs.Public.GameTexts.{GameText}
-use Rattle.pgn_text.specs.Public.Marks.{PieceKind, ReadableGame, UnreadableRest, TooLongBlock}
-use Rattle.pgn_text.specs.Public.Marks.{MarkedPiece}
-use Rattle.pgn_game.proofs.OneReplay.{line_length}
-use Rattle.pgn_game.specs.Public.MainLines.{main_words}
-use Rattle.pgn_game.specs.Public.PackedGames.{PackedGame, record_bytes, pack_bytes}
-use Rattle.pgn_game.specs.Public.Replays.{Replay}
-use Rattle.pgn_game.specs.declared.replays.replayer.Lines.{Lines}
-use Rattle.pgn_game.specs.declared.replays.replayer.Lines.TheVariants.{Main}
-use Rattle.pgn_criteria.specs.Public.Meeting.{Heading, heading_of}
-use Rattle.pgn_criteria.specs.Public.Conditions.{Conditions}
-use Rattle.pgn_extract.specs.Public.Aims.{Aim, GameId, IsMet}
-use Rattle.pgn_extract.specs.Public.Exports.{HasEntry, IsSelected, IsWritten, selected, unselected}
-use Rattle.pgn_extract.specs.Public.Exports.{IsTextOf, sound as exported, faulty as unexported}
-use Rattle.pgn_extract.specs.Public.Exports.{IsPieceExport, AreExports, faulty_text, lines_in}
-use Rattle.pgn_extract.specs.Public.Choices.{id_of, is_chosen}
-use Rattle.pgn_extract.specs.Public.GameReports.{IsReplayOf, IsFaultOf}
-use Rattle.pgn_extract.specs.Public.Searching.{AreGameRecords, sound, faulty, ArePieceRecords}
-use Rattle.pgn_extract.specs.Public.Searching.{AreRecords, PacksAll}
-use Rattle.pgn_extract.specs.declared.settings.Form.{Form}
-use Rattle.pgn_extract.specs.declared.settings.Mode.TheVariants as modes
-use Rattle.pgn_extract.specs.declared.settings.Select.{Select}
+use Rattle.pgn_extract.proofs.Common.{◌≡◌, ℕ, ◌+◌, ◌<◌, List, [], ◌∷◌, ◌++◌, length, Option, refl}
+use Rattle.pgn_extract.proofs.Common.{sym, ap, ◌∙◌, subst, append-nil, arith, flat_map-append}
+use Rattle.pgn_extract.proofs.Common.{GameText, PieceKind, ReadableGame, UnreadableRest}
+use Rattle.pgn_extract.proofs.Common.{TooLongBlock, MarkedPiece, line_length, main_words}
+use Rattle.pgn_extract.proofs.Common.{PackedGame, record_bytes, pack_bytes, Replay, Lines, Main}
+use Rattle.pgn_extract.proofs.Common.{Heading, heading_of, Conditions, Aim, GameId, IsMet, HasEntry}
+use Rattle.pgn_extract.proofs.Common.{IsSelected, IsWritten, selected, unselected, IsTextOf}
+use Rattle.pgn_extract.proofs.Common.{IsPieceExport, AreExports, faulty_text, lines_in, id_of}
+use Rattle.pgn_extract.proofs.Common.{is_chosen, IsReplayOf, IsFaultOf, AreGameRecords}
+use Rattle.pgn_extract.proofs.Common.{ArePieceRecords, AreRecords, PacksAll, Form, Select}
+use Rattle.pgn_extract.specs.Public.Exports.{sound as exported, faulty as unexported}
+use Rattle.pgn_extract.specs.Public.Searching.{sound, faulty}
 use Rattle.pgn_extract.proofs.ChoiceFacts.{when_taken}
+use Rattle.pgn_extract.specs.declared.settings.Mode.TheVariants as modes
 
 -- the first position of a game is an entry
 has_first : (packing : Aim) (tags : Heading) (replay : Replay) → PacksAll packing
     → 0 < length replay.positions → HasEntry packing tags replay
 has_first packing tags replay all some =
-    let met =
-    subst (λ (criteria : Option (List Conditions)).
+    let met = subst (λ (criteria : Option (List Conditions)).
     IsMet criteria tags replay 0) (sym all.criteria) (record {}) in (
       0,
       some,
@@ -54,8 +41,7 @@ is_selected packing game replay all is =
 
 -- the record of a sound game
 sound_record : (packing : Aim) (id : GameId) (game : GameText) (replay : Replay) (text : List ℕ)
-    → PacksAll packing → IsReplayOf Main game replay
-    → IsWritten packing id game replay text
+    → PacksAll packing → IsReplayOf Main game replay → IsWritten packing id game replay text
     → (records : List PackedGame) × AreGameRecords packing.name id game records
     × (text ≡ pack_bytes records)
 sound_record packing id game replay text all is (selected entry of) =
@@ -82,8 +68,7 @@ piece_records : (packing : Aim) (id : GameId) (kind : PieceKind) (text : List �
     → (records : List PackedGame) × ArePieceRecords packing.name kind id records
     × (text ≡ pack_bytes records)
 piece_records packing id (ReadableGame parts) text all (game, made, exported replay is written) =
-    let own =
-    sound_record packing id game replay text all
+    let own = sound_record packing id game replay text all
     (subst (λ (lines : Lines). IsReplayOf lines game replay) (main_alone packing all) is)
     written in
     (own.0, (game, made, own.1), own.2)
@@ -109,8 +94,7 @@ pieces_records packing number [] bytes all none = ([], refl, none)
 pieces_records packing number (piece ∷ more) bytes all (own, rest, parted, here, others) =
     let taken =
     ap (λ (chosen : Option (List GameId)). is_chosen chosen (id_of number piece)) all.chosen in
-    let first =
-    piece_records packing (id_of number piece) piece.kind own all
+    let first = piece_records packing (id_of number piece) piece.kind own all
     (when_taken (is_chosen packing.chosen (id_of number piece)) _ taken here) in
     let later = pieces_records packing (number + 1) more rest all others in (
       first.0 ++ later.0,

@@ -1,39 +1,21 @@
 -- What is known of the games that have a record.
-use Rattle.std.proofs.Common.{◌≡◌, ◌⊎◌, ℕ, ◌+◌, ◌*◌, inl, inr, List, [], ◌∷◌, ◌++◌, length, Some}
-use Rattle.std.proofs.Common.{sym, ap, ◌∙◌, subst, append-nil, arith}
 use Rattle.std.specs.Prelude.{◌==◌, ◌/◌, ◌%◌}
-use Rattle.std.specs.List.{slice_get}
-use Rattle.std.proofs.lemmas.Option.{same_Some}
-use Rattle.chess.specs.Public.Positions.{State}
-use Rattle.chess.specs.declared.moves.Move.{Move}
-use Rattle.pgn_text.specs.Public.GameTexts.{GameText, tag_in}
-use Rattle.pgn_game.specs.Public.MainLines.{main_words, IsMainLine}
-use Rattle.pgn_game.specs.Public.PackReading.{RawRecord, raw_of}
-use Rattle.pgn_game.specs.Public.PackedGames.{PackedGame, FitsRecord}
-use Rattle.pgn_game.specs.Public.PlyCodes.{AreMarks}
-use Rattle.pgn_game.specs.Public.Replays.{Replay}
-use Rattle.pgn_game.specs.Public.Starts.{fen_tag, IsStart}
-use Rattle.pgn_game.specs.declared.replays.replayer.Lines.TheVariants.{Main}
-use Rattle.pgn_game.proofs.HeadFacts.{head_shows}
-use Rattle.pgn_game.proofs.OneReplay.{one_start, one_replay, line_length}
+use Rattle.pgn_extract.proofs.Common.{◌≡◌, ◌⊎◌, ℕ, ◌+◌, ◌*◌, inl, inr, List, [], ◌∷◌, ◌++◌, length}
+use Rattle.pgn_extract.proofs.Common.{Some, sym, ap, ◌∙◌, subst, append-nil, arith, slice_get}
+use Rattle.pgn_extract.proofs.Common.{same_Some, State, Move, GameText, tag_in, main_words}
+use Rattle.pgn_extract.proofs.Common.{IsMainLine, RawRecord, raw_of, PackedGame, FitsRecord}
+use Rattle.pgn_extract.proofs.Common.{AreMarks, Replay, fen_tag, IsStart, Main, head_shows}
+use Rattle.pgn_extract.proofs.Common.{one_start, one_replay, line_length, same_rest, heading_of}
+use Rattle.pgn_extract.proofs.Common.{Sight, IsSightOf, Aim, IsEntry, AreListed, Entry, AreFields}
+use Rattle.pgn_extract.proofs.Common.{listing, named_mark, HandsOn, marked_lines, raw_id}
+use Rattle.pgn_extract.proofs.Common.{IsOfRecord, HasNoText, EachOfRecord, NoneInRecord, record_aim}
+use Rattle.pgn_extract.proofs.Common.{AreRecordLines, IsOfNoGame, IsRecordListing, Mode}
 use Rattle.pgn_game.proofs.RecordFacts.{plies_size}
 use Rattle.pgn_game.proofs.RecordWriting.{codes_count}
-use Rattle.pgn_game.proofs.Cells.{same_rest}
-use Rattle.pgn_criteria.specs.Public.Meeting.{heading_of}
-use Rattle.pgn_criteria.specs.Public.Walks.{Sight, IsSightOf}
-use Rattle.pgn_extract.specs.Public.Aims.{Aim, IsEntry}
-use Rattle.pgn_extract.specs.Public.GameReports.{AreListed}
-use Rattle.pgn_extract.specs.Public.Listing.{Entry, AreFields, listing}
-use Rattle.pgn_extract.specs.Private.Finding.{named_mark}
-use Rattle.pgn_extract.specs.Private.Lines.{HandsOn, marked_lines}
-use Rattle.pgn_extract.specs.Private.Packed.{raw_id, PutsRecord, IsOfRecord, HasNoText, HasItsMarks}
-use Rattle.pgn_extract.specs.Private.Packed.{EachOfRecord, Grows, ListsRecord, NoneInRecord}
-use Rattle.pgn_extract.specs.Private.Packed.{record_aim}
-use Rattle.pgn_extract.specs.Public.Searching.{AreRecordLines, IsOfNoGame, IsRecordListing}
-use Rattle.pgn_extract.specs.declared.settings.Mode.{Mode}
-use Rattle.pgn_extract.specs.declared.settings.Mode.TheVariants as modes
+use Rattle.pgn_extract.specs.Private.Packed.{PutsRecord, HasItsMarks, Grows, ListsRecord}
 use Rattle.pgn_extract.proofs.Finds.{adds_lines}
 use Rattle.pgn_extract.proofs.Picks.{leaves_all}
+use Rattle.pgn_extract.specs.declared.settings.Mode.TheVariants as modes
 
 -- ---- the start
 
@@ -170,8 +152,7 @@ leaves_record raw none packed fits shows game replay text is_replay kept =
 
 -- the bytes of the plies are three for each
 pub plies_counted : {raw : RawRecord} {game : GameText} {replay : Replay} {packed : PackedGame}
-    → IsOfRecord raw game replay packed
-    → length replay.positions ≡ length raw.plies / 3 + 1
+    → IsOfRecord raw game replay packed → length replay.positions ≡ length raw.plies / 3 + 1
 plies_counted {raw} {game} {replay} {packed} own =
     let size =
     line_length own.is_replay.start (main_words game.elements 0) replay.positions replay.played

@@ -1,13 +1,9 @@
 -- What is reported of the two parts of a text, cut at a mark, is what is reported of the whole.
-use Rattle.std.proofs.Common.{◌≡◌, ◌+◌, ◌-◌, List, ◌∷◌, length, take, drop, sym, ap, ◌∙◌, subst}
-use Rattle.std.proofs.Common.{arith}
-use Rattle.pgn_text.specs.Public.Marks.{MarkedPiece, AreMarkedPieces}
-use Rattle.pgn_text.proofs.FrontText.{front_of_text}
-use Rattle.pgn_text.proofs.MarkedPieces.{one_marked_pieces}
+use Rattle.pgn_extract.proofs.Common.{◌≡◌, ◌+◌, ◌-◌, List, ◌∷◌, length, take, drop, sym, ap, ◌∙◌}
+use Rattle.pgn_extract.proofs.Common.{subst, arith, MarkedPiece, AreMarkedPieces, front_of_text}
+use Rattle.pgn_extract.proofs.Common.{one_marked_pieces, AreVerdicts, game_id}
 use Rattle.pgn_extract.specs.Public.Laws.{AreJoined, PartsAreReported}
-use Rattle.pgn_extract.specs.Public.Verdicts.{AreVerdicts}
 use Rattle.pgn_extract.proofs.JoinedParts.{parts_join}
-use Rattle.pgn_extract.specs.Public.GivenMarks.{game_id}
 
 pub parts_reported : PartsAreReported
 parts_reported aim limit max_depth id text pieces first second all front rest plain each mark are

@@ -1,17 +1,10 @@
 -- Plies of a game that are left, and criteria that are asked in place of others.
-use Rattle.std.proofs.Common.{◌≡◌, ◌↔◌, ℕ, zero, suc, ◌+◌, ◌<◌, ◌≤◌, List, [], ◌∷◌, length, drop}
-use Rattle.std.proofs.Common.{Option, Some, None, sym, subst, inl, arith}
-use Rattle.std.specs.Prelude.{IfSome}
-use Rattle.chess.specs.Public.Positions.{State}
-use Rattle.pgn_game.specs.Public.Replays.{Replay}
-use Rattle.pgn_text.specs.Public.GameTexts.{GameText}
-use Rattle.pgn_criteria.specs.Public.Meeting.{Heading, heading_of, Meets}
-use Rattle.pgn_criteria.specs.Public.Conditions.{Conditions, no_conditions}
-use Rattle.pgn_extract.specs.Public.Aims.{Aim, GameId, IsMet}
-use Rattle.pgn_extract.specs.Private.Finding.{IsOfGame, AsksFor}
-use Rattle.pgn_extract.specs.Public.Listing.{Entry}
-use Rattle.pgn_extract.specs.Public.GameReports.{plies_of, AreChosen}
-use Rattle.pgn_extract.specs.Public.GameReports.AreChosen.{none, leave}
+use Rattle.pgn_extract.proofs.Common.{◌≡◌, ◌↔◌, ℕ, zero, suc, ◌+◌, ◌<◌, ◌≤◌, List, [], ◌∷◌, length}
+use Rattle.pgn_extract.proofs.Common.{drop, Option, Some, None, sym, subst, inl, arith, IfSome}
+use Rattle.pgn_extract.proofs.Common.{State, Replay, GameText, Heading, heading_of, Meets}
+use Rattle.pgn_extract.proofs.Common.{Conditions, Aim, GameId, IsMet, IsOfGame, AsksFor, Entry}
+use Rattle.pgn_extract.proofs.Common.{plies_of, AreChosen, none, leave}
+use Rattle.pgn_criteria.specs.Public.Conditions.{no_conditions}
 use Rattle.pgn_extract.proofs.FieldTexts.{some_position}
 
 module _ (id : GameId) (P : ℕ → Type 0) (S : ℕ → List ℕ → Type 0) where
@@ -51,8 +44,7 @@ dropped (suc count) (position ∷ more) =
 
 -- what is looked for in place of criteria that are given
 pub same_met : (tags : Heading) (replay : Replay) (criteria : Option (List Conditions))
-    (alternatives others : List Conditions) (ply : ℕ)
-    → criteria ≡ Some alternatives
+    (alternatives others : List Conditions) (ply : ℕ) → criteria ≡ Some alternatives
     → (Meets tags replay ply others ↔ Meets tags replay ply alternatives)
     → IsMet (Some others) tags replay ply ↔ IsMet criteria tags replay ply
 same_met tags replay criteria alternatives others ply is same =
@@ -70,16 +62,14 @@ asks_alike aim game alternatives others given alike replay own ply within =
 -- of each replay of the game the same plies are met
 abbrev pub AsksAlike : GameText → List Conditions → List Conditions → Type 0
 AsksAlike game alternatives others =
-    (replay : Replay) → IsOfGame game replay → (ply : ℕ)
-    → Meets (heading_of game) replay ply others
+    (replay : Replay) → IsOfGame game replay → (ply : ℕ) → Meets (heading_of game) replay ply others
     ↔ Meets (heading_of game) replay ply alternatives
 
 -- so what is watched for in place of criteria that are given asks for them
 pub asks_given : (aim : Aim) (game : GameText) (alternatives : List Conditions)
     (watched : Option (List Conditions))
     (others : List Conditions) → aim.criteria ≡ Some alternatives → watched ≡ Some others
-    → IfSome watched (AsksAlike game alternatives)
-    → AsksFor aim game others
+    → IfSome watched (AsksAlike game alternatives) → AsksFor aim game others
 asks_given aim game alternatives watched others given is alike replay own ply within =
     let here : AsksAlike game alternatives others =
     subst (λ o. IfSome o (AsksAlike game alternatives)) is alike in

@@ -1,41 +1,28 @@
 -- A line that is played stands at a position of the game, and goes on by a move.
-use Rattle.std.proofs.Common.{◌≡◌, ◌+◌, ℕ, List, [], ◌∷◌, ◌++◌, length, Option, None, true, false}
-use Rattle.std.proofs.Common.{Bool, refl, sym, ap, ◌∙◌, subst, append_assoc, append-nil}
-use Rattle.std.proofs.Common.{length-append, inr, arith, Some}
-use Rattle.chess.specs.Public.Positions.{State}
-use Rattle.chess.specs.declared.moves.Move.{Move}
-use Rattle.pgn_text.specs.Public.GameTexts.{GameText, tag_in}
-use Rattle.pgn_text.specs.Public.Games.{Item}
+use Rattle.std.specs.Prelude.{codes}
+use Rattle.pgn_extract.proofs.Common.{◌≡◌, ◌+◌, ℕ, List, [], ◌∷◌, ◌++◌, length, Option, None, true}
+use Rattle.pgn_extract.proofs.Common.{false, Bool, refl, sym, ap, ◌∙◌, subst, append_assoc}
+use Rattle.pgn_extract.proofs.Common.{append-nil, length-append, inr, arith, Some, State, Move}
+use Rattle.pgn_extract.proofs.Common.{GameText, tag_in, Item, IsMainLine, main_words, Replay}
+use Rattle.pgn_extract.proofs.Common.{IsReplay, fen_tag, Main, heading_of, SomeHold, Conditions}
+use Rattle.pgn_extract.proofs.Common.{Aim, AsksFor, ShowsPosition, ShowsNext, Stands, GoesTo}
+use Rattle.pgn_extract.proofs.Common.{NoneAfter, Where, ShowsFields, HasFault, IsNeverMet, Fails}
+use Rattle.pgn_extract.proofs.Common.{aim_with, AreFields, IsFenField, IsNextMove, IsNextField}
+use Rattle.pgn_extract.proofs.Common.{Fields, slice_get, MatchOption, after, IsSan, one_start}
 use Rattle.pgn_game.specs.Public.Faults.{Fault, IsMoveFault, IsFault}
-use Rattle.pgn_game.specs.Public.MainLines.{IsMainLine, main_words}
 use Rattle.pgn_game.specs.Public.PlayedLines.{PlayedLine, PlaysWord, HasEnded, HasAdvanced, IsBegun}
-use Rattle.pgn_game.specs.Public.Replays.{Replay, IsReplay, IsSomeReplay}
-use Rattle.pgn_game.specs.Public.Starts.{fen_tag}
-use Rattle.pgn_game.specs.declared.replays.replayer.Lines.TheVariants.{Main}
-use Rattle.pgn_criteria.specs.Public.Meeting.{heading_of, SomeHold}
-use Rattle.pgn_criteria.specs.Public.Conditions.{Conditions}
-use Rattle.pgn_extract.specs.Public.Aims.{Aim}
-use Rattle.pgn_extract.specs.Private.Finding.{AsksFor, IsPlayedTo, ShowsHere, StopsInLine}
-use Rattle.pgn_extract.specs.Private.Lines.{Stands, GoesTo, NoneAfter, Where, ShowsFields, HasFault}
-use Rattle.pgn_extract.specs.Private.Lines.{IsNeverMet, Fails, aim_with}
-use Rattle.pgn_extract.specs.Public.Listing.{AreFields, IsFenField, IsNextMove, IsNextField}
-use Rattle.pgn_extract.specs.declared.settings.Fields.{Fields}
+use Rattle.pgn_game.specs.Public.PlayedLines.{IsNextText}
+use Rattle.pgn_game.specs.Public.Replays.{IsSomeReplay}
+use Rattle.pgn_extract.specs.Private.Finding.{IsPlayedTo, ShowsHere, StopsInLine, GoesOnWith}
 use Rattle.pgn_extract.specs.declared.entries.finding.Finder.{Finder}
 use Rattle.pgn_extract.specs.Private.PlayedLines.{IsPlayedWith}
 use Rattle.pgn_extract.proofs.Finds.{at_seam}
 use Rattle.pgn_extract.proofs.PackedFacts.{line_begins}
-use Rattle.std.specs.List.{slice_get}
-use Rattle.std.specs.Prelude.{MatchOption, codes}
-use Rattle.chess.specs.Public.Moves.{after}
-use Rattle.chess.specs.Public.San.{IsSan}
-use Rattle.pgn_game.specs.Public.PlayedLines.{IsNextText}
-use Rattle.pgn_game.proofs.OneReplay.{one_move, one_start}
-use Rattle.pgn_extract.specs.Private.Finding.{GoesOnWith, ShowsPosition, ShowsNext}
+use Rattle.pgn_game.proofs.OneReplay.{one_move}
 
 -- what is left after one more move
 goes_after : {old new : PlayedLine} (word : PlaysWord old new) (before positions : List State)
-    (played all : List Move)
-    → GoesOnWith old before played positions all
+    (played all : List Move) → GoesOnWith old before played positions all
     → GoesOnWith new (before ++ old.position ∷ []) (played ++ word.m ∷ []) positions all
 goes_after {old} {new} word before positions played all (later, more, line, positions_is, all_is) =
     let split : IsMainLine old.position (word.word ∷ new.words) later more =
@@ -113,8 +100,7 @@ played_on {fen} {items} {old} {new} {before} {played} to word = record {
 -- after the last
 pub played_all : {fen : Option (List ℕ)} {items : List Item} {line : PlayedLine}
     {before : List State} {played : List Move}
-    → IsPlayedTo fen items line before played → line.words ≡ []
-    → IsReplay Main fen items
+    → IsPlayedTo fen items line before played → line.words ≡ [] → IsReplay Main fen items
     (record { positions = before ++ line.position ∷ []; played = played; turns = [] })
 played_all {fen} {items} {line} {before} {played} to ends = record {
   start = to.start;
@@ -141,11 +127,8 @@ next_left : (P : State) (words : List (List ℕ)) (later : List State) (more : L
     → IsNextText P words text → IsNextMove later more 0 text
 next_left P [] later more text line is =
     subst (λ (ms : List Move). IsNextMove later ms 0 text) (sym line.1) is
-next_left P (word ∷ words) later more text (m, rest, others, later_is, more_is, named, line) (
-  own,
-  also,
-  spells,
-) =
+next_left P (word ∷ words) later more text (m, rest, others, later_is, more_is, named, line)
+    (own, also, spells) =
     subst (λ (ms : List Move). IsNextMove later ms 0 text) (sym more_is) (
       P,
       ap (λ ps. slice_get ps 0) later_is,
@@ -159,8 +142,7 @@ at_end (first ∷ before) more = at_end before more
 
 -- after so many positions and moves it is the move at their ply
 next_after : (before later : List State) (played more : List Move) (text : List ℕ)
-    → length played ≡ length before
-    → IsNextMove later more 0 text
+    → length played ≡ length before → IsNextMove later more 0 text
     → IsNextMove (before ++ later) (played ++ more) (length before) text
 next_after before later played more text same is =
     let move : slice_get (played ++ more) (length before) ≡ slice_get more 0 =
@@ -184,8 +166,7 @@ left_of {fen} {items} to replay (lines, is) =
 next_there : (next : Bool) {fen : Option (List ℕ)} {items : List Item} {line : PlayedLine}
     {before : List State} {played : List Move}
     → IsPlayedTo fen items line before played → (replay : Replay) → IsSomeReplay fen items replay
-    → (shown : List ℕ)
-    → ShowsNext next line shown → IsNextField next replay (length before) shown
+    → (shown : List ℕ) → ShowsNext next line shown → IsNextField next replay (length before) shown
 next_there false to replay own shown bare = bare
 next_there true {line = line} {before = before} {played =
     played} to replay own shown (text, of, whole) =
@@ -204,8 +185,7 @@ next_there true {line = line} {before = before} {played =
 pub shows_there : (fields : Fields) {fen : Option (List ℕ)} {items : List Item} {line : PlayedLine}
     {before : List State} {played : List Move}
     → IsPlayedTo fen items line before played → (replay : Replay) → IsSomeReplay fen items replay
-    → (rest : List State)
-    → replay.positions ≡ before ++ line.position ∷ rest → (shown : List ℕ)
+    → (rest : List State) → replay.positions ≡ before ++ line.position ∷ rest → (shown : List ℕ)
     → ShowsHere fields line shown → AreFields fields replay (length before) shown
 shows_there fields {line = line} {before =
     before} to replay own rest is shown (fen, next, of_fen, of_next, whole) = (
@@ -302,8 +282,7 @@ shows_fields fields line asked shown here aim game before P at same replay own r
 
 -- so is the fault of its next move, where something is added already
 pub fails_at : (line : PlayedLine) (asked : List Conditions) (old some mid new : List ℕ)
-    → mid ≡ old ++ some
-    → (fault : Fault) → StopsInLine line mid new fault
+    → mid ≡ old ++ some → (fault : Fault) → StopsInLine line mid new fault
     → Where (λ aim game before P. IsPlayedWith line asked aim game before P) (HasFault fault)
     × (more : List ℕ) × (new ≡ old ++ more)
 fails_at line asked old some mid new added fault (met, more, is) = (
@@ -341,11 +320,9 @@ never_met line asked none aim game before P at replay own rest is n low within m
 
 -- a fault from the start on is that of the game
 pub fails_at_start : (finder : Finder) (game : GameText) (line : PlayedLine)
-    (asked : List Conditions)
-    → IsPlayedWith line asked (aim_with finder None) game [] line.position
+    (asked : List Conditions) → IsPlayedWith line asked (aim_with finder None) game [] line.position
     → (Grew : Type 0) (fault : Fault)
-    → Fails (λ aim own before P. IsPlayedWith line asked aim own before P) finder fault
-    × Grew
+    → Fails (λ aim own before P. IsPlayedWith line asked aim own before P) finder fault × Grew
     → IsFault Main (tag_in fen_tag game.tags) game.elements fault × Grew
 fails_at_start finder game line asked at Grew fault (fails, grew) =
     (fails None game line.position at, grew)

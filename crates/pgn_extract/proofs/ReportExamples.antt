@@ -1,38 +1,24 @@
 -- What the definitions of a report refuse, and what they make of small texts.
-use Rattle.std.proofs.Common.{◌≡◌, ◌++◌, ℕ, true, false, List, [], ◌∷◌, Option, Some, None, arith}
-use Rattle.std.proofs.Common.{codes, count_by, decimal, length, ap, subst, refl, ◌∙◌}
-use Rattle.std.proofs.lemmas.Fmt.{decimal_digit}
 use Rattle.std.specs.declared.io.ErrorKind.TheVariants.{NotFound}
-use Rattle.chess.specs.Public.Positions.{State}
-use Rattle.pgn_text.specs.Public.GameTexts.{GameText}
-use Rattle.pgn_text.specs.Public.Marks.{ReadableGame, TooLongBlock, UnreadableRest}
-use Rattle.pgn_text.specs.Public.Parts.{Part}
-use Rattle.pgn_game.specs.Public.Faults.{AmbiguousMove, BadStart, IllegalMove}
-use Rattle.pgn_game.specs.Public.Replays.{Replay}
-use Rattle.pgn_game.specs.declared.exports.style.Style.{Style}
-use Rattle.pgn_game.specs.declared.replays.replayer.Lines.TheVariants.{All, Main}
-use Rattle.pgn_extract.specs.Public.Aims.{Aim, GameId}
-use Rattle.pgn_extract.specs.Public.Exports.{HasEntry, IsWritten, lines_in, selected, unselected}
-use Rattle.pgn_extract.specs.Public.Exports.{IsPieceExport, IsSelected, faulty_text, written_lines}
-use Rattle.pgn_extract.specs.Public.Choices.{is_chosen}
-use Rattle.pgn_extract.specs.Public.GameReports.{AreListed, cause_text}
-use Rattle.pgn_extract.specs.Public.Index.{fault_text, index, mark, mark_line}
-use Rattle.pgn_extract.specs.Public.Listing.{AreFields, Entry, IsFenField, IsNextField, IsNextMove}
-use Rattle.pgn_extract.specs.Public.Listing.{listing}
-use Rattle.pgn_extract.specs.Public.Outcomes.{Writes}
-use Rattle.pgn_extract.specs.Public.Several.{AreOfPaths, AtPath, FileOf, IsOfPath, IsOpened, IsRead}
-use Rattle.pgn_extract.specs.Public.Several.{IsRefused, NoFile, Order, name_at, own_summary}
-use Rattle.pgn_extract.specs.Public.Several.{summary_text}
-use Rattle.pgn_extract.specs.Public.Verdicts.{FaultyGame, IsReplayed, output_text, replayed_lines}
-use Rattle.pgn_extract.specs.Public.Verdicts.{IsOutput, IsVerdict, SoundGame, Verdict, is_faulty}
+use Rattle.pgn_extract.proofs.Common.{◌≡◌, ◌++◌, ℕ, true, false, List, [], ◌∷◌, Option, Some, None}
+use Rattle.pgn_extract.proofs.Common.{arith, codes, count_by, decimal, length, ap, subst, refl, ◌∙◌}
+use Rattle.pgn_extract.proofs.Common.{decimal_digit, State, GameText, ReadableGame, TooLongBlock}
+use Rattle.pgn_extract.proofs.Common.{UnreadableRest, Part, AmbiguousMove, IllegalMove, Replay}
+use Rattle.pgn_extract.proofs.Common.{Style, All, Main, Aim, GameId, HasEntry, IsWritten, lines_in}
+use Rattle.pgn_extract.proofs.Common.{selected, unselected, IsPieceExport, IsSelected, faulty_text}
+use Rattle.pgn_extract.proofs.Common.{written_lines, is_chosen, AreListed, cause_text, fault_text}
+use Rattle.pgn_extract.proofs.Common.{index, mark, mark_line, AreFields, Entry, IsFenField}
+use Rattle.pgn_extract.proofs.Common.{IsNextField, IsNextMove, listing, Writes, AreOfPaths, AtPath}
+use Rattle.pgn_extract.proofs.Common.{FileOf, IsOfPath, IsRead, IsRefused, NoFile, Order, name_at}
+use Rattle.pgn_extract.proofs.Common.{own_summary, summary_text, FaultyGame, IsReplayed}
+use Rattle.pgn_extract.proofs.Common.{output_text, replayed_lines, IsOutput, IsVerdict, SoundGame}
+use Rattle.pgn_extract.proofs.Common.{Verdict, is_faulty, AsItStands, Record, Standard, Mode}
+use Rattle.pgn_extract.proofs.Common.{heading_of, Faulty, Matching, game_id}
+use Rattle.pgn_game.specs.Public.Faults.{BadStart}
+use Rattle.pgn_extract.specs.Public.Several.{IsOpened}
 use Rattle.pgn_extract.proofs.ChoiceFacts.{when_taken}
 use Rattle.pgn_extract.proofs.TwoFiles.{plain}
-use Rattle.pgn_extract.specs.declared.settings.Form.TheVariants.{AsItStands, Record, Standard}
-use Rattle.pgn_extract.specs.declared.settings.Mode.{Mode}
 use Rattle.pgn_extract.specs.declared.settings.Mode.TheVariants as modes
-use Rattle.pgn_criteria.specs.Public.Meeting.{heading_of}
-use Rattle.pgn_extract.specs.declared.settings.Select.TheVariants.{Faulty, Matching}
-use Rattle.pgn_extract.specs.Public.GivenMarks.{game_id}
 
 -- ---- lines
 
@@ -127,8 +113,7 @@ no_fault_unsaid mode aim id game text note (fault, first, is, noted, written) = 
 -- all lines that are written must be sound in the export alone
 lines_that_are_replayed : (aim : Aim)
     → replayed_lines modes.Index aim ∷ replayed_lines modes.List aim
-    ∷ replayed_lines modes.Export aim ∷ []
-    ≡ Main ∷ Main ∷ written_lines aim ∷ []
+    ∷ replayed_lines modes.Export aim ∷ [] ≡ Main ∷ Main ∷ written_lines aim ∷ []
 lines_that_are_replayed aim = refl
 
 -- where no entry is listed, nothing goes to the output
@@ -189,8 +174,7 @@ summary_counts : (order : Order) (name text output report : List ℕ) → order.
       met = read.summary.met;
     })
 summary_counts order name text output report asked named read =
-    read.is
-    ∙ ap (λ asked. read.faults ++ own_summary asked order.job.aim.name read.summary) asked
+    read.is ∙ ap (λ asked. read.faults ++ own_summary asked order.job.aim.name read.summary) asked
     ∙ ap (λ name. read.faults ++ own_summary true name read.summary) named
     ∙ ap (λ games. read.faults ++ summary_text (Some name)
     (record { games = games; faulty = read.summary.faulty; met = read.summary.met })) read.games

@@ -1,32 +1,21 @@
 -- Worked rows of marks, requests, lines and reports; and what these definitions refuse.
-use Rattle.std.proofs.Common.{◌≡◌, ℕ, Bool, true, false, List, [], ◌∷◌, ◌++◌, codes, decimal}
-use Rattle.std.proofs.Common.{Option, None, Some, inl, inr, refl, arith}
-use Rattle.chess.specs.Public.Positions.{State}
-use Rattle.pgn_game.specs.Public.Replays.{Replay}
-use Rattle.pgn_game.specs.declared.exports.notation.Notation.TheVariants.{San, Uci}
-use Rattle.pgn_criteria.specs.Public.Meeting.{Heading, Meets}
-use Rattle.pgn_criteria.specs.Public.Conditions.{Conditions}
-use Rattle.pgn_text.specs.Public.Marks.{ReadableGame, UnreadableRest, TooLongBlock}
-use Rattle.pgn_text.specs.Public.Parts.{Part}
-use Rattle.pgn_extract.specs.Public.Aims.{Aim, GameId, IsMet}
-use Rattle.pgn_extract.specs.Public.GameReports.{AreChosen, plies_of}
+use Rattle.pgn_extract.proofs.Common.{◌≡◌, ℕ, Bool, true, false, List, [], ◌∷◌, ◌++◌, codes}
+use Rattle.pgn_extract.proofs.Common.{decimal, Option, None, Some, inl, inr, refl, arith, State}
+use Rattle.pgn_extract.proofs.Common.{Replay, San, Uci, Heading, Meets, Conditions, ReadableGame}
+use Rattle.pgn_extract.proofs.Common.{UnreadableRest, TooLongBlock, Part, Aim, GameId, IsMet}
+use Rattle.pgn_extract.proofs.Common.{AreChosen, plies_of, index_line, mark, mark_line, Ascend}
+use Rattle.pgn_extract.proofs.Common.{Entry, IsEarlier, IsPlyOfGame, entries_at_least, entry_line}
+use Rattle.pgn_extract.proofs.Common.{AreLines, indented, Refusal, bad_mark, text_refusals}
+use Rattle.pgn_extract.proofs.Common.{verdicts_at_least, FaultyGame, IsPieceVerdict, IsReportedBy}
+use Rattle.pgn_extract.proofs.Common.{IsUnreadableVerdict, IsVerdictIn, SoundGame, Verdict}
+use Rattle.pgn_extract.proofs.Common.{fault_line_of, output_of, without_note, Request, AsItStands}
+use Rattle.pgn_extract.proofs.Common.{Line, Record, Standard, Faulty, Matching, Others}
 use Rattle.pgn_extract.specs.Public.GivenMarks.{game_id, is_number, mark_of, mark_around}
-use Rattle.pgn_extract.specs.Public.Index.{index_line, mark, mark_line}
-use Rattle.pgn_extract.specs.Public.Listing.{Ascend, Entry, IsEarlier, IsPlyOfGame}
-use Rattle.pgn_extract.specs.Public.Listing.{entries_at_least, entry_line}
-use Rattle.pgn_extract.specs.Public.Notes.{AreLines, indented}
-use Rattle.pgn_extract.specs.Public.Requests.{Refusal, asked_form, asked_mode, asked_select}
-use Rattle.pgn_extract.specs.Public.Requests.{asked_style, bad_mark, file_refusals, has_fields}
-use Rattle.pgn_extract.specs.Public.Requests.{has_mode, has_moves, has_style, text_refusals}
-use Rattle.pgn_extract.specs.Public.Resuming.{verdicts_at_least}
+use Rattle.pgn_extract.specs.Public.Requests.{asked_form, asked_mode, asked_select, asked_style}
+use Rattle.pgn_extract.specs.Public.Requests.{file_refusals, has_fields, has_mode, has_moves}
+use Rattle.pgn_extract.specs.Public.Requests.{has_style}
 use Rattle.pgn_extract.specs.Public.Several.{games_word}
-use Rattle.pgn_extract.specs.Public.Verdicts.{FaultyGame, IsPieceVerdict, IsReportedBy}
-use Rattle.pgn_extract.specs.Public.Verdicts.{IsUnreadableVerdict, IsVerdictIn, SoundGame, Verdict}
-use Rattle.pgn_extract.specs.Public.Verdicts.{fault_line_of, output_of, without_note}
-use Rattle.pgn_extract.specs.declared.app.command.Request.{Request}
-use Rattle.pgn_extract.specs.declared.settings.Form.TheVariants.{AsItStands, Line, Record, Standard}
 use Rattle.pgn_extract.specs.declared.settings.Mode.TheVariants as modes
-use Rattle.pgn_extract.specs.declared.settings.Select.TheVariants.{Faulty, Matching, Others}
 
 -- Marks.
 
@@ -34,8 +23,7 @@ digits_are_a_number : is_number (codes "0012") ≡ true
 digits_are_a_number = refl
 
 no_number_of_20_digits : is_number (codes "00000000000000000001") ∷ is_number []
-    ∷ is_number (codes "1a") ∷ []
-    ≡ false ∷ false ∷ false ∷ []
+    ∷ is_number (codes "1a") ∷ [] ≡ false ∷ false ∷ false ∷ []
 no_number_of_20_digits = refl
 
 mark_of_two_numbers : mark_of (Some 3) (Some 8) ≡ Some (game_id 3 8)
@@ -78,8 +66,7 @@ matching_are_selected request = refl
 record_is_asked : (request : Request) → asked_form (record request { pack = true }) ≡ Record
 record_is_asked request = refl
 
-lines_are_asked : (request : Request)
-    → asked_form (record request { pack = false; moves = true })
+lines_are_asked : (request : Request) → asked_form (record request { pack = false; moves = true })
     ∷ asked_form (record request { pack = false; moves = false; uci = true }) ∷ [] ≡ Line San
     ∷ Line Uci ∷ []
 lines_are_asked request = refl
@@ -92,8 +79,7 @@ bytes_are_asked request = refl
 
 width_is_79 : (request : Request)
     → asked_style (record request {
-      no_comments =
-          true;
+      no_comments = true;
       keep_commands = true;
       no_glyphs = false;
       no_variations = true;
@@ -110,26 +96,21 @@ width_is_79 : (request : Request)
     }
 width_is_79 request = refl
 
-list_is_a_mode : (request : Request)
-    → has_mode (record request { list = true })
-    ∷ has_mode (record request { list = false; index = false }) ∷ []
-    ≡ true ∷ false ∷ []
+list_is_a_mode : (request : Request) → has_mode (record request { list = true })
+    ∷ has_mode (record request { list = false; index = false }) ∷ [] ≡ true ∷ false ∷ []
 list_is_a_mode request = refl
 
-next_is_a_field : (request : Request)
-    → has_fields (record request { fen = false; next = true })
+next_is_a_field : (request : Request) → has_fields (record request { fen = false; next = true })
     ∷ has_fields (record request { fen = false; next = false }) ∷ [] ≡ true ∷ false ∷ []
 next_is_a_field request = refl
 
-uci_has_moves : (request : Request)
-    → has_moves (record request { moves = false; uci = true })
+uci_has_moves : (request : Request) → has_moves (record request { moves = false; uci = true })
     ∷ has_moves (record request { moves = false; uci = false }) ∷ [] ≡ true ∷ false ∷ []
 uci_has_moves request = refl
 
 width_is_style : (request : Request)
     → has_style (record request {
-      no_comments =
-          false;
+      no_comments = false;
       keep_commands = false;
       no_glyphs = false;
       no_variations = false;
@@ -137,8 +118,7 @@ width_is_style : (request : Request)
       width = Some 80;
     })
     ∷ has_style (record request {
-      no_comments =
-          false;
+      no_comments = false;
       keep_commands = false;
       no_glyphs = false;
       no_variations = false;
@@ -155,8 +135,7 @@ line_of_a_bad_mark = refl
 names_exclude_each_other : (request : Request)
     → (rest : List Refusal) × (file_refusals (record request { with_names = true; no_names = true })
     ≡ record {
-      applies =
-          true;
+      applies = true;
       line = codes "pgn-extract: --with-names and --no-names exclude each other\n";
     } ∷ rest)
 names_exclude_each_other request = (_, refl)
@@ -225,14 +204,12 @@ games_are_counted = refl
 -- Reports.
 
 output_of_verdicts : output_of (SoundGame (codes "a"))
-    ++ output_of (FaultyGame (codes "b") (codes "c") (codes "d"))
-    ≡ codes "ab"
+    ++ output_of (FaultyGame (codes "b") (codes "c") (codes "d")) ≡ codes "ab"
 output_of_verdicts = refl
 
 lines_of_verdicts :
     fault_line_of (SoundGame (codes "a"))
-    ++ fault_line_of (FaultyGame (codes "b") (codes "c") (codes "d"))
-    ≡ codes "cd"
+    ++ fault_line_of (FaultyGame (codes "b") (codes "c") (codes "d")) ≡ codes "cd"
 lines_of_verdicts = refl
 
 note_is_left_out : without_note (FaultyGame (codes "b") (codes "c") (codes "d"))

@@ -1,19 +1,16 @@
 -- What the definitions of what is asked for say of some options, and what they refuse.
-use Rattle.std.proofs.Common.{◌≡◌, ◌^◌, ◌-◌, Bool, true, false, ℕ, nat_lt, length, List, [], ◌∷◌}
-use Rattle.std.proofs.Common.{◌++◌, Option, None, Some, option_map, codes, ap, refl}
+use Rattle.std.proofs.Common.{option_map}
 use Rattle.std.specs.Borrow.{Bor}
-use Rattle.pgn_game.specs.declared.exports.notation.Notation.TheVariants.{San, Uci}
-use Rattle.pgn_criteria.specs.Public.Conditions.{Conditions}
-use Rattle.pgn_extract.specs.Public.GivenMarks.{game_id, mark_in}
-use Rattle.pgn_extract.specs.Public.Requests.{asked, asks_names, bad_mark, begin_of, end_of}
-use Rattle.pgn_extract.specs.Public.Requests.{first_line, gives_mark, has_several_files}
-use Rattle.pgn_extract.specs.Public.Requests.{is_one_line, is_stretch, option_refusals, refused}
-use Rattle.pgn_extract.specs.Public.Requests.{text_refusals}
-use Rattle.pgn_extract.specs.declared.app.command.Request.{Request}
-use Rattle.pgn_extract.specs.declared.settings.Form.TheVariants.{Standard, AsItStands, Line, Record}
-use Rattle.pgn_extract.specs.declared.settings.Mode.TheVariants as modes
-use Rattle.pgn_extract.specs.declared.settings.Select.TheVariants.{Matching, Others, Faulty}
+use Rattle.pgn_extract.proofs.Common.{◌≡◌, ◌^◌, ◌-◌, Bool, true, false, ℕ, nat_lt, length, List, []}
+use Rattle.pgn_extract.proofs.Common.{◌∷◌, ◌++◌, Option, None, Some, codes, ap, refl, San, Uci}
+use Rattle.pgn_extract.proofs.Common.{Conditions, game_id, bad_mark, begin_of, end_of, first_line}
+use Rattle.pgn_extract.proofs.Common.{is_one_line, option_refusals, refused, text_refusals, Request}
+use Rattle.pgn_extract.proofs.Common.{Standard, AsItStands, Line, Record, Matching, Others, Faulty}
+use Rattle.pgn_extract.specs.Public.GivenMarks.{mark_in}
+use Rattle.pgn_extract.specs.Public.Requests.{asked, asks_names, gives_mark, has_several_files}
+use Rattle.pgn_extract.specs.Public.Requests.{is_stretch}
 use Rattle.pgn_extract.specs.declared.marks.GameId.{GameId}
+use Rattle.pgn_extract.specs.declared.settings.Mode.TheVariants as modes
 
 -- ---- marks
 
@@ -123,8 +120,7 @@ each_pair : (request : Request)
     × RefusedWith (record (plain request) { index = true; packed = true; with_names = true })
     packs_are_plain
     × RefusedWith (record (plain request) { list = true; packed = true; no_names = true })
-    packs_are_plain
-    × RefusedWith (record (plain request) { fen = true }) no_entries_listed
+    packs_are_plain × RefusedWith (record (plain request) { fen = true }) no_entries_listed
     × RefusedWith (record (plain request) { index = true; next = true }) no_entries_listed
     × RefusedWith (record (plain request) { list = true; others = true }) no_games_written
     × RefusedWith (record (plain request) { index = true; faulty = true }) no_games_written
@@ -182,16 +178,14 @@ each_pair request = (
 -- of two pairs the first of the table has its line
 the_first_pair : (request : Request)
     → RefusedWith (record (plain request) { list = true; index = true; packed = true; fen = true })
-    both_modes
-    × RefusedWith (record (plain request) { packed = true; fen = true }) packs_give_lines
+    both_modes × RefusedWith (record (plain request) { packed = true; fen = true }) packs_give_lines
     × RefusedWith (record (plain request) { index = true; packed = true; fen = true })
     packs_are_plain
     × RefusedWith (record (plain request) {
       index = true;
       packed = true;
       no_names = true;
-      others =
-          true;
+      others = true;
     }) packs_are_plain
     × RefusedWith (record (plain request) { index = true; fen = true; others = true })
     no_entries_listed
@@ -204,8 +198,7 @@ the_first_pair : (request : Request)
     × RefusedWith (record (plain request) {
       moves = true;
       as_is = true;
-      with_names =
-          true;
+      with_names = true;
       no_names = true;
     }) no_lines_of_moves
 the_first_pair request = (refl, refl, refl, refl, refl, refl, refl, refl, refl, refl)
@@ -219,8 +212,7 @@ several_files request several mark = (rw (mark, several) refl, refl)
 nothing_refused : (request : Request) → first_line (option_refusals (plain request)) ≡ None
 nothing_refused request = refl
 
-one_file : (request : Request)
-    → has_several_files request ≡ false → gives_mark request ≡ true
+one_file : (request : Request) → has_several_files request ≡ false → gives_mark request ≡ true
     → first_line (option_refusals (marked request)) ≡ None
 one_file request one mark = rw (mark, one) refl
 
@@ -244,8 +236,7 @@ each_option_gives_a_mark request text = (refl, refl, refl, refl)
 -- two files are several, and one is not
 two_files : (request : Request) (one two : Bor (List ℕ)) → request.files.items ≡ one ∷ two ∷ []
     → has_several_files request ≡ true
-two_files request one two are =
-    ap (λ (files : List (Bor (List ℕ))). nat_lt 1 (length files)) are
+two_files request one two are = ap (λ (files : List (Bor (List ℕ))). nat_lt 1 (length files)) are
 
 not_several_files : (request : Request) (one : Bor (List ℕ)) → request.files.items ≡ one ∷ []
     → has_several_files request ≡ false
@@ -325,8 +316,7 @@ each_asked : (request : Request)
     × ((asked false (record (plain request) { fen = true }) None None).fields
     ≡ record { fen = true; next = false })
     × ((asked false (record (plain request) { next = true }) None None).fields
-    ≡ record { fen = false; next = true })
-    × ((asked true (plain request) None None).explain ≡ true)
+    ≡ record { fen = false; next = true }) × ((asked true (plain request) None None).explain ≡ true)
     × ((asked false (plain request) None (Some [])).chosen ≡ Some [])
 each_asked request =
     (refl, refl, refl, refl, refl, refl, refl, refl, refl, refl, refl, refl, refl, refl, refl)
@@ -361,8 +351,7 @@ with_marks request text is = (
   ap (λ bytes. option_map (λ (mark : GameId). mark.offset) (mark_in bytes)) is,
 )
 
-names : (request : Request) → has_several_files request ≡ true
-    → (asks_names (plain request) ≡ true)
+names : (request : Request) → has_several_files request ≡ true → (asks_names (plain request) ≡ true)
     × (asks_names (record (plain request) { no_names = true }) ≡ false)
 names request several = (rw several refl, rw several refl)
 

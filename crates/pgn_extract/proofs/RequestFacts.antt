@@ -1,12 +1,10 @@
 -- Which refusal is the first that applies.
-use Rattle.std.proofs.Common.{◌≡◌, ◌<◌, ◌≤◌, ℕ, nat_lt, true, false, Bool, List, [], ◌∷◌, ◌++◌}
-use Rattle.std.proofs.Common.{Option, None, Some, codes, cond, refl, ap, ◌∙◌, arith}
-use Rattle.std.proofs.lemmas.Bool.Decides.{nat_tests}
-use Rattle.std.specs.List.{list_all}
 use Rattle.std.specs.Option.{option_or}
-use Rattle.pgn_extract.specs.Public.Requests.{Refusal, first_line, option_refusals, text_refusals}
-use Rattle.pgn_extract.specs.Public.Requests.{refused, begin_of, end_of, is_one_line, bad_mark}
-use Rattle.pgn_extract.specs.declared.app.command.Request.{Request}
+use Rattle.pgn_extract.proofs.Common.{◌≡◌, ◌<◌, ◌≤◌, ℕ, nat_lt, true, false, Bool, List, [], ◌∷◌}
+use Rattle.pgn_extract.proofs.Common.{◌++◌, Option, None, Some, codes, cond, refl, ap, ◌∙◌, arith}
+use Rattle.pgn_extract.proofs.Common.{nat_tests, list_all, Refusal, first_line, option_refusals}
+use Rattle.pgn_extract.proofs.Common.{text_refusals, refused, begin_of, end_of, is_one_line}
+use Rattle.pgn_extract.proofs.Common.{bad_mark, Request}
 use Rattle.pgn_extract.specs.declared.marks.GameId.{GameId}
 
 first_of_two : (first second : List Refusal)
@@ -42,8 +40,7 @@ by_begin noted request none begin =
 
 pub by_end : (noted : Bool) (request : Request) (begin : GameId)
     → first_line (option_refusals request) ≡ None → begin_of request ≡ Some begin
-    → end_of request ≡ None
-    → refused noted request ≡ Some (bad_mark noted)
+    → end_of request ≡ None → refused noted request ≡ Some (bad_mark noted)
 by_end noted request begin none begins ends =
     by_texts noted request (Some (bad_mark noted)) none (rw (begins, ends) refl)
 

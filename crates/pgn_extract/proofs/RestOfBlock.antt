@@ -1,12 +1,9 @@
 -- Bytes that are no game are the rest of their block.
 use Rattle.std.proofs.Common.{◌≡◌, ℕ, ◌-◌, ◌==◌, Bool, List, [], ◌∷◌, ◌++◌, length, take, drop}
 use Rattle.std.proofs.Common.{arith, sym, ap, ◌∙◌, append_assoc, drop_at}
-use Rattle.std.proofs.lemmas.List.{length-drop, take_all}
-use Rattle.pgn_text.specs.Public.Limits.{depth_limit}
-use Rattle.pgn_text.specs.Public.Parts.{spelled}
+use Rattle.std.proofs.lemmas.List.{length-drop}
+use Rattle.pgn_extract.proofs.Common.{take_all, depth_limit, spelled, not_nil, IsPieceOf}
 use Rattle.pgn_text.specs.Public.Pieces.{Piece, Game, Unreadable, ArePieces}
-use Rattle.pgn_text.proofs.ResumedText.{not_nil}
-use Rattle.pgn_extract.specs.Private.Blockwise.{IsPieceOf}
 
 rest_after : (max_depth : ℕ) (f : Bool) (before : List ℕ) (earlier : List Piece) (at : ℕ)
     (bytes : List ℕ) (later : List Piece) (text : List ℕ)

@@ -1,15 +1,10 @@
 -- A run that reported the pieces of the rest reported what is reported of the whole from the mark
 -- on.
-use Rattle.std.proofs.Common.{◌≡◌, ℕ, ◌+◌, ◌≤◌, true, false, List, [], ◌∷◌, ◌++◌, length, drop}
-use Rattle.std.proofs.Common.{refl, sym, ap, ◌∙◌, subst, arith}
-use Rattle.std.specs.Prelude.{nat_le, if◌then◌else◌}
-use Rattle.std.proofs.lemmas.Bool.Decides.{nat_tests}
-use Rattle.pgn_text.specs.Public.Marks.{MarkedPiece, AreMarkedPieces}
-use Rattle.pgn_text.proofs.ResumedText.{resumed_pieces}
+use Rattle.pgn_extract.proofs.Common.{◌≡◌, ℕ, ◌+◌, ◌≤◌, true, false, List, [], ◌∷◌, ◌++◌, length}
+use Rattle.pgn_extract.proofs.Common.{drop, refl, sym, ap, ◌∙◌, subst, arith, nat_le, if◌then◌else◌}
+use Rattle.pgn_extract.proofs.Common.{nat_tests, MarkedPiece, AreMarkedPieces, resumed_pieces}
+use Rattle.pgn_extract.proofs.Common.{verdicts_at_least, Verdict, AreVerdicts, IsSameReport, Aim}
 use Rattle.pgn_extract.specs.Public.Laws.{RunResumes}
-use Rattle.pgn_extract.specs.Public.Resuming.{verdicts_at_least}
-use Rattle.pgn_extract.specs.Public.Verdicts.{Verdict, AreVerdicts, IsSameReport}
-use Rattle.pgn_extract.specs.Public.Aims.{Aim}
 use Rattle.pgn_extract.proofs.OneReport.{same_report}
 
 -- pieces that are all numbered high enough

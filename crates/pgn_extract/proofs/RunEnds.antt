@@ -1,20 +1,16 @@
 -- How a run ends: as the run over its blocks does, once the bytes before its begin are dropped.
-use Rattle.std.proofs.Common.{◌≡◌, ℕ, ◌≤◌, true, List, ◌∷◌, drop, sym, subst, Option}
-use Rattle.std.specs.Prelude.{Some, None, Ok, Err, Result, IfOk, IfErr, IfSome}
-use Rattle.pgn_text.specs.Public.Limits.{largest_offset}
-use Rattle.pgn_text.specs.Public.Marks.{AreMarkedPieces}
-use Rattle.pgn_text.proofs.ResumedText.{resumed_pieces}
-use Rattle.pgn_extract.specs.Private.Blockwise.{Drops, DropsSome, EndsBlocks, BreaksOff}
-use Rattle.pgn_extract.specs.Public.Listing.{AreEntries, listing, entries_at_least}
-use Rattle.pgn_extract.specs.Public.Runs.{Job, Io, Adds, Completes, FaultsAre, IsRun, Lists}
-use Rattle.pgn_extract.specs.declared.output.outcome.RunError.{RunError}
-use Rattle.pgn_extract.specs.declared.output.outcome.RunError.TheVariants.{Read}
-use Rattle.pgn_extract.specs.declared.output.outcome.Summary.{Summary}
-use Rattle.pgn_extract.specs.declared.settings.Mode.TheVariants as mode
+use Rattle.std.specs.Prelude.{Some, None, Ok, Err}
+use Rattle.pgn_extract.proofs.Common.{◌≡◌, ℕ, ◌≤◌, true, List, ◌∷◌, drop, sym, subst, Option}
+use Rattle.pgn_extract.proofs.Common.{Result, IfOk, IfErr, IfSome, largest_offset, AreMarkedPieces}
+use Rattle.pgn_extract.proofs.Common.{resumed_pieces, Drops, DropsSome, EndsBlocks, BreaksOff}
+use Rattle.pgn_extract.proofs.Common.{AreEntries, listing, entries_at_least, Job, Io, Adds}
+use Rattle.pgn_extract.proofs.Common.{Completes, Lists, RunError, Read, Summary}
+use Rattle.pgn_extract.specs.Public.Runs.{FaultsAre, IsRun}
 use Rattle.pgn_extract.proofs.ExactEntries.{are_entries}
 use Rattle.pgn_extract.proofs.ModeOutputs.{of_pieces}
 use Rattle.pgn_extract.proofs.OneListing.{one_listing, rest_entries}
 use Rattle.pgn_extract.proofs.WholeRun.{ends_whole, skip_stands, stands_whole}
+use Rattle.pgn_extract.specs.declared.settings.Mode.TheVariants as mode
 
 module _ (job : Job) (io : Io) where
   -- a run for the listing wrote it; begun at a mark it is the whole listing from there on
@@ -64,8 +60,7 @@ module _ (job : Job) (io : Io) where
       EndsBlocks job.aim job.limit job.max_depth job.id mid io.input.new.bytes count
       io.input.new.moved
       io.out.old.bytes io.out.new.bytes io.err.old.bytes io.err.new.bytes summary
-      × (io.out.new.flushed ≡ true) × (io.err.new.flushed ≡ true))
-      → IfErr result
+      × (io.out.new.flushed ≡ true) × (io.err.new.flushed ≡ true)) → IfErr result
       (BreaksOff job.aim job.limit job.max_depth job.id mid io.input.new.bytes count
       io.input.new.moved
       io.out.old.bytes io.out.new.bytes io.err.old.bytes io.err.new.bytes)

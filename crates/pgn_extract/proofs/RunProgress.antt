@@ -3,32 +3,24 @@ use Rattle.std.proofs.Common.{◌≡◌, ℕ, ◌+◌, ◌-◌, ◌^◌, ◌<◌
 use Rattle.std.proofs.Common.{length, Option, Some, None, refl, sym, ap, ◌∙◌, subst, arith}
 use Rattle.std.proofs.Common.{append_assoc, length-append, inl, inr, ◌⊎◌, Fits, w64}
 use Rattle.std.proofs.lemmas.List.Sums.{count_by-le-length}
-use Rattle.std.specs.Prelude.{◌≢◌, count_by, IfSome}
-use Rattle.std.specs.Io.KnownBytes.{Keeps, IsAtEnd}
-use Rattle.std.proofs.lemmas.Bool.{cases_Bool, both_ways}
+use Rattle.std.specs.Prelude.{◌≢◌, count_by}
 use Rattle.std.proofs.lemmas.List.{append-nil}
-use Rattle.pgn_text.specs.Public.Marks.{MarkedPiece, AreMarkedPieces}
-use Rattle.pgn_text.specs.Public.Tallies.{Reads}
+use Rattle.pgn_extract.proofs.Common.{IfSome, Keeps, IsAtEnd, cases_Bool, both_ways, MarkedPiece}
+use Rattle.pgn_extract.proofs.Common.{AreMarkedPieces, Reads, ReadError, reads_join, turns}
+use Rattle.pgn_extract.proofs.Common.{WritesBlock, Begins, BeginsBlock, EndsBlocks, BeginsFirst}
+use Rattle.pgn_extract.proofs.Common.{BreaksOff, StandsOver, Writes, RunError, Write, OutOfMemory}
+use Rattle.pgn_extract.proofs.Common.{Verdict, is_faulty, Summary, Aim, GameId, game_id}
 use Rattle.pgn_text.specs.Public.Windows.{Window, fresh_window, IsCutOff, FailsAfter}
-use Rattle.pgn_text.specs.declared.io.blocks.ReadError.{ReadError}
-use Rattle.pgn_text.specs.declared.io.blocks.ReadError.TheVariants as cause
-use Rattle.pgn_text.proofs.Joined.{reads_join, reads_none}
-use Rattle.pgn_text.proofs.BlockSizes.{some_bytes, turns}
-use Rattle.pgn_extract.specs.Private.Blockwise.{WritesBlock, Begins, BeginsBlock, EndsBlocks}
-use Rattle.pgn_extract.specs.Private.Blockwise.{BeginsFirst, BreaksOff, StandsOver, run_error_of}
-use Rattle.pgn_extract.specs.Public.Outcomes.{Writes}
-use Rattle.pgn_extract.specs.declared.output.outcome.RunError.{RunError}
-use Rattle.pgn_extract.specs.declared.output.outcome.RunError.TheVariants.{Write, OutOfMemory}
-use Rattle.pgn_extract.specs.Public.Verdicts.{Verdict, is_faulty}
-use Rattle.pgn_extract.specs.declared.output.outcome.Summary.{Summary}
-use Rattle.pgn_extract.specs.Public.Aims.{Aim, GameId}
+use Rattle.pgn_text.proofs.Joined.{reads_none}
+use Rattle.pgn_text.proofs.BlockSizes.{some_bytes}
+use Rattle.pgn_extract.specs.Private.Blockwise.{run_error_of}
 use Rattle.pgn_extract.proofs.Beginnings.{says_kept, writes_more, begins_written, begins_more}
 use Rattle.pgn_extract.proofs.BlocksGiven.{Given, none_given, one_given, all_given, all_but_last}
 use Rattle.pgn_extract.proofs.BlocksGiven.{goes_on}
 use Rattle.pgn_extract.proofs.Dropping.{all_read}
 use Rattle.pgn_extract.proofs.VerdictFacts.{count_by-join}
 use Rattle.pgn_extract.proofs.Writing.{appends_none}
-use Rattle.pgn_extract.specs.Public.GivenMarks.{game_id}
+use Rattle.pgn_text.specs.declared.io.blocks.ReadError.TheVariants as cause
 
 -- some blocks are read, and their pieces reported and counted
 pub record Progress (aim : Aim) (limit max_depth : ℕ) (id : GameId) (now : Window)
@@ -182,8 +174,7 @@ module _ {aim : Aim} {limit max_depth : ℕ} {id : GameId} {now : Window}
         → BreaksOff aim limit max_depth id first left' moved count' out out'' err err'' error
     block_breaks {next} {left'} {count'} {from} {read} {block} {out''} {err''} error cut more place
         begins kind =
-        let own =
-        subst (λ n. Begins aim out' out'' err' err'' (id.number + n) begins.own) p.counted
+        let own = subst (λ n. Begins aim out' out'' err' err'' (id.number + n) begins.own) p.counted
         begins.written in
         let reads = total cut more in
         let given = one_given p.given cut place begins.each in
@@ -307,10 +298,8 @@ module _ {aim : Aim} {limit max_depth : ℕ} {id : GameId} {now : Window}
           size = fits (2 ^ 62 + 1) (let w = f.within in omega arith);
           stands = record {
             pieces = p.pieces;
-            each =
-                all_but_last p.given read (going cause.Read l o) f.uncut;
-            verdicts =
-                p.verdicts;
+            each = all_but_last p.given read (going cause.Read l o) f.uncut;
+            verdicts = p.verdicts;
             written = p.written;
           };
         }
@@ -321,8 +310,7 @@ module _ {aim : Aim} {limit max_depth : ℕ} {id : GameId} {now : Window}
           stands = known first left' moved count' (p.bytes ++ (now.ahead ++ read)) (λ whole.
               BeginsFirst aim limit max_depth id whole out out' err err') all
               (λ rest end.
-              let others =
-              goes_on p.given (read ++ rest) (λ ended.
+              let others = goes_on p.given (read ++ rest) (λ ended.
               absurd (both_ways now.ended (going cause.OutOfMemory l o) ended)) in
               let shape : p.bytes ++ (now.ahead ++ (read ++ rest))
               ≡ (p.bytes ++ (now.ahead ++ read)) ++ rest =
@@ -358,10 +346,8 @@ module _ {aim : Aim} {limit max_depth : ℕ} {id : GameId} {now : Window}
                 omega (arith, length-append p.bytes (now.ahead ++ f.kept));
             written = record {
               pieces = p.pieces;
-              each =
-                  all_but_last p.given f.kept (going cause.InputTooLong l o) f.uncut;
-              verdicts =
-                  p.verdicts;
+              each = all_but_last p.given f.kept (going cause.InputTooLong l o) f.uncut;
+              verdicts = p.verdicts;
               written = p.written;
             };
           };

@@ -1,64 +1,45 @@
 -- What the definitions of exports, of runs and of searches refuse.
-use Rattle.std.proofs.Common.{◌≡◌, ◌≢◌, ◌<◌, ◌+◌, ◌∙◌, ℕ, Bool, true, false, List, [], ◌∷◌, ◌++◌}
-use Rattle.std.proofs.Common.{codes, length, Option, None, Some, IfSome, ap, refl, sym, subst}
-use Rattle.std.proofs.Common.{arith, ◌≤◌, drop}
-use Rattle.pgn_extract.specs.declared.output.outcome.RunError.TheVariants.{InputTooLong}
-use Rattle.pgn_text.specs.Public.Complete.{AreCompleteBlocks, AreCompletePieces}
-use Rattle.pgn_text.specs.Public.GameTexts.{GameText, IsGameText}
+use Rattle.std.proofs.Common.{IfSome}
 use Rattle.std.specs.Borrow.{Bor}
-use Rattle.std.specs.Io.KnownBytes.{Appends, Keeps}
-use Rattle.std.specs.List.{AllByRecursion}
-use Rattle.pgn_game.specs.Public.Faults.{Fault}
-use Rattle.pgn_game.specs.Public.PackStreams.{HasNoRecord}
-use Rattle.pgn_game.specs.Public.PackedGames.{FitsRecord, PackedGame, IsPacked, record_bytes}
-use Rattle.pgn_game.specs.Public.Replays.{Replay}
-use Rattle.pgn_game.specs.declared.exports.style.Style.{Style}
-use Rattle.pgn_game.specs.declared.replays.replayer.Lines.TheVariants.{All, Main}
-use Rattle.pgn_criteria.specs.Public.Meeting.{Heading, heading_of}
-use Rattle.pgn_text.specs.Public.Limits.{largest_offset}
-use Rattle.pgn_text.specs.Public.Marks.{MarkedPiece, ReadableGame, TooLongBlock, UnreadableRest}
-use Rattle.pgn_text.specs.Public.Marks.{AreMarkedPieces}
-use Rattle.pgn_text.specs.Public.Parts.{Part}
+use Rattle.pgn_extract.proofs.Common.{◌≡◌, ◌≢◌, ◌<◌, ◌+◌, ◌∙◌, ℕ, Bool, true, false, List, [], ◌∷◌}
+use Rattle.pgn_extract.proofs.Common.{◌++◌, codes, length, Option, None, Some, ap, refl, sym, subst}
+use Rattle.pgn_extract.proofs.Common.{arith, ◌≤◌, drop, InputTooLong, AreCompletePieces, GameText}
+use Rattle.pgn_extract.proofs.Common.{IsGameText, Appends, Keeps, AllByRecursion, Fault}
+use Rattle.pgn_extract.proofs.Common.{HasNoRecord, FitsRecord, PackedGame, IsPacked, record_bytes}
+use Rattle.pgn_extract.proofs.Common.{Replay, Style, All, Main, Heading, heading_of, largest_offset}
+use Rattle.pgn_extract.proofs.Common.{MarkedPiece, ReadableGame, TooLongBlock, UnreadableRest}
+use Rattle.pgn_extract.proofs.Common.{AreMarkedPieces, Part, Aim, GameId, IsGameExport}
+use Rattle.pgn_extract.proofs.Common.{IsPieceExport, IsTextOf, written_lines, AreListed, IsFaultOf}
+use Rattle.pgn_extract.proofs.Common.{IsReplayOf, game_id, mark_around, AreEntries, Entry}
+use Rattle.pgn_extract.proofs.Common.{entries_at_least, IsGameOf, listing, AppendsFront, BeginsAll}
+use Rattle.pgn_extract.proofs.Common.{WritesComplete, Adds, ArePieces, Completes, Io, Job, Lists}
+use Rattle.pgn_extract.proofs.Common.{Passage, Stream, IsBegun, Stops, AreGameRecords, ArePackLines}
+use Rattle.pgn_extract.proofs.Common.{ArePieceRecords, AreRecordLines, AreRecords}
+use Rattle.pgn_extract.proofs.Common.{BeginsWithRecords, HasNoGame, Searches, StopsAtBytes}
+use Rattle.pgn_extract.proofs.Common.{StopsAtRead, StopsSearch, StopsWithin, IndexesWhatWasPacked}
+use Rattle.pgn_extract.proofs.Common.{IsIndexOfSoundGames, IsPackOf, IsRecordListing, IsSoundPiece}
+use Rattle.pgn_extract.proofs.Common.{ListsWhatWasPacked, of_all, AtPath, FileOf, IsOfPath}
+use Rattle.pgn_extract.proofs.Common.{IsReport, NamesUnopened, NoFile, Order, Unknown, IsRead}
+use Rattle.pgn_extract.proofs.Common.{WritesPaths, SearchesPath, SearchesPaths, AreVerdicts}
+use Rattle.pgn_extract.proofs.Common.{IsReplayedGame, Verdict, fault_lines, output_text}
+use Rattle.pgn_extract.proofs.Common.{StopsAmongPacks, StopsAtPack, Request, PackFailure, RunError}
+use Rattle.pgn_extract.proofs.Common.{Summary, SearchError, BadPack, Record, Standard}
+use Rattle.pgn_text.specs.Public.Complete.{AreCompleteBlocks}
 use Rattle.pgn_text.specs.Public.Tallies.{Tallied}
-use Rattle.pgn_extract.specs.Public.Aims.{Aim, GameId}
-use Rattle.pgn_extract.specs.Public.Exports.{IsGameExport, IsPieceExport, IsTextOf, written_lines}
 use Rattle.pgn_extract.specs.Public.Exports.IsGameExport.{sound as sound_export}
 use Rattle.pgn_extract.specs.Public.Exports.IsGameExport.{faulty as faulty_export}
-use Rattle.pgn_extract.specs.Public.GameReports.{AreListed, IsFaultOf, IsReplayOf}
-use Rattle.pgn_extract.specs.Public.GivenMarks.{game_id, mark_around}
-use Rattle.pgn_extract.specs.Public.Listing.{AreEntries, Entry, IsMainReplayOf, entries_at_least}
-use Rattle.pgn_extract.specs.Public.Listing.{IsGameOf, listing}
-use Rattle.pgn_extract.specs.Public.Outcomes.{AppendsFront, BeginsAll, WritesComplete}
+use Rattle.pgn_extract.specs.Public.Listing.{IsMainReplayOf}
 use Rattle.pgn_extract.specs.Public.Requests.{option_refusals, refusals, text_refusals}
 use Rattle.pgn_extract.specs.Public.Resuming.{WritesRest, IsMarkAmong}
-use Rattle.pgn_extract.specs.Public.Runs.{Adds, AreWritten, ArePieces, Completed, Completes, Io}
-use Rattle.pgn_extract.specs.Public.Runs.{Job, Lists, OnInput, Passage, Stream, stream_of}
-use Rattle.pgn_extract.specs.Public.Runs.{IsBegun, IsCompleteOf, Listed, Stopped, Stops}
-use Rattle.pgn_extract.specs.Public.Searching.{AreGameRecords, ArePackLines, ArePieceRecords}
-use Rattle.pgn_extract.specs.Public.Searching.{AreRecordLines, AreRecords, BeginsWithRecords}
-use Rattle.pgn_extract.specs.Public.Searching.{HasNoGame, Searches, StopsAtBytes, StopsAtRead}
-use Rattle.pgn_extract.specs.Public.Searching.{StopsSearch, StopsWithin, IndexesWhatWasPacked}
-use Rattle.pgn_extract.specs.Public.Searching.{IsIndexOfSoundGames, IsPackOf, IsRecordListing}
-use Rattle.pgn_extract.specs.Public.Searching.{IsSoundPiece, ListsWhatWasPacked, of_all}
+use Rattle.pgn_extract.specs.Public.Runs.{AreWritten, Completed, OnInput, stream_of, IsCompleteOf}
+use Rattle.pgn_extract.specs.Public.Runs.{Listed, Stopped}
 use Rattle.pgn_extract.specs.Public.Searching.AreGameRecords.{sound as sound_record}
 use Rattle.pgn_extract.specs.Public.Searching.AreGameRecords.{faulty as faulty_record}
-use Rattle.pgn_extract.specs.Public.Several.{AtPath, FileOf, IsOfPath, IsReport, NamesUnopened}
-use Rattle.pgn_extract.specs.Public.Several.{NoFile, Order, StopsInFile, Unknown, IsRead}
-use Rattle.pgn_extract.specs.Public.Several.{WritesPaths, WritesRead}
-use Rattle.pgn_extract.specs.Private.SeveralPacks.{SearchesPath, SearchesPaths}
-use Rattle.pgn_extract.specs.Public.Verdicts.{AreVerdicts, IsReplayedGame, Verdict}
-use Rattle.pgn_extract.specs.Public.Verdicts.{fault_lines, output_text}
-use Rattle.pgn_extract.specs.Private.PackStops.{StopsAmongPacks, StopsAtPack, StopsInPack}
-use Rattle.pgn_extract.specs.declared.app.command.Request.{Request}
-use Rattle.pgn_extract.specs.declared.app.packs.PackFailure.{PackFailure}
+use Rattle.pgn_extract.specs.Public.Several.{StopsInFile, WritesRead}
+use Rattle.pgn_extract.specs.Private.PackStops.{StopsInPack}
 use Rattle.pgn_extract.specs.declared.app.packs.PackFailure.TheVariants.{Report, Search}
-use Rattle.pgn_extract.specs.declared.output.outcome.RunError.{RunError}
-use Rattle.pgn_extract.specs.declared.output.outcome.Summary.{Summary}
-use Rattle.pgn_extract.specs.declared.packed.searching.SearchError.{SearchError}
-use Rattle.pgn_extract.specs.declared.packed.searching.SearchError.TheVariants.{BadPack}
-use Rattle.pgn_extract.specs.declared.packed.searching.SearchError.TheVariants as errors
 use Rattle.pgn_extract.specs.declared.packed.searching.Searched.{Searched}
-use Rattle.pgn_extract.specs.declared.settings.Form.TheVariants.{Record, Standard}
+use Rattle.pgn_extract.specs.declared.packed.searching.SearchError.TheVariants as errors
 use Rattle.pgn_extract.specs.declared.settings.Mode.TheVariants as modes
 
 -- Games and their exports.
@@ -74,8 +55,7 @@ no_turns_where_the_main_line_is_asked game replay some is = some is.turns
 no_entry_of_no_position : (aim : Aim) (id : GameId) (tags : Heading) (entry : Entry)
     → AreListed aim id tags (record { positions = []; played = []; turns = [] })
     (entry ∷ []) → ⊥
-no_entry_of_no_position aim id tags entry are =
-    elim are [ ]
+no_entry_of_no_position aim id tags entry are = elim are [ ]
 
 main_line_is_written : (aim : Aim) → written_lines (record aim { form = Record }) ≡ Main
 main_line_is_written aim = refl
@@ -145,8 +125,7 @@ no_run_unflushed : (job : Job) (io : Io) (summary : Summary) → io.out.new.flus
 no_run_unflushed job io summary not_flushed done = let both = sym done.1 ∙ not_flushed in cc
 
 no_listing_unwritten : (job : Job) (io : Io) (whole : List ℕ) → ((text : List ℕ)
-    → Adds io.out text → ⊥)
-    → Lists job io whole → ⊥
+    → Adds io.out text → ⊥) → Lists job io whole → ⊥
 no_listing_unwritten job io whole unwritten lists = unwritten _ lists.listed
 
 no_listing_of_no_pieces : (job : Job) (io : Io) (whole : List ℕ)
@@ -241,8 +220,7 @@ no_line_of_no_record aim are = cc
 
 -- in both of its other modes a record has the lines of its game
 no_other_lines_in_a_mode : (aim : Aim) (packed : PackedGame) (text : List ℕ)
-    → (IsRecordListing aim packed text → ⊥)
-    → (AreRecordLines modes.List aim packed text → ⊥)
+    → (IsRecordListing aim packed text → ⊥) → (AreRecordLines modes.List aim packed text → ⊥)
     × (AreRecordLines modes.Export aim packed text → ⊥)
 no_other_lines_in_a_mode aim packed text none = (none, none)
 
@@ -252,8 +230,7 @@ no_lines_of_another_record : (aim : Aim) (packed : PackedGame) (more : List Pack
 no_lines_of_another_record aim packed more text none are = none are.0 are.3
 
 no_record_passed_over : (aim : Aim) (packed : PackedGame) (more : List PackedGame) (text : List ℕ)
-    → ((rest : List ℕ) → ArePackLines aim more rest → ⊥)
-    → ArePackLines aim (packed ∷ more) text → ⊥
+    → ((rest : List ℕ) → ArePackLines aim more rest → ⊥) → ArePackLines aim (packed ∷ more) text → ⊥
 no_record_passed_over aim packed more text none are = none are.1 are.4
 
 no_record_that_does_not_fit : (aim : Aim) (whole rest text : List ℕ) (before : List PackedGame)
@@ -282,8 +259,7 @@ no_record_uncounted aim whole out out' searched searches other = other searches.
 no_search_of_other_bytes : (aim : Aim) (whole : List ℕ) (out out' : Option (List ℕ))
     (searched : Searched)
     → ((records : List PackedGame) (text : List ℕ)
-    → BeginsWithRecords aim whole records [] text → ⊥)
-    → Searches aim whole out out' searched → ⊥
+    → BeginsWithRecords aim whole records [] text → ⊥) → Searches aim whole out out' searched → ⊥
 no_search_of_other_bytes aim whole out out' searched none searches =
     none searches.records searches.text searches.read
 
@@ -301,15 +277,13 @@ no_stop_unwritten aim whole out out' unwritten stops = unwritten stops.text stop
 
 no_stop_of_other_bytes : (aim : Aim) (whole : List ℕ) (out out' : Option (List ℕ))
     → ((before : List PackedGame) (rest text : List ℕ)
-    → BeginsWithRecords aim whole before rest text → ⊥)
-    → StopsWithin aim whole out out' → ⊥
+    → BeginsWithRecords aim whole before rest text → ⊥) → StopsWithin aim whole out out' → ⊥
 no_stop_of_other_bytes aim whole out out' none stops =
     none stops.before stops.rest stops.text stops.read
 
 -- a beginning of the lines stands where a write fails, and where memory runs out
 no_stop_but_a_beginning : (aim : Aim) (whole : List ℕ) (left out out' : Option (List ℕ))
-    → (StopsWithin aim whole out out' → ⊥)
-    → (StopsSearch errors.Write aim whole left out out' → ⊥)
+    → (StopsWithin aim whole out out' → ⊥) → (StopsSearch errors.Write aim whole left out out' → ⊥)
     × (StopsSearch errors.OutOfMemory aim whole left out out' → ⊥)
 no_stop_but_a_beginning aim whole left out out' none = (none, none)
 
@@ -339,8 +313,7 @@ no_pack_unnamed : (aim : Aim) (path : List ℕ) (out err : Passage)
 no_pack_unnamed aim path out err none searched = none searched.1.0 searched.1.1 searched.1.2
 
 no_pack_unsearched : (aim : Aim) (path whole : List ℕ) (out err : Passage)
-    → ((searched : Searched)
-    → Searches aim whole out.old.bytes out.new.bytes searched → ⊥)
+    → ((searched : Searched) → Searches aim whole out.old.bytes out.new.bytes searched → ⊥)
     → SearchesPath aim path (FileOf whole) out err → ⊥
 no_pack_unsearched aim path whole out err none searched = none searched.0.0 searched.0.1
 
@@ -426,8 +399,7 @@ no_report_stops_in_a_pack error aim path whole out stops = stops
 
 no_other_stop_in_a_pack : (error : SearchError) (name : Bor (List ℕ)) (aim : Aim)
     (path whole : List ℕ) (out : Passage)
-    → ((left : Option (List ℕ))
-    → StopsSearch error aim whole left out.old.bytes out.new.bytes → ⊥)
+    → ((left : Option (List ℕ)) → StopsSearch error aim whole left out.old.bytes out.new.bytes → ⊥)
     → StopsInPack (Search name error) aim path whole out → ⊥
 no_other_stop_in_a_pack error name aim path whole out none stops = none stops.1.0 stops.1.1
 
@@ -464,8 +436,7 @@ no_report_of_an_incomplete_block aim limit depth id bytes out out' err err' none
     none writes.pieces writes.each
 
 no_other_beginning : (aim : Aim) (limit depth : ℕ) (id : GameId) (bytes : List ℕ)
-    (out out' err err' : Option (List ℕ))
-    → ((text : List ℕ) → AppendsFront out out' text → ⊥)
+    (out out' err err' : Option (List ℕ)) → ((text : List ℕ) → AppendsFront out out' text → ⊥)
     → BeginsAll aim limit depth id bytes out out' err err' → ⊥
 no_other_beginning aim limit depth id bytes out out' err err' none begins =
     none (output_text begins.verdicts) begins.output

@@ -1,31 +1,25 @@
 -- How far a search of a pack has come, and what stands where it ends.
-use Rattle.std.proofs.Common.{◌≡◌, ◌≢◌, ℕ, ◌+◌, ◌≤◌, Bool, inl, inr, List, [], ◌∷◌, ◌++◌, length}
-use Rattle.std.proofs.Common.{take, Option, Some, None, Ok, Err, refl, sym, ap, ◌∙◌, subst}
-use Rattle.std.proofs.Common.{append_assoc, append-nil, length-append, arith}
-use Rattle.std.specs.Prelude.{IfSome}
-use Rattle.std.specs.Io.KnownBytes.{Appends, Consumes, IsAtEnd}
-use Rattle.std.specs.List.{AllByRecursion}
 use Rattle.std.proofs.KnownBytes.{Appends-nil, Appends-trans, Consumes-nil, Consumes-trans}
 use Rattle.std.proofs.KnownBytes.{Consumes-whole}
-use Rattle.std.proofs.lemmas.List.Concat.{flat_map-cons, flat_map-append}
-use Rattle.std.proofs.Math.Seq.{take-append-add, take-length}
-use Rattle.pgn_text.specs.Public.Limits.{largest_offset}
-use Rattle.pgn_game.specs.Public.PackStreams.{Window, fresh_window, HasNoRecord, BreaksOff}
-use Rattle.pgn_game.specs.Public.PackStreams.{IsPastEnd, PassesOn, StepGives}
-use Rattle.pgn_game.specs.Public.PackedGames.{PackedGame, FitsRecord, record_bytes, pack_bytes}
+use Rattle.std.proofs.lemmas.List.Concat.{flat_map-cons}
+use Rattle.pgn_extract.proofs.Common.{◌≡◌, ◌≢◌, ℕ, ◌+◌, ◌≤◌, Bool, inl, inr, List, [], ◌∷◌, ◌++◌}
+use Rattle.pgn_extract.proofs.Common.{length, take, Option, Some, None, Ok, Err, refl, sym, ap, ◌∙◌}
+use Rattle.pgn_extract.proofs.Common.{subst, append_assoc, append-nil, length-append, arith, IfSome}
+use Rattle.pgn_extract.proofs.Common.{Appends, Consumes, IsAtEnd, AllByRecursion, flat_map-append}
+use Rattle.pgn_extract.proofs.Common.{take-append-add, take-length, largest_offset, HasNoRecord}
+use Rattle.pgn_extract.proofs.Common.{PackedGame, FitsRecord, record_bytes, pack_bytes, record_size}
+use Rattle.pgn_extract.proofs.Common.{Aim, AppendsFront, AreRecordLines, IsOfNoGame, HasNoGame}
+use Rattle.pgn_extract.proofs.Common.{BeginsWithRecords, Searches, ListsWhatWasPacked}
+use Rattle.pgn_extract.proofs.Common.{IndexesWhatWasPacked, StopsAtBytes, StopsAtLimit, StopsAtRead}
+use Rattle.pgn_extract.proofs.Common.{StopsWithin, StopsSearch, HasSearched, SearchError}
+use Rattle.pgn_game.specs.Public.PackStreams.{Window, fresh_window, BreaksOff, IsPastEnd, PassesOn}
+use Rattle.pgn_game.specs.Public.PackStreams.{StepGives}
 use Rattle.pgn_game.specs.declared.pack.records.RecordsError.{RecordsError}
-use Rattle.pgn_game.specs.declared.pack.records.RecordsError.TheVariants as cause
 use Rattle.pgn_game.proofs.PackOnce.{one_record}
-use Rattle.pgn_game.proofs.PackStreamFacts.{record_size}
-use Rattle.pgn_extract.specs.Public.Aims.{Aim}
-use Rattle.pgn_extract.specs.Public.Outcomes.{AppendsFront}
-use Rattle.pgn_extract.specs.Public.Searching.{AreRecordLines, IsOfNoGame, HasNoGame}
-use Rattle.pgn_extract.specs.Public.Searching.{BeginsWithRecords, Searches, ListsWhatWasPacked}
-use Rattle.pgn_extract.specs.Public.Searching.{IndexesWhatWasPacked, StopsAtBytes, StopsAtLimit}
-use Rattle.pgn_extract.specs.Public.Searching.{StopsAtRead, StopsWithin, StopsSearch, IsSearch}
-use Rattle.pgn_extract.specs.Private.SearchSteps.{HasSearched, PutsRest, PutsSome, search_error_of}
-use Rattle.pgn_extract.specs.declared.packed.searching.SearchError.{SearchError}
+use Rattle.pgn_extract.specs.Public.Searching.{IsSearch}
+use Rattle.pgn_extract.specs.Private.SearchSteps.{PutsRest, PutsSome, search_error_of}
 use Rattle.pgn_extract.proofs.PackListed.{one_more_record, packed_listing, packed_index}
+use Rattle.pgn_game.specs.declared.pack.records.RecordsError.TheVariants as cause
 
 -- what holds of the bytes that are read and those that are left holds of the whole
 of_whole : (left left' : Option (List ℕ)) (read : List ℕ) (Q : List ℕ → Type 0)
@@ -162,8 +156,7 @@ module _ {aim : Aim} {old : Window} {left left' out out' : Option (List ℕ)} {t
               records = on.before;
               text = on.all;
               read = read;
-              counted =
-                  on.counted;
+              counted = on.counted;
               written = all;
             });
         lists = Consumes-whole left left'' (pack_bytes on.before ++ []) (λ whole.
@@ -234,8 +227,7 @@ module _ {aim : Aim} {old : Window} {left left' out out' : Option (List ℕ)} {t
   -- what stands where the records after these are no record of a game
   stops_at : (new : Window) (left'' out'' : Option (List ℕ)) → PassesOn old new left' left''
       → new.place ≡ old.place + length old.current → Appends out' out'' text
-      → ((rest : List ℕ) → left'' ≡ Some rest
-      → ((new.current ++ new.ahead) ++ rest ≢ [])
+      → ((rest : List ℕ) → left'' ≡ Some rest → ((new.current ++ new.ahead) ++ rest ≢ [])
       × HasNoGame ((new.current ++ new.ahead) ++ rest))
       → IfSome left (λ whole. StopsAtBytes aim whole new.place out out'')
   stops_at new left'' out'' passes place last bad =
@@ -247,8 +239,7 @@ module _ {aim : Aim} {old : Window} {left left' out out' : Option (List ℕ)} {t
         text = on.all;
         read = record {
           fit = on.fit;
-          parted =
-              append_assoc (pack_bytes on.before) (new.current ++ new.ahead) rest;
+          parted = append_assoc (pack_bytes on.before) (new.current ++ new.ahead) rest;
           lines = on.lines;
         };
         place = place ∙ on.place;
@@ -322,8 +313,7 @@ module _ {aim : Aim} {old : Window} {left left' out out' : Option (List ℕ)} {t
       stops_at new left'' out'' passes place last (λ rest is.
       let same : (new.current ++ new.ahead) ++ rest ≡ new.ahead ++ rest =
       ap (λ c. (c ++ new.ahead) ++ rest) none in
-      let here =
-      subst (λ (l : Option (List ℕ)).
+      let here = subst (λ (l : Option (List ℕ)).
       IfSome l (λ rest. (new.ahead ++ rest ≢ []) × HasNoRecord (new.ahead ++ rest))) is bad in (
         λ empty. here.0 (sym same ∙ empty),
         λ packed more own e.
@@ -355,7 +345,6 @@ stopped_after {aim} {old} {left} {left'} {out} {out'} on left'' error result out
     IfSome left (λ whole. StopsSearch e aim whole left'' out out'')) (sym is)
     (stands (subst (Appends out' out'') same put)))
 stopped_after {aim} {old} {left} {left'} {out} {out'} on left'' error result out'' faulted gathered
-    same (inr (is, failed, front)) stands =
-    stopped result
+    same (inr (is, failed, front)) stands = stopped result
     (subst (λ (e : SearchError). IfSome left (λ whole. StopsSearch e aim whole left'' out out''))
     (sym is) (stops_within on out'' (subst (AppendsFront out' out'') same front)))

@@ -1,28 +1,21 @@
 -- Runs over files, one after the other.
-use Rattle.std.proofs.Common.{◌≡◌, ◌≢◌, ◌++◌, ◌||◌, ◌+◌, ◌<◌, ℕ, Bool, List, [], ◌∷◌, Option, Some}
-use Rattle.std.proofs.Common.{None, IfSome, length, drop, take, map, get_or, refl, sym, ap, subst}
-use Rattle.std.proofs.Common.{◌∙◌}
-use Rattle.std.proofs.lemmas.List.{append_assoc, append-nil, drop_more, get_or-map, length-map}
+use Rattle.std.proofs.Common.{IfSome}
+use Rattle.std.proofs.lemmas.List.{append_assoc, append-nil, drop_more, get_or-map}
 use Rattle.std.proofs.lemmas.List.{take-append-drop, take_more}
-use Rattle.std.proofs.lemmas.List.Folds.{list_any-append}
 use Rattle.std.proofs.Math.Bool.{or-false}
-use Rattle.std.specs.Io.KnownBytes.{Appends}
-use Rattle.std.specs.List.{list_any}
-use Rattle.std.specs.Option.{option_map}
-use Rattle.std.specs.declared.io.ErrorKind.{ErrorKind}
 use Rattle.std.specs.declared.io.ErrorKind.TheVariants.{OutOfMemory}
+use Rattle.pgn_extract.proofs.Common.{◌≡◌, ◌≢◌, ◌++◌, ◌||◌, ◌+◌, ◌<◌, ℕ, Bool, List, [], ◌∷◌}
+use Rattle.pgn_extract.proofs.Common.{Option, Some, None, length, drop, take, map, get_or, refl}
+use Rattle.pgn_extract.proofs.Common.{sym, ap, subst, ◌∙◌, length-map, list_any-append, Appends}
+use Rattle.pgn_extract.proofs.Common.{list_any, option_map, ErrorKind, Completes, Io, AreKnown}
+use Rattle.pgn_extract.proofs.Common.{AreOfPaths, AtPath, FileOf, IsOfPath, IsRead, IsRefused}
+use Rattle.pgn_extract.proofs.Common.{NamesUnopened, NoFile, Order, Unknown, is_no_file}
+use Rattle.pgn_extract.proofs.Common.{own_summary, fault_lines, output_text, Summary}
 use Rattle.pgn_extract.proofs.Writing.{appends_join}
-use Rattle.pgn_extract.specs.Public.Runs.{Completes, Io}
-use Rattle.pgn_extract.specs.Public.Several.{AreKnown, AreOfPaths, AtPath, FileOf, IsOfPath, IsRead}
-use Rattle.pgn_extract.specs.Public.Several.{IsRefused, NamesUnopened, NoFile, Order, Unknown}
-use Rattle.pgn_extract.specs.Public.Several.{is_no_file, own_summary}
-use Rattle.pgn_extract.specs.Public.Verdicts.{fault_lines, output_text}
-use Rattle.pgn_extract.specs.declared.output.outcome.Summary.{Summary}
 
 -- what is written of one path more
 pub paths_more : (order : List ℕ → Order) (known : List ℕ → AtPath) (before : List (List ℕ))
-    (path output report own own_report : List ℕ)
-    → AreOfPaths order known before output report
+    (path output report own own_report : List ℕ) → AreOfPaths order known before output report
     → IsOfPath (order path) path (known path) own own_report
     → AreOfPaths order known (before ++ path ∷ []) (output ++ own) (report ++ own_report)
 paths_more order known [] path output report own own_report are is = (
@@ -79,8 +72,7 @@ known_there view all i d known now same within are = λ unknown.
 pub written_there : {P : Type 0} (view : P → List ℕ) (all : List P) (i : ℕ) (d : P)
     (order order' : List ℕ → Order) (known known' : List ℕ → AtPath)
     → ((path : List ℕ) → order' path ≡ order path) → ((path : List ℕ) → known' path ≡ known path)
-    → i < length all
-    → (output report own own_report : List ℕ)
+    → i < length all → (output report own own_report : List ℕ)
     → AreOfPaths order known (take i (map view all)) output report
     → IsOfPath (order' (view (get_or all i d))) (view (get_or all i d))
     (known' (view (get_or all i d))) own own_report
@@ -104,8 +96,7 @@ pub unopened_there : {P : Type 0} (view : P → List ℕ) (all : List P) (i : �
 unopened_there view all i d known known' same within was own now is before here =
     let path = view (get_or all i d) in
     let test : List ℕ → Bool = λ path. is_no_file (known path) in
-    is ∙ ap (λ b. b || own) before
-    ∙ ap (λ b. list_any test (take i (map view all)) || b)
+    is ∙ ap (λ b. b || own) before ∙ ap (λ b. list_any test (take i (map view all)) || b)
     (here ∙ ap is_no_file (same path) ∙ sym (or-false (test path)))
     ∙ sym (list_any-append test (take i (map view all)) (path ∷ []))
     ∙ ap (list_any test) (sym (path_there view all i d within))
@@ -165,8 +156,7 @@ read_out order (Some text) io summary err done after = (
 
 -- a run that came to the end of what an input gives before an end, and then its line
 pub read_to_end : (order : Order) (left taken : Option (List ℕ)) (limit : ℕ) (io : Io)
-    (summary : Summary) (err : Option (List ℕ))
-    → limit ≡ order.end → taken ≡ left
+    (summary : Summary) (err : Option (List ℕ)) → limit ≡ order.end → taken ≡ left
     → IfSome (option_map (take limit) taken) (λ whole. Completes order.job io whole summary)
     → Appends io.err.new.bytes err (own_summary order.summary order.job.aim.name summary)
     → IfSome left (λ text. (output : List ℕ) × (report : List ℕ) × IsRead order text output report

@@ -1,13 +1,9 @@
 -- Searches of packs, one after the other.
-use Rattle.std.proofs.Common.{◌≡◌, ◌++◌, ◌<◌, ◌+◌, ℕ, List, [], ◌∷◌, drop}
-use Rattle.std.proofs.Common.{get_or, length, map, take, refl, sym, subst}
+use Rattle.pgn_extract.proofs.Common.{◌≡◌, ◌++◌, ◌<◌, ◌+◌, ℕ, List, [], ◌∷◌, drop, get_or, length}
+use Rattle.pgn_extract.proofs.Common.{map, take, refl, sym, subst, StopsAmongPacks, StopsAtPack}
+use Rattle.pgn_extract.proofs.Common.{Aim, Passage, Stream, AtPath, SearchesPath, SearchesPaths}
+use Rattle.pgn_extract.proofs.Common.{PackFailure}
 use Rattle.pgn_extract.proofs.SeveralFacts.{parted_there, path_there}
-use Rattle.pgn_extract.specs.Private.PackStops.{StopsAmongPacks, StopsAtPack}
-use Rattle.pgn_extract.specs.Public.Aims.{Aim}
-use Rattle.pgn_extract.specs.Public.Runs.{Passage, Stream}
-use Rattle.pgn_extract.specs.Public.Several.{AtPath}
-use Rattle.pgn_extract.specs.Private.SeveralPacks.{SearchesPath, SearchesPaths}
-use Rattle.pgn_extract.specs.declared.app.packs.PackFailure.{PackFailure}
 
 -- one path more
 paths_searched : (aim : Aim) (known : List ℕ → AtPath) (before : List (List ℕ)) (path : List ℕ)
@@ -24,8 +20,7 @@ paths_searched aim known [] path first there last first_err there_err last_err a
   subst (λ (s : Stream). SearchesPath aim path (known path) (record { old = s; new = last })
       (record { old = first_err; new = last_err })) are.0
       (subst (λ (s : Stream). SearchesPath aim path (known path) (record {
-        old =
-            there;
+        old = there;
         new = last;
       })
       (record { old = s; new = last_err })) are.1 is),

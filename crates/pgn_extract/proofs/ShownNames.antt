@@ -1,13 +1,11 @@
 -- A name as lines show it has no control character, byte by byte.
 use Rattle.std.proofs.Common.{◌≡◌, ◌⊎◌, ℕ, ◌+◌, ◌/◌, ◌%◌, ◌<◌, ◌≤◌, ◌∙◌, Bool, true, false, cond}
 use Rattle.std.proofs.Common.{ltb, List, [], ◌∷◌, ◌++◌, map, refl, arith, inl, inr}
-use Rattle.std.specs.Prelude.{◌||◌, ◌&&◌, ◌==◌, nat_le, nat_lt, IsTrue, if◌then◌else◌, chars}
+use Rattle.std.specs.Prelude.{◌||◌, ◌&&◌, ◌==◌, nat_lt, IsTrue, chars}
 use Rattle.std.specs.Str.{encode_utf8_all}
 use Rattle.std.specs.Char.{encode_utf8}
-use Rattle.std.proofs.lemmas.Bool.{cases_lt}
-use Rattle.std.proofs.lemmas.Bool.Decides.{nat_tests}
+use Rattle.pgn_extract.proofs.Common.{nat_le, if◌then◌else◌, cases_lt, nat_tests, shown_char}
 use Rattle.pgn_game.specs.Public.PackedGames.{is_shown}
-use Rattle.pgn_extract.specs.Public.Index.{shown_char}
 use Rattle.pgn_extract.specs.Public.Laws.{NamesAreShown}
 
 -- no control character
@@ -70,8 +68,7 @@ three_bytes c rest =
 
 four_bytes : (c : ℕ) (rest : List ℕ)
     → is_shown ((240 + c / 262144) ∷ (128 + c / 4096 % 64) ∷ (128 + c / 64 % 64) ∷ (128 + c % 64)
-    ∷ rest)
-    ≡ is_shown rest
+    ∷ rest) ≡ is_shown rest
 four_bytes c rest =
     one_byte (240 + c / 262144) ((128 + c / 4096 % 64) ∷ (128 + c / 64 % 64) ∷ (128 + c % 64)
     ∷ rest)
@@ -87,8 +84,7 @@ encoded c rest (low, apart) = by (ltb c 128) (ltb c 2048) (ltb c 65536) refl ref
         → is_shown (cond one (c ∷ []) (cond two ((192 + c / 64) ∷ (128 + c % 64) ∷ [])
         (cond three ((224 + c / 4096) ∷ (128 + c / 64 % 64) ∷ (128 + c % 64) ∷ [])
         ((240 + c / 262144) ∷ (128 + c / 4096 % 64) ∷ (128 + c / 64 % 64) ∷ (128 + c % 64) ∷ [])))
-        ++ rest)
-        ≡ is_shown rest
+        ++ rest) ≡ is_shown rest
     by true two three a b = one_byte c rest low (inl (grind (arith, nat_tests)))
     by false true three a b = two_bytes c rest (grind (arith, nat_tests)) (grind (arith, nat_tests))
     by false false true a b = three_bytes c rest

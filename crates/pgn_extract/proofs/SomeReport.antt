@@ -4,39 +4,27 @@
 use Rattle.std.proofs.Common.{◌≡◌, ◌⊎◌, ℕ, zero, suc, arith, ◌+◌, ◌<◌, ◌≤◌, ◌==◌, Bool, true, false}
 use Rattle.std.proofs.Common.{List, [], ◌∷◌, ◌++◌, map, length, Option, Some, None, IfSome, refl}
 use Rattle.std.proofs.Common.{ap, sym, subst, inl, inr, codes}
-use Rattle.std.proofs.lemmas.Bool.{cases_lt, cases_Bool, both_ways}
-use Rattle.pgn_text.specs.Public.Marks.{PieceKind, ReadableGame, UnreadableRest, TooLongBlock}
-use Rattle.pgn_text.specs.Public.Marks.{MarkedPiece, marked, AreOfBlock, over, within, AreOfBlocks}
-use Rattle.pgn_text.specs.Public.Marks.{AreMarkedPieces}
-use Rattle.pgn_text.specs.Public.GameTexts.{GameText, IsGameText, ShowsGame, tag_in}
-use Rattle.pgn_text.specs.Public.Parts.{Part, spelled}
+use Rattle.pgn_extract.proofs.Common.{cases_lt, cases_Bool, both_ways, PieceKind, ReadableGame}
+use Rattle.pgn_extract.proofs.Common.{UnreadableRest, TooLongBlock, MarkedPiece, marked, AreOfBlock}
+use Rattle.pgn_extract.proofs.Common.{over, within, AreOfBlocks, AreMarkedPieces, GameText}
+use Rattle.pgn_extract.proofs.Common.{IsGameText, ShowsGame, tag_in, Part, spelled, lines_with}
+use Rattle.pgn_extract.proofs.Common.{Fault, Lines, Main, fen_tag, id_of, IfChosen, is_chosen}
+use Rattle.pgn_extract.proofs.Common.{fault_text, mark_line, AreFields, IsGameOf, listing, plies_of}
+use Rattle.pgn_extract.proofs.Common.{cause_text, IsReplayOf, IsFaultOf, Form, Standard, AsItStands}
+use Rattle.pgn_extract.proofs.Common.{Line, Record, line_with, lines_in, written_lines, HasEntry}
+use Rattle.pgn_extract.proofs.Common.{IsTextOf, IsWritten, selected, unselected, as_it_stands}
+use Rattle.pgn_extract.proofs.Common.{faulty_text, Verdict, SoundGame, FaultyGame, IsOutput}
+use Rattle.pgn_extract.proofs.Common.{IsReplayed, AreEntryLines, IsVerdictIn, IsReportedBy}
+use Rattle.pgn_extract.proofs.Common.{AreVerdicts, replayed_lines, IsPieceVerdict}
+use Rattle.pgn_extract.proofs.Common.{IsUnreadableVerdict, Replay, Heading, heading_of, Aim, GameId}
+use Rattle.pgn_extract.proofs.Common.{IsMet, IsWanted, IsEntry, Mode}
 use Rattle.pgn_text.specs.Public.Pieces.{Piece, Game, Unreadable, ArePieces}
 use Rattle.pgn_text.specs.Public.Strings.{IsContents}
 use Rattle.pgn_text.proofs.ShownGame.{some_game_text}
 use Rattle.pgn_game.proofs.AnAnswer.{game_answer}
 use Rattle.pgn_game.proofs.SomeExport.{some_export}
 use Rattle.pgn_game.proofs.SomeRecord.{a_record}
-use Rattle.pgn_game.specs.Public.Exports.{lines_with}
-use Rattle.pgn_game.specs.Public.Faults.{Fault}
-use Rattle.pgn_game.specs.declared.replays.replayer.Lines.{Lines}
-use Rattle.pgn_game.specs.declared.replays.replayer.Lines.TheVariants.{Main}
-use Rattle.pgn_game.specs.Public.Starts.{fen_tag}
-use Rattle.pgn_extract.specs.Public.Choices.{id_of, IfChosen, is_chosen}
-use Rattle.pgn_extract.specs.Public.Index.{fault_text, mark_line}
-use Rattle.pgn_extract.specs.Public.Listing.{AreFields, IsGameOf, listing}
-use Rattle.pgn_extract.specs.Public.GameReports.{plies_of, cause_text, IsReplayOf, IsFaultOf}
 use Rattle.pgn_game.proofs.GameLineFacts.{some_line}
-use Rattle.pgn_extract.specs.declared.settings.Form.{Form}
-use Rattle.pgn_extract.specs.declared.settings.Form.TheVariants.{Standard, AsItStands, Line, Record}
-use Rattle.pgn_extract.specs.Public.Exports.{line_with, lines_in, written_lines, HasEntry, IsTextOf}
-use Rattle.pgn_extract.specs.Public.Exports.{IsWritten, selected, unselected, as_it_stands}
-use Rattle.pgn_extract.specs.Public.Exports.{faulty_text}
-use Rattle.pgn_extract.specs.Public.Verdicts.{Verdict, SoundGame, FaultyGame, IsOutput, IsReplayed}
-use Rattle.pgn_extract.specs.Public.Verdicts.{AreEntryLines, IsVerdictIn, IsReportedBy, AreVerdicts}
-use Rattle.pgn_extract.specs.Public.Verdicts.{replayed_lines, IsPieceVerdict, IsUnreadableVerdict}
-use Rattle.pgn_game.specs.Public.Replays.{Replay}
-use Rattle.pgn_criteria.specs.Public.Meeting.{Heading, heading_of}
-use Rattle.pgn_extract.specs.Public.Aims.{Aim, GameId, IsMet, IsWanted, IsEntry}
 use Rattle.pgn_extract.specs.Public.Laws.{TextHasAReport}
 use Rattle.pgn_extract.proofs.Chosen.{some_chosen}
 use Rattle.pgn_extract.proofs.Decided.{IsDecided, all_decided}
@@ -44,7 +32,6 @@ use Rattle.pgn_extract.proofs.ExactEntries.{within_plies}
 use Rattle.pgn_extract.proofs.Exported.{selected_or_not}
 use Rattle.pgn_extract.proofs.FieldTexts.{some_fields}
 use Rattle.pgn_extract.proofs.NoteLines.{empty_note, some_stop_note}
-use Rattle.pgn_extract.specs.declared.settings.Mode.{Mode}
 use Rattle.pgn_extract.specs.declared.settings.Mode.TheVariants as modes
 
 -- the parts of a game make one that a reader can be handed
@@ -120,8 +107,7 @@ wanted_or_not aim tags replay ply met = elim (cases_lt ply aim.min_ply) [
 -- none before a ply is wanted, or one is
 pub none_before : (aim : Aim) (tags : Heading) (replay : Replay) (ply : ℕ)
     → ((n : ℕ) → n < ply → IsMet aim.criteria tags replay n
-    ⊎ (IsMet aim.criteria tags replay n → ⊥))
-    → ((n : ℕ) → n < ply → IsWanted aim tags replay n → ⊥)
+    ⊎ (IsMet aim.criteria tags replay n → ⊥)) → ((n : ℕ) → n < ply → IsWanted aim tags replay n → ⊥)
     ⊎ ((n : ℕ) × (n < ply) × IsWanted aim tags replay n)
 none_before aim tags replay zero met = inl (λ n less wanted. omega arith)
 none_before aim tags replay (suc ply) met =
@@ -216,8 +202,7 @@ module _ (aim : Aim) (decided : IsDecided aim) (id : GameId) (game : GameText)
   entries : (replay : Replay) → IsReplayOf Main game replay
       → (own : List ℕ) × AreEntryLines aim id game replay own
   entries replay is =
-      let some =
-      some_chosen id (IsEntry aim (heading_of game) replay) (AreFields aim.fields replay)
+      let some = some_chosen id (IsEntry aim (heading_of game) replay) (AreFields aim.fields replay)
       (plies_of 0 replay.positions)
       (λ ply has. listed_or_not Main replay is ply (within_plies replay.positions ply has))
       (λ ply has.
@@ -273,19 +258,16 @@ piece_reported TooLongBlock aim decided id made =
 
 -- a piece, chosen or passed over
 one_reported : (taken : Bool) (kind : PieceKind) (aim : Aim) → IsDecided aim → (id : GameId)
-    → IsMade kind
-    → (verdict : Verdict)
+    → IsMade kind → (verdict : Verdict)
     × IfChosen taken (IsPieceVerdict kind aim id verdict) (verdict ≡ SoundGame [])
 one_reported true kind aim decided id made = piece_reported kind aim decided id made
 one_reported false kind aim decided id made = (SoundGame [], refl)
 
 all_reported : (aim : Aim) → IsDecided aim → (number : ℕ) (pieces : List MarkedPiece)
-    → AreMade pieces
-    → (reported : List Verdict) × AreVerdicts aim number pieces reported
+    → AreMade pieces → (reported : List Verdict) × AreVerdicts aim number pieces reported
 all_reported aim decided number [] made = ([], refl)
 all_reported aim decided number (piece ∷ more) made =
-    let own =
-    one_reported (is_chosen aim.chosen (id_of number piece)) piece.kind aim decided
+    let own = one_reported (is_chosen aim.chosen (id_of number piece)) piece.kind aim decided
     (id_of number piece) made.0 in
     let rest = all_reported aim decided (number + 1) more made.1 in
     (own.0 ∷ rest.0, (own.0, rest.0, refl, own.1, rest.1))

@@ -1,14 +1,17 @@
 -- Runs over files that end early.
-use Rattle.std.proofs.Common.{◌≡◌, ◌≢◌, ◌⊎◌, ◌++◌, ◌<◌, ◌+◌, ℕ, List, [], ◌∷◌, Option, Some, None}
-use Rattle.std.proofs.Common.{IfSome, codes, count_by, drop, get_or, length, map, take, refl, sym}
-use Rattle.std.proofs.Common.{subst, inl, inr}
-use Rattle.std.specs.Io.KnownBytes.{Appends, Keeps}
-use Rattle.std.specs.Option.{option_map}
-use Rattle.std.specs.Prelude.{Err, Ok, OnErr, Result}
-use Rattle.std.specs.declared.io.ErrorKind.{ErrorKind}
-use Rattle.std.specs.declared.io.ErrorKind.TheVariants as kinds
+use Rattle.std.proofs.Common.{IfSome}
+use Rattle.std.specs.Prelude.{Err, Ok}
+use Rattle.pgn_extract.proofs.Common.{◌≡◌, ◌≢◌, ◌⊎◌, ◌++◌, ◌<◌, ◌+◌, ℕ, List, [], ◌∷◌, Option, Some}
+use Rattle.pgn_extract.proofs.Common.{None, codes, count_by, drop, get_or, length, map, take, refl}
+use Rattle.pgn_extract.proofs.Common.{sym, subst, inl, inr, Appends, Keeps, option_map, OnErr}
+use Rattle.pgn_extract.proofs.Common.{Result, ErrorKind, MarkedPiece, shown_name, AppendsFront}
+use Rattle.pgn_extract.proofs.Common.{ArePieces, Completes, Io, IsBegun, Passage, Stops, Stream}
+use Rattle.pgn_extract.proofs.Common.{AtPath, BeginsPath, FileOf, IsOfPath, IsRead, IsRefused}
+use Rattle.pgn_extract.proofs.Common.{NamesUnopened, NoFile, Order, StopsAmong, StopsAtPath}
+use Rattle.pgn_extract.proofs.Common.{Unknown, WritesPaths, own_summary, AreVerdicts, Verdict}
+use Rattle.pgn_extract.proofs.Common.{fault_lines, is_faulty, output_text, RunError, InputTooLong}
+use Rattle.pgn_extract.proofs.Common.{OutOfMemory, Read, Write, Summary}
 use Rattle.pgn_text.proofs.MarkedPieces.{marked_pieces_exist}
-use Rattle.pgn_text.specs.Public.Marks.{MarkedPiece}
 use Rattle.pgn_extract.proofs.ChoiceFacts.{none_met}
 use Rattle.pgn_extract.proofs.Beginnings.{front_all, front_join}
 use Rattle.pgn_extract.proofs.BegunAll.{front_longer}
@@ -16,18 +19,7 @@ use Rattle.pgn_extract.proofs.BlockWritten.{front_none}
 use Rattle.pgn_extract.proofs.SeveralFacts.{parted_there, read_of, taken_to}
 use Rattle.pgn_extract.proofs.SomeReport.{rest_reported}
 use Rattle.pgn_extract.proofs.Writing.{appends_kept, appends_none}
-use Rattle.pgn_extract.specs.Public.Index.{shown_name}
-use Rattle.pgn_extract.specs.Public.Outcomes.{AppendsFront}
-use Rattle.pgn_extract.specs.Public.Runs.{ArePieces, Completes, Io, IsBegun, Passage, Stops, Stream}
-use Rattle.pgn_extract.specs.Public.Several.{AtPath, BeginsPath, FileOf, IsOfPath, IsRead}
-use Rattle.pgn_extract.specs.Public.Several.{IsRefused, NamesUnopened, NoFile, Order, StopsAmong}
-use Rattle.pgn_extract.specs.Public.Several.{StopsAtPath, Unknown, WritesPaths, own_summary}
-use Rattle.pgn_extract.specs.Public.Verdicts.{AreVerdicts, Verdict, fault_lines, is_faulty}
-use Rattle.pgn_extract.specs.Public.Verdicts.{output_text}
-use Rattle.pgn_extract.specs.declared.output.outcome.RunError.{RunError}
-use Rattle.pgn_extract.specs.declared.output.outcome.RunError.TheVariants.{InputTooLong}
-use Rattle.pgn_extract.specs.declared.output.outcome.RunError.TheVariants.{OutOfMemory, Read, Write}
-use Rattle.pgn_extract.specs.declared.output.outcome.Summary.{Summary}
+use Rattle.std.specs.declared.io.ErrorKind.TheVariants as kinds
 
 -- what is written of a text of which these pieces are so reported
 abbrev report_text : Order → List MarkedPiece → List Verdict → List ℕ
@@ -104,14 +96,12 @@ none_begun order path at out err known outputs reports =
       report = own.1;
       is = own.2;
       outputs = (0, outputs);
-      reports =
-          (0, reports);
+      reports = (0, reports);
     }
 
 -- of a file a beginning of its report is written
 text_begun : (order : Order) (path text : List ℕ) (io : Io)
-    → IsBegun order.job io (take order.end text)
-    → BeginsPath order path (FileOf text) io.out io.err
+    → IsBegun order.job io (take order.end text) → BeginsPath order path (FileOf text) io.out io.err
 text_begun order path text io begun = record {
   output = output_text begun.verdicts;
   report = report_text order begun.pieces begun.verdicts;
@@ -138,8 +128,7 @@ line_begun order path text io summary err done line = record {
 
 -- where it is for want of memory or for a write that failed
 pub stops_late : (error : RunError) (order : Order) (path : List ℕ) (at : AtPath)
-    (out err : Passage)
-    → (error ≡ Write) ⊎ (error ≡ OutOfMemory) → BeginsPath order path at out err
+    (out err : Passage) → (error ≡ Write) ⊎ (error ≡ OutOfMemory) → BeginsPath order path at out err
     → StopsAtPath error order path at out err
 stops_late error order path at out err (inl is) begun =
     subst (λ (e : RunError). StopsAtPath e order path at out err) (sym is) begun
@@ -164,8 +153,7 @@ stops_of error order (Some text) io stops = λ path. stops_run error order path 
 
 -- so did one over what an input gives before an end
 pub stops_to_end : (error : RunError) (order : Order) (left taken : Option (List ℕ)) (limit : ℕ)
-    (io : Io)
-    → limit ≡ order.end → taken ≡ left
+    (io : Io) → limit ≡ order.end → taken ≡ left
     → IfSome (option_map (take limit) taken) (λ whole. Stops error order.job io whole)
     → IfSome left (λ text. (path : List ℕ) → StopsAtPath error order path (FileOf text) io.out
     io.err)
@@ -174,8 +162,7 @@ stops_to_end error order left taken limit io at same stops =
     (taken_to order.end left taken limit (λ whole. Stops error order.job io whole) at same stops)
 
 line_of : (error : RunError) (order : Order) (left : Option (List ℕ)) (io : Io) (summary : Summary)
-    (err : Stream)
-    → (error ≡ Write) ⊎ (error ≡ OutOfMemory)
+    (err : Stream) → (error ≡ Write) ⊎ (error ≡ OutOfMemory)
     → IfSome (option_map (take order.end) left) (λ whole. Completes order.job io whole summary)
     → AppendsFront io.err.new.bytes err.bytes (own_summary order.summary order.job.aim.name summary)
     → IfSome left (λ text. (path : List ℕ) → StopsAtPath error order path (FileOf text) io.out
@@ -218,8 +205,7 @@ stops_unopened error order path NoFile kind out err known refused kept late same
       reports = front;
     })
 stops_unopened error order path (FileOf text) kind out err known refused kept late same line names
-    front =
-    stops_late error order path (FileOf text) out err late
+    front = stops_late error order path (FileOf text) out err late
     (none_begun order path (FileOf text) out err known same
     (appends_kept err.old.bytes err.old.bytes err.new.bytes [] (appends_none err.old.bytes)
     (kept refused)))
@@ -228,8 +214,7 @@ stops_unopened error order path (FileOf text) kind out err known refused kept la
 pub stops_there : {P : Type 0} (view : P → List ℕ) (all : List P) (i : ℕ) (d : P)
     (order order' : List ℕ → Order) (known known' : List ℕ → AtPath)
     → ((path : List ℕ) → order' path ≡ order path) → ((path : List ℕ) → known' path ≡ known path)
-    → i < length all
-    → (error : RunError) (out err : Passage) (out_there err_there : Stream)
+    → i < length all → (error : RunError) (out err : Passage) (out_there err_there : Stream)
     → WritesPaths order known (take i (map view all)) (record { old = out.old; new = out_there })
     (record { old = err.old; new = err_there })
     → StopsAtPath error (order' (view (get_or all i d))) (view (get_or all i d))

@@ -38,8 +38,7 @@ module _ (mark : List ℕ) where
   -- some lines more
   pub lines_more : (from ply more : ℕ) → from ≤ ply → (before now next lines : List ℕ)
       → now ≡ before ++ lines_from mark from (ply - from) → lines ≡ lines_from mark ply more
-      → next ≡ now ++ lines
-      → next ≡ before ++ lines_from mark from (ply + more - from)
+      → next ≡ now ++ lines → next ≡ before ++ lines_from mark from (ply + more - from)
   lines_more from ply more above before now next lines written are added =
       let count = ply - from in
       let all : ply + more - from ≡ count + more = omega arith in
@@ -71,8 +70,7 @@ module _ (mark : List ℕ) where
         ap (λ t. mark ++ 32 ∷ t ++ 10 ∷ [])
         (decimal_step (10 * tens + digit) (omega arith) (omega arith)
         ∙ ap (λ t. decimal t ++ (48 + (10 * tens + digit) % 10) ∷ []) front
-        ∙ ap (λ d. decimal tens ++ (48 + d) ∷ []) last)
-        ∙ parted mark (decimal tens) (48 + digit)
+        ∙ ap (λ d. decimal tens ++ (48 + d) ∷ []) last) ∙ parted mark (decimal tens) (48 + digit)
 
     line_length : (digit : ℕ) → digit < 10 → length (line_at mark (10 * tens + digit))
         ≡ width mark tens
@@ -92,8 +90,7 @@ module _ (mark : List ℕ) where
         length-append (line_at mark ply) (lines_from mark (ply + 1) count)
         ∙ ap (λ n. n + length (lines_from mark (ply + 1) count)) (line_length digit (omega arith))
         ∙ ap (λ n. width mark tens + n) (ap (λ n. length (lines_from mark n count)) next
-        ∙ lines_length (digit + 1) count (omega arith))
-        ∙ omega arith
+        ∙ lines_length (digit + 1) count (omega arith)) ∙ omega arith
 
     -- ten of them
     pub ten_length : length (lines_from mark (10 * tens) 10) ≡ 10 * width mark tens

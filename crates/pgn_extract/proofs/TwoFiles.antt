@@ -3,19 +3,14 @@ use Rattle.std.proofs.Common.{◌≡◌, ◌≢◌, ◌⊎◌, ◌++◌, ◌<◌
 use Rattle.std.proofs.Common.{if◌then◌else◌, get_or, length, take, sym, subst, ap, inl, inr, ◌∙◌}
 use Rattle.std.proofs.lemmas.List.{append_assoc, append-nil}
 use Rattle.std.specs.Str.{bytes_eq}
+use Rattle.pgn_extract.proofs.Common.{largest_offset, MarkedPiece, AreEntries, Entry, listing}
+use Rattle.pgn_extract.proofs.Common.{ArePieces, Job, Passage, RunError, InputTooLong, AreKnown}
+use Rattle.pgn_extract.proofs.Common.{AreOfPaths, FileOf, IsRead, IsReport, NamesUnopened, NoFile}
+use Rattle.pgn_extract.proofs.Common.{Order, StopsAmong, StopsAtPath, Unknown, own_summary}
 use Rattle.pgn_extract.proofs.ExactEntries.{are_entries}
 use Rattle.pgn_extract.proofs.ModeOutputs.{of_pieces}
-use Rattle.pgn_text.specs.Public.Limits.{largest_offset}
-use Rattle.pgn_text.specs.Public.Marks.{MarkedPiece}
-use Rattle.pgn_extract.specs.Public.Listing.{AreEntries, Entry, listing}
-use Rattle.pgn_extract.specs.Public.Runs.{ArePieces, Job, Passage}
 use Rattle.pgn_extract.specs.Private.TwoFiles.{known_of_two}
-use Rattle.pgn_extract.specs.declared.output.outcome.RunError.{RunError}
-use Rattle.pgn_extract.specs.declared.output.outcome.RunError.TheVariants.{InputTooLong}
 use Rattle.pgn_extract.specs.declared.settings.Mode.TheVariants as modes
-use Rattle.pgn_extract.specs.Public.Several.{AreKnown, AreOfPaths, FileOf, IsRead, IsReport}
-use Rattle.pgn_extract.specs.Public.Several.{NamesUnopened, NoFile, Order, StopsAmong, StopsAtPath}
-use Rattle.pgn_extract.specs.Public.Several.{Unknown, own_summary}
 
 abbrev pub three_paths : List (List ℕ)
 three_paths = codes "first.pgn" ∷ codes "none.pgn" ∷ codes "second.pgn" ∷ []
@@ -82,16 +77,14 @@ two_written order first second output report out err off to_output to_report are
 pub listed_alone : (job : Job) (text output faults : List ℕ) → job.aim.mode ≡ modes.List → IsReport
     job text output faults
     → (pieces : List MarkedPiece) × (entries : List Entry) × ArePieces job text pieces × AreEntries
-    job.aim job.id.number pieces entries
-    × (output ≡ listing job.aim.name entries)
+    job.aim job.id.number pieces entries × (output ≡ listing job.aim.name entries)
 listed_alone job text output faults lists is =
     let rows = of_pieces job.aim lists job.id.number is.pieces is.verdicts is.reported in (
       is.pieces,
       rows.0,
       is.each,
       are_entries job.aim job.id.number is.pieces rows.0 rows.1,
-      is.outputs
-          ∙ rows.2,
+      is.outputs ∙ rows.2,
     )
 
 too_long_at : (order : Order) (path : List ℕ) (here there : Bool) (first second : List ℕ)

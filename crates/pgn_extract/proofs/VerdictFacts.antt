@@ -1,19 +1,13 @@
 -- What is reported of pieces in a row, piece by piece.
-use Rattle.std.proofs.Common.{◌≡◌, ℕ, ◌+◌, true, false, List, [], ◌∷◌, ◌++◌, map, length, refl, sym}
-use Rattle.std.proofs.Common.{ap, ◌∙◌, subst, arith, append_assoc, codes}
-use Rattle.std.specs.Prelude.{count_by, fold, if◌then◌else◌}
+use Rattle.std.specs.Prelude.{count_by, fold}
 use Rattle.std.proofs.lemmas.List.Sums.{fold-append}
 use Rattle.std.proofs.lemmas.List.{append-nil}
-use Rattle.pgn_text.specs.Public.Marks.{MarkedPiece}
-use Rattle.pgn_extract.specs.Private.Blockwise.{Reports, too_long_piece}
-use Rattle.pgn_extract.specs.Public.Choices.{is_chosen}
-use Rattle.pgn_extract.specs.Public.Index.{fault_text}
-use Rattle.pgn_extract.specs.Public.Notes.{IsNote}
-use Rattle.pgn_extract.specs.Public.Verdicts.{Verdict, SoundGame, FaultyGame, without_note}
-use Rattle.pgn_extract.specs.Public.Verdicts.{AreVerdicts, output_of, fault_line_of, output_text}
-use Rattle.pgn_extract.specs.Public.Verdicts.{fault_lines, is_faulty}
-use Rattle.pgn_extract.specs.declared.engine.report.Report.{Report}
-use Rattle.pgn_extract.specs.Public.Aims.{Aim, GameId}
+use Rattle.pgn_extract.proofs.Common.{◌≡◌, ℕ, ◌+◌, true, false, List, [], ◌∷◌, ◌++◌, map, length}
+use Rattle.pgn_extract.proofs.Common.{refl, sym, ap, ◌∙◌, subst, arith, append_assoc, codes}
+use Rattle.pgn_extract.proofs.Common.{if◌then◌else◌, MarkedPiece, Reports, too_long_piece}
+use Rattle.pgn_extract.proofs.Common.{is_chosen, fault_text, IsNote, Verdict, SoundGame, FaultyGame}
+use Rattle.pgn_extract.proofs.Common.{without_note, AreVerdicts, output_of, fault_line_of}
+use Rattle.pgn_extract.proofs.Common.{output_text, fault_lines, is_faulty, Report, Aim, GameId}
 use Rattle.pgn_extract.proofs.ChoiceFacts.{if_passed, if_taken}
 
 -- what goes to the output of some, and then of others
@@ -95,8 +89,7 @@ bare_count a [] = refl
 bare_count a (x ∷ xs) =
     ap (λ f. fold (λ (n : ℕ) (x : Verdict).
     n + (if is_faulty x then 1 else 0)) (a + (if f then 1 else 0)) (map without_note xs))
-    (bare_faulty x)
-    ∙ bare_count (a + (if is_faulty x then 1 else 0)) xs
+    (bare_faulty x) ∙ bare_count (a + (if is_faulty x then 1 else 0)) xs
 
 pub same_faulty : (xs ys : List Verdict) → map without_note xs ≡ map without_note ys
     → count_by is_faulty xs ≡ count_by is_faulty ys
@@ -108,11 +101,9 @@ joined front one whole e = ap (λ t. front ++ t) (sym (append-nil one)) ∙ sym 
 
 -- the one piece of a block over the limit, where it is chosen
 pub reports_too_long : (aim : Aim) (report : Report) (id : GameId) (note : List ℕ)
-    → is_chosen aim.chosen id ≡ true
-    → IsNote aim.explain note → report.output.items ≡ []
+    → is_chosen aim.chosen id ≡ true → IsNote aim.explain note → report.output.items ≡ []
     → report.faults.items ≡ fault_text aim.name id (codes "too long") ++ note → report.games ≡ 1
-    → report.faulty ≡ 1
-    → Reports aim report id.number (too_long_piece id.offset ∷ [])
+    → report.faulty ≡ 1 → Reports aim report id.number (too_long_piece id.offset ∷ [])
 reports_too_long aim report id note taken noted output faults games faulty =
     let line = fault_text aim.name id (codes "too long") in
     record {
@@ -133,8 +124,7 @@ reports_too_long aim report id note taken noted output faults games faulty =
 
 -- and where it is passed over
 pub reports_passed : (aim : Aim) (report : Report) (id : GameId) → is_chosen aim.chosen id ≡ false
-    → report.output.items ≡ []
-    → report.faults.items ≡ [] → report.games ≡ 1 → report.faulty ≡ 0
+    → report.output.items ≡ [] → report.faults.items ≡ [] → report.games ≡ 1 → report.faulty ≡ 0
     → Reports aim report id.number (too_long_piece id.offset ∷ [])
 reports_passed aim report id passed output faults games faulty = record {
   verdicts = SoundGame [] ∷ [];

@@ -1,42 +1,26 @@
 -- A packed game is walked from position to position, by the codes of its plies or by their marks.
-use Rattle.std.proofs.Common.{◌≡◌, ◌↔◌, ℕ, ◌+◌, ◌<◌, ◌≤◌, Bool, true, false, inl, inr, List, []}
-use Rattle.std.proofs.Common.{◌∷◌, ◌++◌, length, Some, IsTrue, refl, sym, ap, ◌∙◌, subst}
-use Rattle.std.proofs.Common.{append_assoc, length-append, arith}
 use Rattle.std.specs.Prelude.{◌==◌, ◌/◌, ◌%◌}
 use Rattle.std.specs.List.{slice_get, flat_map, AllByRecursion}
-use Rattle.std.proofs.lemmas.Bool.{cases_lt}
-use Rattle.std.proofs.lemmas.Option.{same_Some}
-use Rattle.chess.specs.Public.Moves.{after, IsPseudoLegal}
+use Rattle.pgn_extract.proofs.Common.{◌≡◌, ◌↔◌, ℕ, ◌+◌, ◌<◌, ◌≤◌, Bool, true, false, inl, inr, List}
+use Rattle.pgn_extract.proofs.Common.{[], ◌∷◌, ◌++◌, length, Some, IsTrue, refl, sym, ap, ◌∙◌}
+use Rattle.pgn_extract.proofs.Common.{subst, append_assoc, length-append, arith, cases_lt}
+use Rattle.pgn_extract.proofs.Common.{same_Some, after, State, Side, Move, GameText, main_words}
+use Rattle.pgn_extract.proofs.Common.{IsMainLine, RawRecord, raw_of, PackedGame, PlyCode, AreCodes}
+use Rattle.pgn_extract.proofs.Common.{AreMarks, Replay, Main, same_first, same_rest, head_shows}
+use Rattle.pgn_extract.proofs.Common.{has_marks, NoneMeets, IsNextMet, Conditions, heading_of}
+use Rattle.pgn_extract.proofs.Common.{SomeHold, MeetsSeen, NowhereSeen, codes_in, Sight, IsSightOf}
+use Rattle.pgn_extract.proofs.Common.{Aim, IsMet, IsWanted, is_plain, Fields, IsOfGame, AsksFor}
+use Rattle.pgn_extract.proofs.Common.{GoesTo, MeetsHere, NoneAfter, ShowsFields, IsOfRecord}
+use Rattle.pgn_extract.proofs.Common.{EachOfRecord, NoneInRecord, record_aim, IsWalkedWith}
+use Rattle.chess.specs.Public.Moves.{IsPseudoLegal}
 use Rattle.chess.specs.Public.Placements.{opposite}
-use Rattle.chess.specs.Public.Positions.{State}
-use Rattle.chess.specs.declared.board.man.Side.{Side}
-use Rattle.chess.specs.declared.moves.Move.{Move}
-use Rattle.pgn_text.specs.Public.GameTexts.{GameText}
-use Rattle.pgn_game.specs.Public.MainLines.{main_words, IsMainLine}
-use Rattle.pgn_game.specs.Public.PackReading.{RawRecord, raw_of}
-use Rattle.pgn_game.specs.Public.PackedGames.{PackedGame}
-use Rattle.pgn_game.specs.Public.PlyCodes.{PlyCode, FitsCode, IsCode, AreCodes, AreMarks}
-use Rattle.pgn_game.specs.Public.PlyCodes.{code_bytes}
-use Rattle.pgn_game.specs.Public.Replays.{Replay}
-use Rattle.pgn_game.specs.declared.replays.replayer.Lines.TheVariants.{Main}
-use Rattle.pgn_game.proofs.Cells.{no_cell, same_first, same_rest}
-use Rattle.pgn_game.proofs.HeadFacts.{head_shows}
+use Rattle.pgn_game.specs.Public.PlyCodes.{FitsCode, IsCode, code_bytes}
+use Rattle.pgn_game.proofs.Cells.{no_cell}
 use Rattle.pgn_game.proofs.PlyCodeFacts.{code_again}
-use Rattle.pgn_criteria.specs.Public.ByMarks.{has_marks, NoneMeets, IsNextMet}
-use Rattle.pgn_criteria.specs.Public.Conditions.{Conditions}
-use Rattle.pgn_criteria.specs.Public.Meeting.{heading_of, SomeHold}
-use Rattle.pgn_criteria.specs.Public.Prefilters.{MeetsSeen, NowhereSeen, codes_in}
-use Rattle.pgn_criteria.specs.Public.Walks.{Sight, IsSightOf, stepped}
+use Rattle.pgn_criteria.specs.Public.Walks.{stepped}
 use Rattle.pgn_criteria.proofs.WalkFacts.{step_shows_next_position}
-use Rattle.pgn_extract.specs.Public.Aims.{Aim, IsMet, IsWanted}
-use Rattle.pgn_extract.specs.Public.Listing.{is_plain}
-use Rattle.pgn_extract.specs.declared.settings.Fields.{Fields}
-use Rattle.pgn_extract.specs.Private.Finding.{IsOfGame, AsksFor}
-use Rattle.pgn_extract.specs.Private.Lines.{GoesTo, MeetsHere, NoneAfter, ShowsFields}
-use Rattle.pgn_extract.specs.Private.Packed.{IsOfRecord, EachOfRecord, StartsWith, StartsThere}
-use Rattle.pgn_extract.specs.Private.Packed.{NoneInRecord, StandsInRecord, record_aim}
-use Rattle.pgn_extract.specs.Private.WalkedLines.{IsWalkedTo, IsWalkedWith, IsMarkedWith}
-use Rattle.pgn_extract.specs.Private.WalkedLines.{AreMetWith}
+use Rattle.pgn_extract.specs.Private.Packed.{StartsWith, StartsThere, StandsInRecord}
+use Rattle.pgn_extract.specs.Private.WalkedLines.{IsWalkedTo, IsMarkedWith, AreMetWith}
 use Rattle.pgn_extract.proofs.FieldTexts.{no_fields}
 use Rattle.pgn_extract.proofs.Finds.{at_seam, seam_within, none_yet, not_wanted}
 use Rattle.pgn_extract.proofs.OneMain.{one_main, stands_main}
@@ -87,15 +71,8 @@ pub next_ply : (here : State) (later : List State) (words : List (List ℕ)) (mo
     → AreCodes here moves (c ∷ more) → IsNextPly here later c more
 next_ply here later words [] c more line codes = absurd (no_cell c more (sym codes))
 next_ply here later [] (m ∷ moves) c more line codes = absurd (no_cell m moves (sym line.1))
-next_ply here later (word ∷ words) (m ∷ moves) c more (
-  n,
-  rest,
-  others,
-  positions_is,
-  moves_is,
-  named,
-  line,
-) (d, left, codes_is, code, are) =
+next_ply here later (word ∷ words) (m ∷ moves) c more
+    (n, rest, others, positions_is, moves_is, named, line) (d, left, codes_is, code, are) =
     let same : n ≡ m = sym (same_first m n moves others moves_is) in
     let front = line_begins (after here n) words rest others line in
     let stays : later ≡ after here n ∷ front.0 =
@@ -198,8 +175,7 @@ module _ {seen : Sight} {game : GameText} {before : List State} {P : State} wher
   walked_all at replay own =
       ap length (sym (one_main game at.replay replay (Main, at.is_replay) own).0 ∙ at.parts
       ∙ ap (λ (ps : List State). before ++ P ∷ ps)
-      (line_ended P at.later at.words at.moves at.line at.codes))
-      ∙ length-append before (P ∷ [])
+      (line_ended P at.later at.words at.moves at.line at.codes)) ∙ length-append before (P ∷ [])
 
 -- so none of the plies from here on is wanted, if that is so of each position that is walked to
 module _ (aim : Aim) (game : GameText) (So : Sight → List PlyCode → Type 0)
@@ -267,8 +243,7 @@ module _ (seen : Sight) (ply : ℕ) (asked : List Conditions) (aim : Aim) (game 
   walks_all left at on ended = (
     (at.to.replay, at.to.is_replay),
     λ is_on replay own rest is n low within wanted.
-        let size =
-        walked_all
+        let size = walked_all
         (subst (λ cs. IsWalkedTo seen cs game before P) (ended is_on) at.to) replay own in
         absurd (omega (arith, size, low, within)),
   )
@@ -417,8 +392,7 @@ module _ (aim : Aim) (game : GameText) (set : ℕ)
           none = λ replay own n low high. absurd (omega (arith, low, high));
         }
         | inr there ↦
-            let more =
-            pass_to codes (stepped s c) side left (before ++ P ∷ []) next to there.1 in
+            let more = pass_to codes (stepped s c) side left (before ++ P ∷ []) next to there.1 in
             let grown = length-append before (P ∷ []) in
             record {
               passed = next ∷ more.passed;
@@ -447,8 +421,7 @@ pub marks_on : (set : ℕ) (side after : Side) (codes left : List PlyCode) (ply 
     → GoesTo (λ other own some Q. IsMarkedWith set after left n other own some Q) on true aim game
     before P
 marks_on set side after codes left ply n on aim game before P at is count =
-    let more =
-    pass_to aim game set at.met codes at.seen after left before P at.to
+    let more = pass_to aim game set at.met codes at.seen after left before P at.to
     (subst (λ t. IsNextMet set t codes after left) (sym at.turn) is) in (
       more.passed,
       more.next,

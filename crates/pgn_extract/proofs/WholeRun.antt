@@ -1,24 +1,14 @@
 -- The run over a whole input: the bytes dropped, and the blocks of the others.
-use Rattle.std.proofs.Common.{◌≡◌, ℕ, ◌+◌, ◌^◌, ◌<◌, ◌≤◌, List, [], ◌∷◌, ◌++◌, length, take, drop}
-use Rattle.std.proofs.Common.{Option, Some, None, refl, sym, ap, ◌∙◌, subst, arith, append_assoc}
-use Rattle.std.proofs.Common.{length-append, inl, inr}
-use Rattle.std.specs.Prelude.{IfSome}
-use Rattle.std.specs.Io.KnownBytes.{Appends}
-use Rattle.std.proofs.lemmas.Bool.{cases_lt}
-use Rattle.std.proofs.lemmas.List.{append-nil, append_cancel_left, drop_all, drop_at, take_at}
-use Rattle.pgn_text.specs.Public.Complete.{AreCompletePieces}
-use Rattle.pgn_text.specs.Public.Marks.{AreMarkedPieces}
-use Rattle.pgn_text.proofs.OneList.{no_bytes}
+use Rattle.std.proofs.lemmas.List.{append-nil, drop_all, drop_at, take_at}
+use Rattle.pgn_extract.proofs.Common.{◌≡◌, ℕ, ◌+◌, ◌^◌, ◌<◌, ◌≤◌, List, [], ◌∷◌, ◌++◌, length, take}
+use Rattle.pgn_extract.proofs.Common.{drop, Option, Some, None, refl, sym, ap, ◌∙◌, subst, arith}
+use Rattle.pgn_extract.proofs.Common.{append_assoc, length-append, inl, inr, IfSome, Appends}
+use Rattle.pgn_extract.proofs.Common.{cases_lt, append_cancel_left, AreCompletePieces}
+use Rattle.pgn_extract.proofs.Common.{AreMarkedPieces, no_bytes, not_nil, Drops, DropsSome}
+use Rattle.pgn_extract.proofs.Common.{EndsBlocks, BeginsFirst, BreaksOff, StandsOver}
+use Rattle.pgn_extract.proofs.Common.{WritesComplete, BeginsAll, Job, Io, Completes, Stops}
+use Rattle.pgn_extract.proofs.Common.{RunError, Read, Write, OutOfMemory, InputTooLong, Summary}
 use Rattle.pgn_text.proofs.OneBlocks.{empty_block}
-use Rattle.pgn_text.proofs.ResumedText.{not_nil}
-use Rattle.pgn_extract.specs.Private.Blockwise.{Drops, DropsSome, EndsBlocks, BeginsFirst}
-use Rattle.pgn_extract.specs.Private.Blockwise.{BreaksOff, StandsOver}
-use Rattle.pgn_extract.specs.Public.Outcomes.{WritesComplete, BeginsAll}
-use Rattle.pgn_extract.specs.Public.Runs.{Job, Io, Completes, Stops}
-use Rattle.pgn_extract.specs.declared.output.outcome.RunError.{RunError}
-use Rattle.pgn_extract.specs.declared.output.outcome.RunError.TheVariants.{Read, Write, OutOfMemory}
-use Rattle.pgn_extract.specs.declared.output.outcome.RunError.TheVariants.{InputTooLong}
-use Rattle.pgn_extract.specs.declared.output.outcome.Summary.{Summary}
 use Rattle.pgn_extract.proofs.BegunAll.{begun_all}
 use Rattle.pgn_extract.proofs.Writing.{appends_none}
 
@@ -109,8 +99,7 @@ module _ (job : Job) (io : Io) where
 
   -- what stands after an error, over the whole input
   pub stands_whole : (first mid last : Option (List ℕ)) {moved count : ℕ} (error : RunError)
-      → moved ≡ 0 → job.id.offset ≤ 2 ^ 62
-      → Drops first mid moved count job.id.offset
+      → moved ≡ 0 → job.id.offset ≤ 2 ^ 62 → Drops first mid moved count job.id.offset
       → BreaksOff job.aim job.limit job.max_depth job.id mid last count io.input.new.moved
       io.out.old.bytes io.out.new.bytes io.err.old.bytes io.err.new.bytes error
       → IfSome first (λ whole. Stops error job io whole)
@@ -143,8 +132,7 @@ module _ (job : Job) (io : Io) where
 
       read_part : drop job.id.offset (take io.input.new.moved whole) ≡ b.read
       read_part =
-          ap (λ t. drop job.id.offset (take io.input.new.moved t)) shape
-          ∙ ap (drop job.id.offset)
+          ap (λ t. drop job.id.offset (take io.input.new.moved t)) shape ∙ ap (drop job.id.offset)
           (take_at (d.dropped ++ b.read) after io.input.new.moved size)
           ∙ drop_is job.id.offset d.dropped b.read d.within none_read
 
@@ -161,8 +149,7 @@ module _ (job : Job) (io : Io) where
 
       by_kind : (e : RunError)
           → StandsOver job.aim job.limit job.max_depth job.id (Some rest) b.read io.out.old.bytes
-          io.out.new.bytes io.err.old.bytes io.err.new.bytes e
-          → Stops e job io whole
+          io.out.new.bytes io.err.old.bytes io.err.new.bytes e → Stops e job io whole
       by_kind Read s =
           subst (λ t.
           WritesComplete job.aim job.limit job.max_depth job.id t io.out.old.bytes io.out.new.bytes
@@ -173,8 +160,7 @@ module _ (job : Job) (io : Io) where
           elim (cases_lt (length d.dropped) job.id.offset) [
             | inl less ↦ absurd (not_nil s.kept s.byte [] (sym s.parted ∙ none_read less))
             | inr more ↦
-                let front : whole ≡ (d.dropped ++ s.kept) ++ (s.byte ∷ [] ++ after) =
-                d.reads.bytes
+                let front : whole ≡ (d.dropped ++ s.kept) ++ (s.byte ∷ [] ++ after) = d.reads.bytes
                 ∙ ap (λ t. d.dropped ++ t) (b.reads.bytes ∙ ap (λ t. t ++ after) s.parted
                 ∙ append_assoc s.kept (s.byte ∷ []) after)
                 ∙ sym (append_assoc d.dropped s.kept (s.byte ∷ [] ++ after)) in
@@ -182,8 +168,7 @@ module _ (job : Job) (io : Io) where
                 (let w = d.within in let f = s.full in
                 omega (arith, length-append d.dropped s.kept)) in
                 let part : drop job.id.offset (take (2 ^ 62) whole) ≡ s.kept =
-                ap (λ t. drop job.id.offset (take (2 ^ 62) t)) front
-                ∙ ap (drop job.id.offset)
+                ap (λ t. drop job.id.offset (take (2 ^ 62) t)) front ∙ ap (drop job.id.offset)
                 (take_at (d.dropped ++ s.kept) (s.byte ∷ [] ++ after) (2 ^ 62) full)
                 ∙ drop_at d.dropped s.kept job.id.offset (let w = d.within in omega arith) in (
                   omega (

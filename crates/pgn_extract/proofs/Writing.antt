@@ -48,8 +48,7 @@ pub record Writing (bytes : List ℕ) (at : ℕ) (old now : Option (List ℕ)) (
 
 -- and some more of them
 pub writing_more : {bytes : List ℕ} {at : ℕ} {old now : Option (List ℕ)} {faulted : Bool}
-    → Writing bytes at old now faulted
-    → (new : Option (List ℕ)) (count : ℕ)
+    → Writing bytes at old now faulted → (new : Option (List ℕ)) (count : ℕ)
     → Appends now new (take count (take (length bytes - at) (drop at bytes)))
     → Appends old new (take (at + count) bytes)
 writing_more {bytes} {at} {old} {now} w new count more =

@@ -1,7 +1,5 @@
-use Rattle.std.proofs.Common.{Err, ap, subst, refl, inl, inr}
-use Rattle.std.proofs.lemmas.Bool.{both_ways, false_from_ne_true}
-use Rattle.pgn_text.specs.Public.Tallies.{Reads}
-use Rattle.pgn_text.specs.declared.io.blocks.ReadError.{ReadError}
+use Rattle.pgn_extract.proofs.Common.{Err, ap, subst, refl, inl, inr, both_ways, false_from_ne_true}
+use Rattle.pgn_extract.proofs.Common.{Reads, ReadError}
 use Rattle.pgn_extract.proofs.RunProgress.{faulty_fits, progress_start, nearer, progress_more}
 use Rattle.pgn_extract.proofs.RunProgress.{block_breaks, all_written, flush_breaks, read_breaks}
 use Rattle.pgn_extract.proofs.engine.run_blocks.Goals as goal

@@ -1,10 +1,7 @@
-use Rattle.std.proofs.Common.{◌≡◌, ◌+◌, ◌-◌, ◌^◌, false}
-use Rattle.pgn_text.specs.Public.Limits.{block_limit, depth_limit}
-use Rattle.pgn_text.proofs.BlockSizes.{turns}
-use Rattle.pgn_extract.specs.Public.Aims.{aim_of}
+use Rattle.pgn_extract.proofs.Common.{◌≡◌, ◌+◌, ◌-◌, ◌^◌, false, block_limit, depth_limit, turns}
+use Rattle.pgn_extract.proofs.Common.{aim_of, game_id}
 use Rattle.pgn_extract.proofs.RunProgress.{Progress}
 use Rattle.pgn_extract.proofs.engine.run_blocks.Given as goal
-use Rattle.pgn_extract.specs.Public.GivenMarks.{game_id}
 
 abbrev pub invariant-loop-block : goal.invariant-loop-block
 invariant-loop-block g l =

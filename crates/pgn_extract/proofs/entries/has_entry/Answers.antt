@@ -1,5 +1,4 @@
-use Rattle.std.proofs.Common.{None, false}
-use Rattle.pgn_extract.specs.Public.Aims.{GameId, aim_of}
+use Rattle.pgn_extract.proofs.Common.{None, false, GameId, aim_of}
 use Rattle.pgn_extract.proofs.KeptLines.{tells_some}
 use Rattle.pgn_extract.proofs.Picks.{asks_given}
 use Rattle.pgn_extract.proofs.OneMain.{within_entry}

@@ -1,9 +1,6 @@
 use Rattle.std.proofs.Common.{◌≡◌, ◌++◌, [], ap, ◌∙◌, IfSome}
-use Rattle.std.proofs.lemmas.Option.{IfSome_then}
-use Rattle.std.proofs.lemmas.Result.{on_ok_weaker, MatchResult-weaker}
-use Rattle.pgn_extract.specs.Public.Aims.{aim_of}
-use Rattle.pgn_game.specs.Public.Replays.{fault_of}
-use Rattle.pgn_extract.specs.Private.Finding.{named_mark, AddsEntries, StopsAtFault}
+use Rattle.pgn_extract.proofs.Common.{IfSome_then, on_ok_weaker, MatchResult-weaker, aim_of}
+use Rattle.pgn_extract.proofs.Common.{fault_of, named_mark, AddsEntries, StopsAtFault}
 use Rattle.pgn_extract.proofs.Finds.{adds_lines, none_yet, on_result, stops_of}
 use Rattle.pgn_extract.proofs.Picks.{asks_given, none_given}
 use Rattle.pgn_extract.proofs.entries.push_entries.Goals as goal

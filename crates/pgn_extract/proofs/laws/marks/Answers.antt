@@ -1,6 +1,5 @@
 -- The mark is the place of the piece in the list.
-use Rattle.std.proofs.Common.{arith, refl}
-use Rattle.pgn_text.proofs.MarkBounds.{mark_bounds}
+use Rattle.pgn_extract.proofs.Common.{arith, refl, mark_bounds}
 use Rattle.pgn_extract.proofs.laws.marks.Goals as goal
 
 pub returns : goal.returns

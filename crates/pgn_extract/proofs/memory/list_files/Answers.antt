@@ -1,8 +1,5 @@
-use Rattle.std.proofs.Common.{◌++◌, ◌∙◌, ap, take}
-use Rattle.std.proofs.lemmas.Result.{IfOk-weaker}
+use Rattle.pgn_extract.proofs.Common.{◌++◌, ◌∙◌, ap, take, IfOk-weaker, listing, job_of}
 use Rattle.pgn_extract.proofs.TwoFiles.{listed_alone}
-use Rattle.pgn_extract.specs.Public.Listing.{listing}
-use Rattle.pgn_extract.specs.Public.Runs.{job_of}
 use Rattle.pgn_extract.proofs.memory.list_files.Goals as goal
 
 pub returns : goal.returns

@@ -1,10 +1,6 @@
-use Rattle.std.proofs.Common.{◌≡◌, [], ◌++◌, drop, refl, ap, sym, subst, ◌∙◌}
-use Rattle.pgn_text.specs.Public.Limits.{block_limit, depth_limit}
-use Rattle.pgn_text.specs.Public.Marks.{AreMarkedPieces}
-use Rattle.pgn_extract.specs.Public.Aims.{aim_of}
-use Rattle.pgn_extract.specs.Public.Exports.{AreExports}
-use Rattle.pgn_extract.specs.Public.Index.{index}
-use Rattle.pgn_extract.specs.Public.Listing.{listing}
+use Rattle.pgn_extract.proofs.Common.{◌≡◌, [], ◌++◌, drop, refl, ap, sym, subst, ◌∙◌, block_limit}
+use Rattle.pgn_extract.proofs.Common.{depth_limit, AreMarkedPieces, aim_of, AreExports, index}
+use Rattle.pgn_extract.proofs.Common.{listing}
 use Rattle.pgn_extract.proofs.memory.run_over.Goals as goal
 
 pub returns-in-Ok-clause-indexes : goal.returns-in-Ok-clause-indexes

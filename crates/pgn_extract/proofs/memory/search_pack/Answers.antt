@@ -1,6 +1,4 @@
-use Rattle.std.proofs.Common.{◌++◌, ◌∙◌, ap, subst, sym}
-use Rattle.pgn_extract.specs.Public.Listing.{listing}
-use Rattle.pgn_extract.specs.Public.Searching.{IsIndexOfSoundGames}
+use Rattle.pgn_extract.proofs.Common.{◌++◌, ◌∙◌, ap, subst, sym, listing, IsIndexOfSoundGames}
 use Rattle.pgn_extract.proofs.memory.search_pack.Goals as goal
 
 pub returns-in-Ok-clause-listed : goal.returns-in-Ok-clause-listed

@@ -1,7 +1,5 @@
-use Rattle.std.proofs.Common.{◌≡◌, None, refl, sym, ap, subst, ◌∙◌}
-use Rattle.chess.specs.Public.Start.{initial}
-use Rattle.pgn_text.specs.Public.GameTexts.{tag_in}
-use Rattle.pgn_game.specs.Public.Starts.{fen_tag, IsStart}
+use Rattle.pgn_extract.proofs.Common.{◌≡◌, None, refl, sym, ap, subst, ◌∙◌, initial, tag_in}
+use Rattle.pgn_extract.proofs.Common.{fen_tag, IsStart}
 use Rattle.pgn_extract.proofs.PackedFacts.{sight_at_start}
 use Rattle.pgn_extract.proofs.packed.begin.Goals as goal
 

@@ -1,16 +1,11 @@
-use Rattle.std.proofs.Common.{Some, sym, ap, subst, ◌∙◌}
-use Rattle.chess.specs.Public.Positions.{State}
-use Rattle.pgn_text.specs.Public.GameTexts.{tag_in}
-use Rattle.pgn_game.specs.Public.Starts.{fen_tag, IsStart, IsBadStart}
-use Rattle.pgn_game.proofs.OneReplay.{start_or_bad}
-use Rattle.pgn_criteria.specs.Public.Walks.{Sight}
+use Rattle.pgn_extract.proofs.Common.{Some, sym, ap, subst, ◌∙◌, State, tag_in, fen_tag, IsStart}
+use Rattle.pgn_extract.proofs.Common.{IsBadStart, start_or_bad, Sight}
 use Rattle.pgn_extract.proofs.PackedFacts.{sight_at_start}
 use Rattle.pgn_extract.proofs.packed.begin_at.Goals as goal
 
 pub returns-then-not-is_contents-clause-err : goal.returns-then-not-is_contents-clause-err
 returns-then-not-is_contents-clause-err c is game replay packed own =
-    let yes =
-    c.is_contents.ensures.1
+    let yes = c.is_contents.ensures.1
     (own.text.strings fen_tag c.args.contents.now (c.requires game replay packed own)) in
     absurd (cc (yes, c.if-not-is_contents.true))
 
@@ -23,8 +18,7 @@ returns-in-Ok-clause-ok c game replay packed own =
     ∙ c.board-board.ensures) (ap (λ (s : Sight). s.turn) c.new.ensures ∙ c.side.ensures)
     (record {
       check = ap (λ (s : Sight). s.check) c.new.ensures ∙ c.in_check.ensures;
-      stuck =
-          ap (λ (s : Sight). s.stuck) c.new.ensures ∙ c.is_stuck.ensures;
+      stuck = ap (λ (s : Sight). s.stuck) c.new.ensures ∙ c.is_stuck.ensures;
     })
 
 pub returns-in-Err : goal.returns-in-Err

@@ -1,9 +1,6 @@
-use Rattle.std.proofs.Common.{◌≡◌, ◌≤◌, ◌-◌, ◌/◌, ℕ, Bool, true, false, List, length, ap, subst}
-use Rattle.std.proofs.Common.{arith}
 use Rattle.std.specs.Prelude.{◌==◌, ◌%◌}
-use Rattle.chess.specs.declared.board.man.Side.{Side}
-use Rattle.pgn_criteria.specs.Public.ByMarks.{has_marks, NoneMeets, IsNextMet}
-use Rattle.pgn_criteria.specs.Public.Prefilters.{codes_in}
+use Rattle.pgn_extract.proofs.Common.{◌≡◌, ◌≤◌, ◌-◌, ◌/◌, ℕ, Bool, true, false, List, length, ap}
+use Rattle.pgn_extract.proofs.Common.{subst, arith, Side, has_marks, NoneMeets, IsNextMet, codes_in}
 use Rattle.pgn_extract.proofs.WalkedLines.{none_in, stands_first, stands_next, codes_count}
 use Rattle.pgn_extract.proofs.WalkedLines.{next_shorter}
 use Rattle.pgn_extract.proofs.packed.first_marked.Goals as goal
@@ -50,8 +47,7 @@ overflow_sub-result c =
 
 pub invariant_of-result-2 : goal.invariant_of-result-2
 invariant_of-result-2 c =
-    let fits =
-    left_fits c.args.marks.flags c.args.turn c.in-Some.side c.plies-all.result.now
+    let fits = left_fits c.args.marks.flags c.args.turn c.in-Some.side c.plies-all.result.now
     c.in-Some.left.now c.in-Some.ensures in
     record { sized = omega (arith, fits) }
 

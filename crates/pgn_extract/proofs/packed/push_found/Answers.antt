@@ -1,8 +1,4 @@
-use Rattle.std.proofs.Common.{◌≡◌, ◌++◌, ap, ◌∙◌}
-use Rattle.std.proofs.lemmas.Result.{on_ok_weaker}
-use Rattle.pgn_extract.specs.Public.Aims.{aim_of}
-use Rattle.pgn_extract.specs.Private.Finding.{named_mark}
-use Rattle.pgn_extract.specs.Private.Packed.{raw_id}
+use Rattle.pgn_extract.proofs.Common.{◌≡◌, ◌++◌, ap, ◌∙◌, on_ok_weaker, aim_of, named_mark, raw_id}
 use Rattle.pgn_extract.proofs.Finds.{on_ok_both}
 use Rattle.pgn_extract.proofs.PackedFacts.{lists_record}
 use Rattle.pgn_extract.proofs.packed.push_found.Goals as goal

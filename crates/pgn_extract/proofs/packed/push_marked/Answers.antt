@@ -1,5 +1,4 @@
-use Rattle.std.proofs.Common.{refl}
-use Rattle.pgn_extract.specs.Public.Aims.{aim_of}
+use Rattle.pgn_extract.proofs.Common.{refl, aim_of}
 use Rattle.pgn_extract.proofs.PackedFacts.{lists_none}
 use Rattle.pgn_extract.proofs.packed.push_marked.Goals as goal
 

@@ -1,5 +1,4 @@
-use Rattle.std.proofs.lemmas.Result.{on_ok_weaker, IfErr-weaker}
-use Rattle.pgn_extract.specs.Public.Aims.{aim_of}
+use Rattle.pgn_extract.proofs.Common.{on_ok_weaker, IfErr-weaker, aim_of}
 use Rattle.pgn_extract.proofs.PackedFacts.{puts_record, leaves_record}
 use Rattle.pgn_extract.proofs.packed.push_packed.Goals as goal
 

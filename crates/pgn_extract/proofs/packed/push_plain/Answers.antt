@@ -1,14 +1,10 @@
-use Rattle.std.proofs.Common.{◌≡◌, ◌+◌, ◌/◌, ◌++◌, ℕ, List, [], None, length, sym, ap, ◌∙◌}
 use Rattle.std.specs.Prelude.{replicate}
 use Rattle.std.proofs.lemmas.List.{length-replicate}
-use Rattle.chess.specs.Public.Start.{initial}
-use Rattle.pgn_game.specs.Public.Replays.{Replay}
-use Rattle.pgn_criteria.specs.Public.Meeting.{heading_of, Heading}
-use Rattle.pgn_extract.specs.Private.Finding.{named_mark}
-use Rattle.pgn_extract.specs.Public.Listing.{listing}
+use Rattle.pgn_extract.proofs.Common.{◌≡◌, ◌+◌, ◌/◌, ◌++◌, ℕ, List, [], None, length, sym, ap, ◌∙◌}
+use Rattle.pgn_extract.proofs.Common.{initial, Replay, heading_of, Heading, named_mark, listing}
+use Rattle.pgn_extract.proofs.Common.{raw_id}
 use Rattle.pgn_extract.proofs.PackedFacts.{plies_counted}
 use Rattle.pgn_extract.proofs.packed.push_plain.Goals as goal
-use Rattle.pgn_extract.specs.Private.Packed.{raw_id}
 
 pub returns-clause-ok : goal.returns-clause-ok
 returns-clause-ok c =

@@ -1,11 +1,7 @@
-use Rattle.std.proofs.Common.{◌↔◌, List, Option, refl, sym, subst}
 use Rattle.std.specs.Prelude.{IsTrue}
-use Rattle.pgn_criteria.specs.Public.Prefilters.{MeetsSeen, NowhereSeen, codes_in}
-use Rattle.pgn_criteria.specs.Public.ByMarks.{has_marks}
-use Rattle.pgn_criteria.specs.Public.Meeting.{heading_of}
-use Rattle.pgn_criteria.specs.Public.Conditions.{Conditions}
-use Rattle.pgn_criteria.proofs.MeetFacts.{meets_at}
-use Rattle.pgn_extract.specs.Public.Aims.{aim_of, IsMet}
+use Rattle.pgn_extract.proofs.Common.{◌↔◌, List, Option, refl, sym, subst, MeetsSeen, NowhereSeen}
+use Rattle.pgn_extract.proofs.Common.{codes_in, has_marks, heading_of, Conditions, meets_at, aim_of}
+use Rattle.pgn_extract.proofs.Common.{IsMet}
 use Rattle.pgn_extract.proofs.PackedFacts.{lists_none}
 use Rattle.pgn_extract.proofs.Picks.{asks_alike}
 use Rattle.pgn_extract.proofs.WalkedLines.{walks_record, none_in_walk}
@@ -15,8 +11,7 @@ pub push_marked-requires-clause-met : goal.push_marked-requires-clause-met
 push_marked-requires-clause-met c game replay packed own P check stuck marks other ply here =
     let found = rw c.in-Some.is at c.marks_packed.ensures in
     let r = has_marks c.in-Some.marks.flags P.turn check stuck in
-    let met =
-    meets_at (heading_of game) other ply c.args.criteria.now P r here
+    let met = meets_at (heading_of game) other ply c.args.criteria.now P r here
     (found game replay packed own.kept own.fits own.shows P check stuck marks other ply) in
     subst (λ (o : Option (List Conditions)). IsTrue r
     ↔ IsMet o (heading_of game) other ply) (sym c.requires.criteria) met

@@ -1,9 +1,5 @@
-use Rattle.std.proofs.Common.{◌≡◌, None, refl, sym, ap, subst, ◌∙◌}
-use Rattle.chess.specs.Public.Positions.{State}
-use Rattle.chess.specs.Public.Start.{initial}
-use Rattle.pgn_text.specs.Public.GameTexts.{tag_in}
-use Rattle.pgn_game.specs.Public.Starts.{fen_tag, IsStart}
-use Rattle.pgn_game.proofs.OneReplay.{one_start}
+use Rattle.pgn_extract.proofs.Common.{◌≡◌, None, refl, sym, ap, subst, ◌∙◌, State, initial, tag_in}
+use Rattle.pgn_extract.proofs.Common.{fen_tag, IsStart, one_start}
 use Rattle.pgn_extract.proofs.PackedFacts.{first_is}
 use Rattle.pgn_extract.proofs.packed.side_at_start.Goals as goal
 

@@ -1,6 +1,4 @@
-use Rattle.std.proofs.Common.{ap}
-use Rattle.pgn_game.specs.Public.Faults.{IllegalMove, AmbiguousMove}
-use Rattle.pgn_game.specs.Public.Replays.{fault_of}
+use Rattle.pgn_extract.proofs.Common.{ap, IllegalMove, AmbiguousMove, fault_of}
 use Rattle.pgn_extract.proofs.packed.start_fault.Goals as goal
 
 pub returns-in-Illegal : goal.returns-in-Illegal

@@ -1,7 +1,6 @@
-use Rattle.std.proofs.Common.{◌≡◌, ◌<◌, ◌++◌, ap, ◌∙◌, arith, codes, length, rules}
-use Rattle.std.proofs.lemmas.Bool.Decides.{nat_tests}
-use Rattle.std.specs.Io.Buffered.{reader_buffer, reader_capacity, reader_inner, reader_remaining}
-use Rattle.pgn_extract.specs.Private.MarkLines.{line_mark, pairs_of}
+use Rattle.std.specs.Io.Buffered.{reader_buffer, reader_capacity, reader_inner}
+use Rattle.pgn_extract.proofs.Common.{◌≡◌, ◌<◌, ◌++◌, ap, ◌∙◌, arith, codes, length, rules}
+use Rattle.pgn_extract.proofs.Common.{nat_tests, reader_remaining, line_mark, pairs_of}
 use Rattle.pgn_extract.proofs.LinesOfMarks.{all_left, all_read, line_read, none_read}
 use Rattle.pgn_extract.proofs.app.chosen_marks.read_marks.Goals as goal
 
@@ -32,8 +31,7 @@ loop-preserved g c =
     let before_marks : c.in_ok-named.named.line.items ≡ name ++ codes ":" =
     c.in_ok-named.ensures.line ∙ ap (λ n. n ++ codes ":") c.bytes.ensures in
     let before_reports : c.in_ok-named.named.report.items
-    ≡ codes "pgn-extract: " ++ name ++ codes ": game " =
-    c.in_ok-named.ensures.report
+    ≡ codes "pgn-extract: " ++ name ++ codes ": game " = c.in_ok-named.ensures.report
     ∙ ap (λ n. codes "pgn-extract: " ++ n ++ codes ": game ") c.bytes.ensures in
     let begin = c.args.order.now.mark.offset in
     let end = c.args.order.now.end in

@@ -1,5 +1,4 @@
-use Rattle.std.proofs.Common.{codes}
-use Rattle.std.proofs.lemmas.Result.{on_ok_weaker}
+use Rattle.pgn_extract.proofs.Common.{codes, on_ok_weaker}
 use Rattle.pgn_extract.proofs.Writing.{appends_titled}
 use Rattle.pgn_extract.proofs.app.endings.put_line.Goals as goal
 

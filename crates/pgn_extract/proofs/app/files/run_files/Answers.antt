@@ -1,9 +1,8 @@
-use Rattle.std.proofs.Common.{◌++◌, ◌<◌, ◌∙◌, ℕ, Bor, List, [], arith, length, rules}
-use Rattle.std.proofs.lemmas.Result.{err_from_is_err_and}
+use Rattle.pgn_extract.proofs.Common.{◌++◌, ◌<◌, ◌∙◌, ℕ, Bor, List, [], arith, length, rules}
+use Rattle.pgn_extract.proofs.Common.{err_from_is_err_and, order_at}
 use Rattle.pgn_extract.proofs.SeveralFacts.{known_there, unopened_there, written_there}
 use Rattle.pgn_extract.proofs.StoppedFiles.{stops_there}
 use Rattle.pgn_extract.proofs.Writing.{appends_join}
-use Rattle.pgn_extract.specs.Public.Several.{order_at}
 use Rattle.pgn_extract.proofs.app.files.run_files.Goals as goal
 
 pub loop-path-preserved : goal.loop-path-preserved
@@ -20,8 +19,7 @@ loop-path-preserved g c =
       orders = λ path. c.run_path.ensures.orders path ∙ c.loop-path.invariant.orders path;
       known = λ path. c.run_path.ensures.known path ∙ c.loop-path.invariant.known path;
       written = λ known.
-          let there =
-          known_there (λ path. path.now) all i none (files c.args.files.now)
+          let there = known_there (λ path. path.now) all i none (files c.args.files.now)
           (files c.loop-path.files) c.loop-path.invariant.known within known in
           let before = c.loop-path.invariant.written known in
           let own = c.in_ok-run_path.ensures.written there in (
@@ -39,8 +37,7 @@ loop-path-preserved g c =
                 (g.E.Write.contents c.run_path.new.err.inner) before.1 own.1 before.4 own.4,
           );
       unopened = λ known.
-          let there =
-          known_there (λ path. path.now) all i none (files c.args.files.now)
+          let there = known_there (λ path. path.now) all i none (files c.args.files.now)
           (files c.loop-path.files) c.loop-path.invariant.known within known in
           unopened_there (λ path. path.now) all i none (files c.args.files.now)
           (files c.loop-path.files) c.loop-path.invariant.known within _ _ _

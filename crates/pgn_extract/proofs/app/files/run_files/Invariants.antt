@@ -1,8 +1,6 @@
-use Rattle.std.proofs.Common.{◌≡◌, ◌≤◌, ◌^◌, ℕ, List, take, false}
-use Rattle.std.specs.List.{list_any}
-use Rattle.pgn_text.specs.Public.Limits.{largest_offset}
-use Rattle.pgn_extract.specs.Public.Runs.{passage}
-use Rattle.pgn_extract.specs.Public.Several.{AreKnown, WritesPaths, is_no_file, order_at, paths_of}
+use Rattle.pgn_extract.proofs.Common.{◌≡◌, ◌≤◌, ◌^◌, ℕ, List, take, false, list_any, largest_offset}
+use Rattle.pgn_extract.proofs.Common.{passage, AreKnown, WritesPaths, is_no_file, order_at}
+use Rattle.pgn_extract.specs.Public.Several.{paths_of}
 use Rattle.pgn_extract.proofs.app.files.run_files.Given as goal
 
 abbrev pub invariant-loop-path : goal.invariant-loop-path
@@ -19,7 +17,6 @@ invariant-loop-path g l =
           (passage g.O.Write.contents l.initial.out l.out)
           (passage g.E.Write.contents l.initial.err l.err);
       unopened : AreKnown (g.F.Files.known l.initial.files) (paths_of l.initial.task)
-          → l.total.unopened
-          ≡ list_any (λ path. is_no_file (g.F.Files.known l.initial.files path))
+          → l.total.unopened ≡ list_any (λ path. is_no_file (g.F.Files.known l.initial.files path))
           (take l.path-index (paths_of l.initial.task));
     }

@@ -1,5 +1,4 @@
-use Rattle.std.proofs.Common.{ap, ◌∙◌}
-use Rattle.std.proofs.lemmas.Result.{err_from_is_err_and}
+use Rattle.pgn_extract.proofs.Common.{ap, ◌∙◌, err_from_is_err_and}
 use Rattle.pgn_extract.proofs.SeveralFacts.{read_to_end}
 use Rattle.pgn_extract.proofs.StoppedFiles.{stops_at_line, stops_to_end}
 use Rattle.pgn_extract.specs.Public.Several.{order_of}

@@ -8,15 +8,13 @@ loop-rest-init c = count_start 19 c.args.digits.now (omega arith)
 
 pub overflow_mul-value : goal.overflow_mul-value
 overflow_mul-value c =
-    let small =
-    count_small 19 c.loop-rest.value c.loop-rest.rest.now c.args.digits.now
+    let small = count_small 19 c.loop-rest.value c.loop-rest.rest.now c.args.digits.now
     c.loop-rest.invariant c.in-len1-up.len_at_least in
     omega arith
 
 pub overflow_add-value : goal.overflow_add-value
 overflow_add-value c =
-    let small =
-    count_small 19 c.loop-rest.value c.loop-rest.rest.now c.args.digits.now
+    let small = count_small 19 c.loop-rest.value c.loop-rest.rest.now c.args.digits.now
     c.loop-rest.invariant c.in-len1-up.len_at_least in
     omega arith
 

@@ -1,5 +1,4 @@
-use Rattle.std.proofs.Common.{Some, sym, ap, ◌∙◌}
-use Rattle.std.specs.Option.{option_map}
+use Rattle.pgn_extract.proofs.Common.{Some, sym, ap, ◌∙◌, option_map}
 use Rattle.pgn_extract.proofs.RequestFacts.{by_options, by_begin, by_end, by_stretch, by_lines}
 use Rattle.pgn_extract.proofs.app.order.accept.Goals as goal
 

@@ -1,7 +1,4 @@
-use Rattle.std.proofs.Common.{◌≡◌, ℕ, List, take, false}
-use Rattle.pgn_extract.specs.Public.Aims.{aim_of}
-use Rattle.pgn_extract.specs.Public.Runs.{passage}
-use Rattle.pgn_extract.specs.Public.Several.{AreKnown}
+use Rattle.pgn_extract.proofs.Common.{◌≡◌, ℕ, List, take, false, aim_of, passage, AreKnown}
 use Rattle.pgn_extract.specs.Private.SeveralPacks.{SearchesPaths, pack_paths}
 use Rattle.pgn_extract.proofs.app.packs.search_paths.Given as goal
 

@@ -1,6 +1,4 @@
-use Rattle.std.proofs.lemmas.Option.{IfSome_then}
-use Rattle.pgn_game.specs.Public.Replays.{fault_of}
-use Rattle.pgn_game.specs.declared.replays.replayer.Lines.TheVariants.{All}
+use Rattle.pgn_extract.proofs.Common.{IfSome_then, fault_of, All}
 use Rattle.pgn_extract.proofs.OneMain.{main_fault}
 use Rattle.pgn_extract.proofs.engine.exporting.first_fault.Goals as goal
 

@@ -1,9 +1,6 @@
-use Rattle.std.proofs.Common.{◌↔◌, false, IsTrue, sym, subst}
-use Rattle.std.proofs.lemmas.Bool.{false≢true}
 use Rattle.std.specs.Prelude.{not}
-use Rattle.pgn_extract.specs.Public.Aims.{aim_of}
-use Rattle.pgn_extract.specs.Public.Exports.{HasEntry, IsSelected}
-use Rattle.pgn_criteria.specs.Public.Meeting.{heading_of}
+use Rattle.pgn_extract.proofs.Common.{◌↔◌, false, IsTrue, sym, subst, false≢true, aim_of, HasEntry}
+use Rattle.pgn_extract.proofs.Common.{IsSelected, heading_of}
 use Rattle.pgn_extract.proofs.Exported.{turned}
 use Rattle.pgn_extract.proofs.engine.exporting.is_selected.Goals as goal
 

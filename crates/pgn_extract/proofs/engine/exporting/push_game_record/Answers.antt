@@ -1,7 +1,4 @@
-use Rattle.std.proofs.Common.{subst}
-use Rattle.pgn_game.specs.Public.PackedGames.{IsRecordOf}
-use Rattle.pgn_game.specs.Public.Replays.{fault_of}
-use Rattle.pgn_game.specs.declared.replays.replayer.Lines.TheVariants.{Main}
+use Rattle.pgn_extract.proofs.Common.{subst, IsRecordOf, fault_of, Main}
 use Rattle.pgn_extract.proofs.AllTaken.{put_or_left, stops_left}
 use Rattle.pgn_extract.proofs.engine.exporting.push_game_record.Goals as goal
 

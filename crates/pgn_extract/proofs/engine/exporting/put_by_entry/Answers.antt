@@ -1,7 +1,4 @@
-use Rattle.std.proofs.Common.{refl}
-use Rattle.pgn_game.specs.Public.Replays.{fault_of}
-use Rattle.pgn_extract.specs.Public.Aims.{aim_of}
-use Rattle.pgn_extract.specs.Public.Exports.{written_lines}
+use Rattle.pgn_extract.proofs.Common.{refl, fault_of, aim_of, written_lines}
 use Rattle.pgn_extract.proofs.AllTaken.{stops_left}
 use Rattle.pgn_extract.proofs.engine.exporting.put_by_entry.Goals as goal
 

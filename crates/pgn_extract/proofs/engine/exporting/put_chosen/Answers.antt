@@ -1,12 +1,7 @@
-use Rattle.std.proofs.Common.{[], refl, sym, ap, subst, ◌++◌, ◌∙◌}
-use Rattle.std.proofs.lemmas.Bool.{false≢true}
 use Rattle.std.proofs.lemmas.List.{append-nil}
-use Rattle.std.proofs.lemmas.Result.{MatchResult-weaker}
-use Rattle.pgn_game.specs.Public.Replays.{fault_of}
-use Rattle.pgn_extract.specs.Private.Blockwise.{by_itself}
-use Rattle.pgn_extract.specs.Public.Aims.{aim_of}
-use Rattle.pgn_extract.specs.Public.Exports.{IsTextOf, as_it_stands, selected, unselected}
-use Rattle.pgn_extract.specs.Public.Exports.{written_lines}
+use Rattle.pgn_extract.proofs.Common.{[], refl, sym, ap, subst, ◌++◌, ◌∙◌, false≢true}
+use Rattle.pgn_extract.proofs.Common.{MatchResult-weaker, fault_of, by_itself, aim_of, IsTextOf}
+use Rattle.pgn_extract.proofs.Common.{as_it_stands, selected, unselected, written_lines}
 use Rattle.pgn_extract.proofs.AllTaken.{stops_left}
 use Rattle.pgn_extract.proofs.engine.exporting.put_chosen.Goals as goal
 

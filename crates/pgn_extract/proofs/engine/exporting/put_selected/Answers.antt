@@ -1,9 +1,6 @@
-use Rattle.std.proofs.Common.{[], refl, sym, append-nil, subst}
-use Rattle.std.proofs.lemmas.Result.{MatchResult-weaker}
-use Rattle.pgn_game.specs.Public.Replays.{fault_of}
-use Rattle.pgn_extract.specs.Public.Aims.{aim_of}
-use Rattle.pgn_extract.specs.Public.Exports.{HasEntry, IsSelected, unselected, written_lines}
-use Rattle.pgn_criteria.specs.Public.Meeting.{heading_of}
+use Rattle.pgn_extract.proofs.Common.{[], refl, sym, append-nil, subst, MatchResult-weaker}
+use Rattle.pgn_extract.proofs.Common.{fault_of, aim_of, HasEntry, IsSelected, unselected}
+use Rattle.pgn_extract.proofs.Common.{written_lines, heading_of}
 use Rattle.pgn_extract.proofs.AllTaken.{all_written, stops_left}
 use Rattle.pgn_extract.proofs.engine.exporting.put_selected.Goals as goal
 

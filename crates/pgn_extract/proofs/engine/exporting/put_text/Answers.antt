@@ -1,10 +1,6 @@
-use Rattle.std.proofs.Common.{[], refl}
-use Rattle.std.proofs.lemmas.Result.{MatchResult-weaker, on_ok_weaker}
-use Rattle.pgn_game.specs.Public.Replays.{fault_of}
-use Rattle.pgn_extract.specs.Public.Aims.{aim_of}
-use Rattle.pgn_extract.specs.Public.Exports.{as_it_stands, line_with}
-use Rattle.pgn_extract.specs.declared.settings.Form.TheVariants.{Standard, AsItStands, Line, Record}
-use Rattle.pgn_game.specs.Public.Exports.{lines_with}
+use Rattle.pgn_extract.proofs.Common.{[], refl, MatchResult-weaker, on_ok_weaker, fault_of, aim_of}
+use Rattle.pgn_extract.proofs.Common.{as_it_stands, line_with, Standard, AsItStands, Line, Record}
+use Rattle.pgn_extract.proofs.Common.{lines_with}
 use Rattle.pgn_extract.proofs.AllTaken.{put_as, put_or_left, stops_left}
 use Rattle.pgn_extract.proofs.Finds.{on_result}
 use Rattle.pgn_extract.proofs.GameExport.{own_export, own_record}

@@ -1,7 +1,5 @@
-use Rattle.std.proofs.Common.{[], ◌∷◌, refl, arith}
-use Rattle.std.proofs.lemmas.Result.{err_from_is_err_and}
-use Rattle.pgn_text.specs.Public.Marks.{over}
-use Rattle.pgn_extract.specs.Private.Blockwise.{too_long_piece}
+use Rattle.pgn_extract.proofs.Common.{[], ◌∷◌, refl, arith, err_from_is_err_and, over}
+use Rattle.pgn_extract.proofs.Common.{too_long_piece}
 use Rattle.pgn_extract.proofs.BlockWritten.{begins_none}
 use Rattle.pgn_extract.proofs.Gathered.{gathers_all}
 use Rattle.pgn_extract.proofs.engine.piecewise.report_block.Goals as goal

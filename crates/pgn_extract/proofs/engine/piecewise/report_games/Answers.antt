@@ -1,11 +1,8 @@
-use Rattle.std.proofs.Common.{◌∙◌, refl}
-use Rattle.std.proofs.lemmas.Result.{err_from_is_err_and}
-use Rattle.pgn_extract.specs.Public.Aims.{aim_of}
+use Rattle.pgn_extract.proofs.Common.{◌∙◌, refl, err_from_is_err_and, aim_of, game_id}
 use Rattle.pgn_extract.proofs.BlockWritten.{front_none, written_soundly}
 use Rattle.pgn_extract.proofs.Listed.{listed_none, listed_more, listed_passed, listed_begun}
 use Rattle.pgn_extract.proofs.Listed.{listed_all}
 use Rattle.pgn_extract.proofs.engine.piecewise.report_games.Goals as goal
-use Rattle.pgn_extract.specs.Public.GivenMarks.{game_id}
 
 pub loop-piece-init : goal.loop-piece-init
 loop-piece-init g c = (
@@ -22,8 +19,7 @@ pub loop-piece-preserved-in_ok-put_large : goal.loop-piece-preserved-in_ok-put_l
 loop-piece-preserved-in_ok-put_large g c =
     let takes = rw c.in_ok-piece.was at c.in-Some.ensures.steps in
     let begins = c.into_iter-piece-iterator.ensures.into_iter_gives ∙ c.games-piece-items.ensures in
-    let more =
-    listed_more c.loop-piece.invariant.0 c.args.bytes.now _ begins takes refl
+    let more = listed_more c.loop-piece.invariant.0 c.args.bytes.now _ begins takes refl
     c.in_ok-add_piece.ensures in
     let sound = written_soundly c.in_ok-put_large.ensures.faults in
     (listed_passed more c.in_ok-put_large.ensures.ok, sound.0, sound.1)
@@ -32,8 +28,7 @@ pub loop-piece-preserved : goal.loop-piece-preserved
 loop-piece-preserved g c =
     let takes = rw c.in_ok-piece.was at c.in-Some.ensures.steps in
     let begins = c.into_iter-piece-iterator.ensures.into_iter_gives ∙ c.games-piece-items.ensures in
-    let more =
-    listed_more c.loop-piece.invariant.0 c.args.bytes.now _ begins takes refl
+    let more = listed_more c.loop-piece.invariant.0 c.args.bytes.now _ begins takes refl
     c.in_ok-add_piece.ensures in
     let sound = written_soundly c.in_ok-put_large.ensures.faults in
     (listed_passed more c.in_ok-put_large.ensures.ok, sound.0, sound.1)

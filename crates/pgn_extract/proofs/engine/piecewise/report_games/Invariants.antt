@@ -1,8 +1,6 @@
-use Rattle.std.proofs.Common.{◌≡◌, false}
-use Rattle.pgn_extract.specs.Public.Aims.{aim_of}
+use Rattle.pgn_extract.proofs.Common.{◌≡◌, false, aim_of, game_id}
 use Rattle.pgn_extract.proofs.Listed.{Listed}
 use Rattle.pgn_extract.proofs.engine.piecewise.report_games.Given as goal
-use Rattle.pgn_extract.specs.Public.GivenMarks.{game_id}
 
 abbrev pub invariant-loop-piece : goal.invariant-loop-piece
 invariant-loop-piece g l =

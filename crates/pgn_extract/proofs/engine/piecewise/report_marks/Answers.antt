@@ -1,11 +1,8 @@
-use Rattle.std.proofs.Common.{◌∙◌, refl}
-use Rattle.std.proofs.lemmas.Result.{err_from_is_err_and}
-use Rattle.pgn_extract.specs.Public.Aims.{aim_of}
+use Rattle.pgn_extract.proofs.Common.{◌∙◌, refl, err_from_is_err_and, aim_of, game_id}
 use Rattle.pgn_extract.proofs.BlockWritten.{front_none, written_soundly}
 use Rattle.pgn_extract.proofs.Indexed.{indexed_none, indexed_more, indexed_passed, indexed_begun}
 use Rattle.pgn_extract.proofs.Indexed.{indexed_all}
 use Rattle.pgn_extract.proofs.engine.piecewise.report_marks.Goals as goal
-use Rattle.pgn_extract.specs.Public.GivenMarks.{game_id}
 
 pub loop-mark-init : goal.loop-mark-init
 loop-mark-init g c = (

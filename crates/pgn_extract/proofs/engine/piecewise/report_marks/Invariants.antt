@@ -1,8 +1,6 @@
-use Rattle.std.proofs.Common.{◌≡◌, false}
-use Rattle.pgn_extract.specs.Public.Aims.{aim_of}
+use Rattle.pgn_extract.proofs.Common.{◌≡◌, false, aim_of, game_id}
 use Rattle.pgn_extract.proofs.Indexed.{Indexed}
 use Rattle.pgn_extract.proofs.engine.piecewise.report_marks.Given as goal
-use Rattle.pgn_extract.specs.Public.GivenMarks.{game_id}
 
 abbrev pub invariant-loop-mark : goal.invariant-loop-mark
 invariant-loop-mark g l =

@@ -1,14 +1,9 @@
-use Rattle.std.proofs.Common.{◌≡◌, ℕ, ◌++◌, true, false, Vec, Global, sym, ap, ◌∙◌, subst}
-use Rattle.std.proofs.lemmas.Result.{on_ok_weaker}
-use Rattle.pgn_text.specs.Public.LeftMarks.{mark_place}
-use Rattle.pgn_text.specs.declared.game.pieces.PieceStart.{PieceStart}
-use Rattle.pgn_extract.specs.Public.Aims.{aim_of}
-use Rattle.pgn_extract.specs.Public.Choices.{is_chosen}
-use Rattle.pgn_extract.specs.Public.Index.{mark_line}
+use Rattle.pgn_extract.proofs.Common.{◌≡◌, ℕ, ◌++◌, true, false, Vec, Global, sym, ap, ◌∙◌, subst}
+use Rattle.pgn_extract.proofs.Common.{on_ok_weaker, mark_place, PieceStart, aim_of, is_chosen}
+use Rattle.pgn_extract.proofs.Common.{mark_line, id_at}
 use Rattle.pgn_extract.proofs.ChoiceFacts.{passed_by, taken_by}
 use Rattle.pgn_extract.proofs.GameVerdict.{mark_game, mark_passed, mark_unreadable}
 use Rattle.pgn_extract.proofs.engine.report.add_mark.Goals as goal
-use Rattle.pgn_extract.specs.Private.Blockwise.{id_at}
 
 pub returns-then-passes_over : goal.returns-then-passes_over
 returns-then-passes_over c =
@@ -27,8 +22,7 @@ returns-then-passes_over-2 c =
     let aim = aim_of c.args.context.settings.now in
     let id = c.args.context.id in
     let held = c.passes_over-in-Unreadable.ensures in
-    let passed =
-    passed_by (is_chosen aim.chosen (id_at id c.in-Unreadable.at))
+    let passed = passed_by (is_chosen aim.chosen (id_at id c.in-Unreadable.at))
     c.passes_over-in-Unreadable.result held.passed c.if-passes_over-2.true in
     mark_passed aim id c.args.context.bytes.now c.args.mark
     (subst (λ (m : PieceStart). is_chosen aim.chosen (id_at id (mark_place m))
@@ -57,8 +51,7 @@ returns-else-passes_over-2 c =
     let aim = aim_of c.args.context.settings.now in
     let id = c.args.context.id in
     let held = c.passes_over-in-Unreadable.ensures in
-    let taken =
-    taken_by (is_chosen aim.chosen (id_at id c.in-Unreadable.at))
+    let taken = taken_by (is_chosen aim.chosen (id_at id c.in-Unreadable.at))
     c.passes_over-in-Unreadable.result held.passed c.if-passes_over-2.false in
     on_ok_weaker c.add_unreadable.result
     (λ adds.

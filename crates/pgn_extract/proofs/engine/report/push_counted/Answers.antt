@@ -1,9 +1,5 @@
-use Rattle.std.proofs.Common.{◌+◌, ap, refl, ◌∙◌}
-use Rattle.pgn_game.specs.Public.MainLines.{main_words}
-use Rattle.pgn_game.specs.Public.Replays.{fault_of}
-use Rattle.pgn_game.specs.declared.replays.replayer.Lines.TheVariants.{Main}
-use Rattle.pgn_game.proofs.OneReplay.{line_length}
-use Rattle.pgn_criteria.specs.Public.Meeting.{heading_of}
+use Rattle.pgn_extract.proofs.Common.{◌+◌, ap, refl, ◌∙◌, main_words, fault_of, Main, line_length}
+use Rattle.pgn_extract.proofs.Common.{heading_of}
 use Rattle.pgn_extract.proofs.AllTaken.{stops_left}
 use Rattle.pgn_extract.proofs.engine.report.push_counted.Goals as goal
 

@@ -1,6 +1,4 @@
-use Rattle.std.proofs.lemmas.Result.{MatchResult-weaker}
-use Rattle.pgn_game.specs.Public.Replays.{fault_of}
-use Rattle.pgn_extract.specs.Public.Aims.{aim_of}
+use Rattle.pgn_extract.proofs.Common.{MatchResult-weaker, fault_of, aim_of}
 use Rattle.pgn_extract.specs.declared.settings.Mode.TheVariants.{Export, Index, List}
 use Rattle.pgn_extract.proofs.AllTaken.{entries_out, put_in}
 use Rattle.pgn_extract.proofs.engine.report.push_sound.Goals as goal

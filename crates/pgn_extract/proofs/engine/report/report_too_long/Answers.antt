@@ -1,12 +1,7 @@
-use Rattle.std.proofs.Common.{ℕ, [], ◌∷◌, ◌++◌, Vec, Global, refl, sym, ap, ◌∙◌, codes}
 use Rattle.std.proofs.lemmas.List.{append-nil}
-use Rattle.std.proofs.lemmas.Result.{on_ok_weaker}
-use Rattle.pgn_text.specs.Public.Limits.{block_limit}
-use Rattle.pgn_extract.specs.Public.Aims.{aim_of}
-use Rattle.pgn_extract.specs.Public.Choices.{is_chosen}
-use Rattle.pgn_extract.specs.Public.Index.{fault_text}
-use Rattle.pgn_extract.specs.Public.Notes.{indented}
-use Rattle.pgn_extract.specs.Private.NoteTexts.{too_long_text}
+use Rattle.pgn_extract.proofs.Common.{ℕ, [], ◌∷◌, ◌++◌, Vec, Global, refl, sym, ap, ◌∙◌, codes}
+use Rattle.pgn_extract.proofs.Common.{on_ok_weaker, block_limit, aim_of, is_chosen, fault_text}
+use Rattle.pgn_extract.proofs.Common.{indented, too_long_text}
 use Rattle.pgn_extract.proofs.ChoiceFacts.{passed_by, taken_by}
 use Rattle.pgn_extract.proofs.NoteLines.{empty_note, too_long_note}
 use Rattle.pgn_extract.proofs.VerdictFacts.{reports_passed, reports_too_long}
@@ -16,8 +11,7 @@ pub returns-then-passes_over : goal.returns-then-passes_over
 returns-then-passes_over c =
     let aim = aim_of c.args.settings.now in
     let held = c.passes_over.ensures in
-    let passed =
-    passed_by (is_chosen aim.chosen c.args.id) c.passes_over.result held.passed
+    let passed = passed_by (is_chosen aim.chosen c.args.id) c.passes_over.result held.passed
     c.if-passes_over.true in
     reports_passed aim _ c.args.id passed (ap (λ (v : Vec ℕ Global). v.items) held.output
     ∙ c.clear.ensures.output)
@@ -28,8 +22,7 @@ pub returns-then-not-settings : goal.returns-then-not-settings
 returns-then-not-settings c =
     let aim = aim_of c.args.settings.now in
     let held = c.passes_over.ensures in
-    let taken =
-    taken_by (is_chosen aim.chosen c.args.id) c.passes_over.result held.passed
+    let taken = taken_by (is_chosen aim.chosen c.args.id) c.passes_over.result held.passed
     c.if-passes_over.false in
     let line = fault_text c.args.settings.now.name c.args.id (codes "too long") in
     let empty = ap (λ (v : Vec ℕ Global). v.items) held.faults ∙ c.clear.ensures.faults in
@@ -42,8 +35,7 @@ pub returns : goal.returns
 returns c =
     let aim = aim_of c.args.settings.now in
     let held = c.passes_over.ensures in
-    let taken =
-    taken_by (is_chosen aim.chosen c.args.id) c.passes_over.result held.passed
+    let taken = taken_by (is_chosen aim.chosen c.args.id) c.passes_over.result held.passed
     c.if-passes_over.false in
     let line = fault_text c.args.settings.now.name c.args.id (codes "too long") in
     let note = indented (too_long_text c.args.size block_limit ∷ []) in

@@ -1,5 +1,4 @@
-use Rattle.std.proofs.Common.{ℕ, arith, refl, ◌∙◌, length-take}
-use Rattle.std.proofs.lemmas.Bool.{or_from}
+use Rattle.pgn_extract.proofs.Common.{ℕ, arith, refl, ◌∙◌, length-take, or_from}
 use Rattle.pgn_extract.proofs.Dropping.{dropping_more}
 use Rattle.pgn_extract.proofs.engine.skip.drop_first.Goals as goal
 

@@ -1,8 +1,4 @@
-use Rattle.std.proofs.Common.{◌↔◌, IsTrue, sym, subst}
-use Rattle.pgn_game.specs.declared.replays.replayer.Lines.TheVariants.{Main}
-use Rattle.pgn_criteria.specs.Public.Meeting.{heading_of}
-use Rattle.pgn_extract.specs.Public.Aims.{aim_of}
-use Rattle.pgn_extract.specs.Public.Exports.{HasEntry}
+use Rattle.pgn_extract.proofs.Common.{◌↔◌, IsTrue, sym, subst, Main, heading_of, aim_of, HasEntry}
 use Rattle.pgn_extract.proofs.KeptLines.{first_entry}
 use Rattle.pgn_extract.proofs.entries.kept.has_kept.Goals as goal
 

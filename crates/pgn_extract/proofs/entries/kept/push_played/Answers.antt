@@ -42,6 +42,5 @@ returns c =
       ),
       c.in_ok-extend_from_slice-3.ensures.items
           ∙ ap (λ t. t ++ written) c.in_ok-extend_from_slice.ensures.items
-          ∙ append_assoc old (32 ∷ []) written
-          ∙ ap (λ t. old ++ 32 ∷ t) is,
+          ∙ append_assoc old (32 ∷ []) written ∙ ap (λ t. old ++ 32 ∷ t) is,
     )

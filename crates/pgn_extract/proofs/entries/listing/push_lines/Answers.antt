@@ -1,6 +1,4 @@
-use Rattle.std.proofs.Common.{◌-◌, ◌++◌, ap, ◌∙◌}
-use Rattle.pgn_extract.specs.Public.Aims.{aim_of}
-use Rattle.pgn_extract.specs.Private.Blockwise.{lines_from}
+use Rattle.pgn_extract.proofs.Common.{◌-◌, ◌++◌, ap, ◌∙◌, aim_of, lines_from}
 use Rattle.pgn_extract.proofs.EachPly.{plies_from, lines_listed, listed_plies}
 use Rattle.pgn_extract.proofs.entries.listing.push_lines.Goals as goal
 

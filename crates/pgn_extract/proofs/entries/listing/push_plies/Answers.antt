@@ -1,6 +1,4 @@
-use Rattle.std.proofs.Common.{◌≡◌, ◌++◌, ap, ◌∙◌}
-use Rattle.std.proofs.lemmas.Result.{on_ok_weaker}
-use Rattle.pgn_extract.specs.Private.Finding.{named_mark}
+use Rattle.pgn_extract.proofs.Common.{◌≡◌, ◌++◌, ap, ◌∙◌, on_ok_weaker, named_mark}
 use Rattle.pgn_extract.proofs.entries.listing.push_plies.Goals as goal
 
 pub returns : goal.returns

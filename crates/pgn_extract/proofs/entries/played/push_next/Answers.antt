@@ -1,6 +1,5 @@
-use Rattle.std.proofs.Common.{◌∷◌, ◌++◌, [], refl, sym, ap, subst, append_assoc, append-nil, ◌∙◌}
-use Rattle.std.proofs.lemmas.Result.{on_ok_weaker}
-use Rattle.pgn_extract.specs.Private.Finding.{ShowsNext}
+use Rattle.pgn_extract.proofs.Common.{◌∷◌, ◌++◌, [], refl, sym, ap, subst, append_assoc, append-nil}
+use Rattle.pgn_extract.proofs.Common.{◌∙◌, on_ok_weaker, ShowsNext}
 use Rattle.pgn_extract.proofs.entries.played.push_next.Goals as goal
 
 pub returns-clause-shown : goal.returns-clause-shown
@@ -8,11 +7,8 @@ returns-clause-shown c =
     on_ok_weaker c.push_next.result
     (λ next. (
       32 ∷ next.0,
-      subst (λ b. ShowsNext b c.args.line.now (32 ∷ next.0)) (sym c.if-not-is_asked.false) (
-        next.0,
-        next.1,
-        refl,
-      ),
+      subst (λ b. ShowsNext b c.args.line.now (32 ∷ next.0)) (sym c.if-not-is_asked.false)
+          (next.0, next.1, refl),
       next.2 ∙ ap (λ t. t ++ next.0) c.in_ok-push_blank.ensures.added
           ∙ append_assoc c.args.text.now.items (32 ∷ []) next.0,
     ))

@@ -1,5 +1,4 @@
-use Rattle.std.proofs.Common.{◌≡◌, ◌-◌, ◌≤◌, ◌++◌, [], ◌∷◌, decimal}
-use Rattle.pgn_extract.specs.Private.Blockwise.{lines_from}
+use Rattle.pgn_extract.proofs.Common.{◌≡◌, ◌-◌, ◌≤◌, ◌++◌, [], ◌∷◌, decimal, lines_from}
 use Rattle.pgn_extract.proofs.entries.ten_lines.push_each.Given as goal
 
 abbrev pub invariant-loop-ply : goal.invariant-loop-ply

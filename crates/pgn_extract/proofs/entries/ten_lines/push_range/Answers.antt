@@ -15,5 +15,4 @@ returns c =
     - tens) (omega arith) text c.push_each.new.text.items c.push_tens.new.text.items
     (lines_from mark tens (c.args.end - tens))
     (c.in_ok-push_each.ensures ∙ ap (λ n. text ++ lines_from mark from n) least) refl
-    c.in_ok-push_tens.ensures
-    ∙ ap (λ n. text ++ lines_from mark from (n - from)) all
+    c.in_ok-push_tens.ensures ∙ ap (λ n. text ++ lines_from mark from (n - from)) all

@@ -1,5 +1,4 @@
-use Rattle.std.proofs.Common.{◌≡◌, ◌+◌, ◌≤◌, take}
-use Rattle.pgn_extract.specs.Private.NoteTexts.{column_after}
+use Rattle.pgn_extract.proofs.Common.{◌≡◌, ◌+◌, ◌≤◌, take, column_after}
 use Rattle.pgn_extract.proofs.explain.notes.column.Given as goal
 
 abbrev pub invariant-loop-byte : goal.invariant-loop-byte

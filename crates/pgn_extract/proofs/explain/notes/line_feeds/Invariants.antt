@@ -1,5 +1,4 @@
-use Rattle.std.proofs.Common.{◌≡◌, ◌≤◌, take}
-use Rattle.pgn_extract.specs.Private.NoteTexts.{line_feeds}
+use Rattle.pgn_extract.proofs.Common.{◌≡◌, ◌≤◌, take, line_feeds}
 use Rattle.pgn_extract.proofs.explain.notes.line_feeds.Given as goal
 
 abbrev pub invariant-loop-byte : goal.invariant-loop-byte

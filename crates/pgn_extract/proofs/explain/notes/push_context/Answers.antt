@@ -1,5 +1,4 @@
-use Rattle.std.proofs.Common.{◌++◌, ap, ◌∙◌, codes}
-use Rattle.std.proofs.lemmas.Result.{on_ok_weaker}
+use Rattle.pgn_extract.proofs.Common.{◌++◌, ap, ◌∙◌, codes, on_ok_weaker}
 use Rattle.pgn_extract.proofs.explain.notes.push_context.Goals as goal
 
 pub returns-in-TagValue : goal.returns-in-TagValue

@@ -1,5 +1,4 @@
-use Rattle.std.proofs.Common.{refl, codes}
-use Rattle.std.proofs.lemmas.Result.{on_ok_weaker}
+use Rattle.pgn_extract.proofs.Common.{refl, codes, on_ok_weaker}
 use Rattle.pgn_extract.proofs.NoteLines.{number_kept}
 use Rattle.pgn_extract.proofs.explain.notes.push_spot.Goals as goal
 

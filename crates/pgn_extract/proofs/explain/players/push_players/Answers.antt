@@ -1,6 +1,4 @@
-use Rattle.std.proofs.Common.{◌∷◌, [], refl, sym, subst}
-use Rattle.std.proofs.lemmas.Result.{on_ok_weaker}
-use Rattle.pgn_extract.specs.Public.Notes.{indented}
+use Rattle.pgn_extract.proofs.Common.{◌∷◌, [], refl, sym, subst, on_ok_weaker, indented}
 use Rattle.pgn_extract.proofs.NoteLines.{IsLine, line_note}
 use Rattle.pgn_extract.proofs.explain.players.push_players.Goals as goal
 
@@ -8,8 +6,7 @@ pub returns : goal.returns
 returns c =
     let line = c.as_slice.result.now in
     let begun = c.in_ok-push_shown.ensures (subst IsLine (sym c.new-line.ensures.items) refl) in
-    let named =
-    c.in_ok-push_player-2.ensures
+    let named = c.in_ok-push_player-2.ensures
     (c.in_ok-push_shown-2.ensures (c.in_ok-push_player.ensures begun)) in
     let whole = subst IsLine (sym c.as_slice.ensures.value) (c.in_ok-push_year.ensures named) in
     on_ok_weaker c.push_line.result (λ is.

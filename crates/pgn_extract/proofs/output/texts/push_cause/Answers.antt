@@ -1,7 +1,4 @@
-use Rattle.std.proofs.Common.{ap}
-use Rattle.std.proofs.lemmas.Result.{on_ok_weaker}
-use Rattle.pgn_game.specs.Public.Faults.{IllegalMove, AmbiguousMove}
-use Rattle.pgn_game.specs.Public.Replays.{fault_of}
+use Rattle.pgn_extract.proofs.Common.{ap, on_ok_weaker, IllegalMove, AmbiguousMove, fault_of}
 use Rattle.pgn_extract.proofs.output.texts.push_cause.Goals as goal
 
 pub returns-in-Illegal : goal.returns-in-Illegal

@@ -1,12 +1,6 @@
-use Rattle.std.proofs.Common.{◌↔◌, [], List, Option, IsTrue, refl, sym, subst}
-use Rattle.pgn_text.specs.Public.GameTexts.{tag_in}
-use Rattle.pgn_game.specs.Public.Replays.{Replay, IsReplay}
-use Rattle.pgn_game.specs.Public.Starts.{fen_tag}
-use Rattle.pgn_game.specs.declared.replays.replayer.Lines.TheVariants.{Main}
-use Rattle.pgn_criteria.specs.Public.Conditions.{Conditions}
-use Rattle.pgn_criteria.specs.Public.Meeting.{heading_of}
-use Rattle.pgn_extract.specs.Public.Aims.{aim_of, IsMet}
-use Rattle.pgn_extract.specs.Private.Packed.{record_aim}
+use Rattle.pgn_extract.proofs.Common.{◌↔◌, [], List, Option, IsTrue, refl, sym, subst, tag_in}
+use Rattle.pgn_extract.proofs.Common.{Replay, IsReplay, fen_tag, Main, Conditions, heading_of}
+use Rattle.pgn_extract.proofs.Common.{aim_of, IsMet, record_aim}
 use Rattle.pgn_extract.proofs.Finds.{none_yet}
 use Rattle.pgn_extract.proofs.KeptLines.{begins_kept}
 use Rattle.pgn_extract.proofs.packed.kept_packed.push_kept_record.Goals as goal
@@ -22,8 +16,7 @@ push_found-requires-clause-stands c game replay packed own =
     let is : IsReplay Main (tag_in fen_tag game.tags) game.elements kept =
     subst (λ (r : Replay). IsReplay Main (tag_in fen_tag game.tags) game.elements r)
     (c.in-Ok.ensures.ok.same game replay packed own) own.is_replay in
-    let at =
-    begins_kept game kept is c.in_ok-met.met.items aim met.each
+    let at = begins_kept game kept is c.in_ok-met.met.items aim met.each
     (λ n r here.
     subst (λ (o : Option (List Conditions)). IsTrue r ↔ IsMet o (heading_of game) kept n)
     (sym c.requires.criteria) (met.reports n r here)) in

@@ -1,5 +1,4 @@
-use Rattle.std.proofs.Common.{List, ℕ, sym, subst}
-use Rattle.pgn_game.specs.Public.CodeLines.{IsCodedLine, IsCodedReplay}
+use Rattle.pgn_extract.proofs.Common.{List, ℕ, sym, subst, IsCodedLine, IsCodedReplay}
 use Rattle.pgn_extract.proofs.KeptPackedFacts.{kept_of, none_of}
 use Rattle.pgn_extract.proofs.packed.kept_packed.replay_from.Goals as goal
 

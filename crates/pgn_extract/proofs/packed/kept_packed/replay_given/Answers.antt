@@ -1,14 +1,10 @@
-use Rattle.std.proofs.Common.{Some, sym, subst}
-use Rattle.chess.specs.Public.Positions.{State}
-use Rattle.pgn_text.specs.Public.GameTexts.{tag_in}
-use Rattle.pgn_game.specs.Public.Starts.{fen_tag, IsStart, IsBadStart}
-use Rattle.pgn_game.proofs.OneReplay.{start_or_bad}
+use Rattle.pgn_extract.proofs.Common.{Some, sym, subst, State, tag_in, fen_tag, IsStart, IsBadStart}
+use Rattle.pgn_extract.proofs.Common.{start_or_bad}
 use Rattle.pgn_extract.proofs.packed.kept_packed.replay_given.Goals as goal
 
 pub returns-then-not-is_contents-clause-err : goal.returns-then-not-is_contents-clause-err
 returns-then-not-is_contents-clause-err c is game replay packed own =
-    let yes =
-    c.is_contents.ensures.1
+    let yes = c.is_contents.ensures.1
     (own.text.strings fen_tag c.args.contents.now (c.requires game replay packed own)) in
     absurd (cc (yes, c.if-not-is_contents.true))
 

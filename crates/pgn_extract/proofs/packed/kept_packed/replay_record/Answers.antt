@@ -1,6 +1,4 @@
-use Rattle.std.proofs.Common.{◌≡◌, None, sym, ap, subst, ◌∙◌}
-use Rattle.pgn_text.specs.Public.GameTexts.{tag_in}
-use Rattle.pgn_game.specs.Public.Starts.{fen_tag, IsStart}
+use Rattle.pgn_extract.proofs.Common.{◌≡◌, None, sym, ap, subst, ◌∙◌, tag_in, fen_tag, IsStart}
 use Rattle.pgn_extract.proofs.packed.kept_packed.replay_record.Goals as goal
 
 pub replay_from-requires : goal.replay_from-requires

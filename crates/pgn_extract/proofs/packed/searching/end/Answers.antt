@@ -1,7 +1,5 @@
-use Rattle.std.proofs.Common.{length, refl, sym, subst}
-use Rattle.std.specs.Io.KnownBytes.{Appends}
 use Rattle.std.proofs.KnownBytes.{Appends-kept}
-use Rattle.std.proofs.Math.Seq.{take-length}
+use Rattle.pgn_extract.proofs.Common.{length, refl, sym, subst, Appends, take-length}
 use Rattle.pgn_extract.proofs.packed.searching.end.Goals as goal
 
 pub returns-in-Err-clause-err : goal.returns-in-Err-clause-err

@@ -1,9 +1,6 @@
-use Rattle.std.proofs.Common.{◌∙◌, ◌+◌, ◌≤◌, arith, sym}
-use Rattle.std.proofs.lemmas.Bool.{false_from_ne_true}
-use Rattle.std.proofs.lemmas.Result.{err_from_is_err_and}
-use Rattle.pgn_text.specs.Public.Limits.{largest_offset}
+use Rattle.pgn_extract.proofs.Common.{◌∙◌, ◌+◌, ◌≤◌, arith, sym, false_from_ne_true}
+use Rattle.pgn_extract.proofs.Common.{err_from_is_err_and, largest_offset, BadPack}
 use Rattle.pgn_extract.specs.declared.packed.searching.SearchError.TheVariants.{Write, OutOfMemory}
-use Rattle.pgn_extract.specs.declared.packed.searching.SearchError.TheVariants.{BadPack}
 use Rattle.pgn_extract.proofs.SearchFacts.{searched_none, searched_more, searched_put, few_records}
 use Rattle.pgn_extract.proofs.SearchFacts.{ends_well, stops_within, stops_here, stops_at_game}
 use Rattle.pgn_extract.proofs.SearchFacts.{stops_at_step, stopped, stopped_after}
@@ -53,11 +50,7 @@ returns-in_err-put_large-in-Ok-clause-stands g c =
     (added.2 read.0 read.1 (sym read.3)) in
     let front = c.in_err-put_large-in-Ok.ensures.err in
     let p = err_from_is_err_and c.from_residual.result c.from_residual.ensures.1 in
-    rw (
-      p.1,
-      p.2,
-      front.0,
-    ) (stopped {left' = g.R.Read.remaining c.step.new.input.inner} {out' =
+    rw (p.1, p.2, front.0) (stopped {left' = g.R.Read.remaining c.step.new.input.inner} {out' =
     g.O.Write.contents c.put_large.new.out.inner} Write (stops_within more _ front.1))
 
 pub returns-in-Err-NoGame-clause-stands : goal.returns-in-Err-NoGame-clause-stands
@@ -81,11 +74,7 @@ returns-in_err-end-in-Ok-false-clause-stands g c =
     let front = c.in_err-end-in-Ok-false.ensures.err in
     let p = err_from_is_err_and c.from_residual-in_err-end-in-Ok-false.result
     c.from_residual-in_err-end-in-Ok-false.ensures.1 in
-    rw (
-      p.1,
-      p.2,
-      front.0,
-    ) (stopped {left' = g.R.Read.remaining c.step.new.input.inner} {out' =
+    rw (p.1, p.2, front.0) (stopped {left' = g.R.Read.remaining c.step.new.input.inner} {out' =
     g.O.Write.contents c.end.new.out.inner} Write
     (stops_within c.loop-text.invariant.0 _ (rw (← c.deref-in-Ok-false.ensures.value) front.1)))
 
@@ -99,9 +88,6 @@ pub returns-in-Err-clause-stands : goal.returns-in-Err-clause-stands
 returns-in-Err-clause-stands g c =
     stopped_after c.loop-text.invariant.0 _ c.of_records-error.result c.put_rest-in-Err.result _ _ _
     c.deref-in-Err.ensures.value c.put_rest-in-Err.ensures
-    (λ last. rw (
-      c.of_records-error.ensures,
-      c.place-in-Err.ensures,
-    )
+    (λ last. rw (c.of_records-error.ensures, c.place-in-Err.ensures)
     (stops_at_step c.loop-text.invariant.0 c.step.new.self _ _ _ c.in-Err.ensures.gives
     c.in-Err.ensures.place last))

@@ -1,7 +1,5 @@
-use Rattle.std.proofs.Common.{◌≡◌, ◌+◌, ◌-◌, false, length}
-use Rattle.pgn_text.specs.Public.Limits.{largest_offset}
-use Rattle.pgn_extract.specs.Public.Aims.{aim_of}
-use Rattle.pgn_extract.specs.Private.SearchSteps.{HasSearched}
+use Rattle.pgn_extract.proofs.Common.{◌≡◌, ◌+◌, ◌-◌, false, length, largest_offset, aim_of}
+use Rattle.pgn_extract.proofs.Common.{HasSearched}
 use Rattle.pgn_extract.proofs.packed.searching.search.Given as goal
 
 abbrev pub invariant-loop-text : goal.invariant-loop-text

@@ -1,9 +1,6 @@
-use Rattle.std.proofs.Common.{[], ◌++◌, refl, sym, ap, subst, ◌∙◌, append_assoc, arith}
 use Rattle.std.proofs.lemmas.List.{append-nil}
-use Rattle.std.proofs.lemmas.Result.{on_ok_weaker}
-use Rattle.pgn_extract.specs.Public.Index.{fault_text}
-use Rattle.pgn_extract.specs.Public.GameReports.{cause_text}
-use Rattle.pgn_extract.specs.Public.Notes.{IsNote}
+use Rattle.pgn_extract.proofs.Common.{[], ◌++◌, refl, sym, ap, subst, ◌∙◌, append_assoc, arith}
+use Rattle.pgn_extract.proofs.Common.{on_ok_weaker, fault_text, cause_text, IsNote}
 use Rattle.pgn_extract.proofs.NoteLines.{empty_note, notes_join}
 use Rattle.pgn_extract.proofs.engine.report.Report.add_fault.Goals as goal
 

@@ -1,6 +1,4 @@
-use Rattle.std.proofs.Common.{refl}
-use Rattle.std.proofs.lemmas.Result.{on_ok_weaker}
-use Rattle.pgn_extract.specs.Public.Aims.{aim_of}
+use Rattle.pgn_extract.proofs.Common.{refl, on_ok_weaker, aim_of}
 use Rattle.pgn_extract.proofs.GameVerdict.{game_added, game_indexed, sound_added}
 use Rattle.pgn_extract.proofs.engine.report.Report.add_game.Goals as goal
 

@@ -1,20 +1,15 @@
-use Rattle.std.proofs.Common.{◌≡◌, false, sym, ap, subst}
-use Rattle.std.proofs.lemmas.Result.{on_ok_weaker}
-use Rattle.pgn_text.specs.Public.Left.{piece_place}
+use Rattle.pgn_extract.proofs.Common.{◌≡◌, false, sym, ap, subst, on_ok_weaker, piece_place, aim_of}
+use Rattle.pgn_extract.proofs.Common.{is_chosen, id_at}
 use Rattle.pgn_text.specs.declared.game.pieces.Piece.{Piece}
-use Rattle.pgn_extract.specs.Public.Aims.{aim_of}
-use Rattle.pgn_extract.specs.Public.Choices.{is_chosen}
 use Rattle.pgn_extract.proofs.ChoiceFacts.{passed_by, taken_by}
 use Rattle.pgn_extract.proofs.GameVerdict.{piece_game, piece_passed, piece_unreadable}
 use Rattle.pgn_extract.proofs.engine.report.Report.add_piece.Goals as goal
-use Rattle.pgn_extract.specs.Private.Blockwise.{id_at}
 
 pub returns-then-passes_over : goal.returns-then-passes_over
 returns-then-passes_over c =
     let aim = aim_of c.args.context.settings.now in
     let id = c.args.context.id in
-    let passed =
-    passed_by (is_chosen aim.chosen (id_at id c.at.result)) c.passes_over.result
+    let passed = passed_by (is_chosen aim.chosen (id_at id c.at.result)) c.passes_over.result
     c.passes_over.ensures.passed c.if-passes_over.true in
     let there = subst (λ n. is_chosen aim.chosen (id_at id n) ≡ false) c.at.ensures passed in
     let held = c.passes_over.ensures in
@@ -27,8 +22,7 @@ returns-then-passes_over-2 c =
     let aim = aim_of c.args.context.settings.now in
     let id = c.args.context.id in
     let held = c.passes_over-in-Unreadable.ensures in
-    let passed =
-    passed_by (is_chosen aim.chosen (id_at id c.in-Unreadable.at))
+    let passed = passed_by (is_chosen aim.chosen (id_at id c.in-Unreadable.at))
     c.passes_over-in-Unreadable.result held.passed c.if-passes_over-2.true in
     piece_passed aim id c.args.context.bytes.now c.args.piece.now
     (subst (λ (p : Piece). is_chosen aim.chosen (id_at id (piece_place p))
@@ -55,8 +49,7 @@ returns-else-passes_over-2 c =
     let aim = aim_of c.args.context.settings.now in
     let id = c.args.context.id in
     let held = c.passes_over-in-Unreadable.ensures in
-    let taken =
-    taken_by (is_chosen aim.chosen (id_at id c.in-Unreadable.at))
+    let taken = taken_by (is_chosen aim.chosen (id_at id c.in-Unreadable.at))
     c.passes_over-in-Unreadable.result held.passed c.if-passes_over-2.false in
     on_ok_weaker c.add_unreadable.result
     (λ adds.

@@ -1,13 +1,7 @@
-use Rattle.std.proofs.Common.{◌≡◌, ◌++◌, take, length, refl, ap, subst, append-nil, ◌∙◌, arith}
-use Rattle.std.specs.Prelude.{IfSome}
 use Rattle.std.proofs.Math.Seq.{take-append_seam}
-use Rattle.std.proofs.lemmas.Result.{on_ok_weaker}
-use Rattle.pgn_extract.specs.Public.Aims.{aim_of}
-use Rattle.pgn_extract.specs.Private.Blockwise.{StopsIn}
-use Rattle.pgn_extract.specs.Public.Exports.{faulty_text}
-use Rattle.pgn_extract.specs.Public.GameReports.{cause_text}
-use Rattle.pgn_extract.specs.Public.Index.{fault_text}
-use Rattle.pgn_extract.specs.Public.Verdicts.{FaultyGame, SoundGame, replayed_lines}
+use Rattle.pgn_extract.proofs.Common.{◌≡◌, ◌++◌, take, length, refl, ap, subst, append-nil, ◌∙◌}
+use Rattle.pgn_extract.proofs.Common.{arith, IfSome, on_ok_weaker, aim_of, StopsIn, faulty_text}
+use Rattle.pgn_extract.proofs.Common.{cause_text, fault_text, FaultyGame, SoundGame, replayed_lines}
 use Rattle.pgn_extract.proofs.GameVerdict.{sound_added}
 use Rattle.pgn_extract.proofs.engine.report.Report.add_replayed.Goals as goal
 

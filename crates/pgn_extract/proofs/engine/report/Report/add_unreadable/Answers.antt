@@ -1,24 +1,16 @@
-use Rattle.std.proofs.Common.{true, drop, [], ◌++◌, refl, sym, ap, subst, ◌∙◌, append_assoc, codes}
-use Rattle.std.proofs.Common.{arith}
 use Rattle.std.proofs.lemmas.List.{append-nil}
-use Rattle.std.proofs.lemmas.Result.{on_ok_weaker}
-use Rattle.pgn_extract.specs.Public.Exports.{faulty_text}
-use Rattle.pgn_extract.specs.Public.Index.{fault_text}
-use Rattle.pgn_extract.specs.Public.Notes.{IsNote}
-use Rattle.pgn_extract.specs.Public.Verdicts.{FaultyGame}
-use Rattle.pgn_extract.specs.declared.explain.notes.Origin.{Origin}
+use Rattle.pgn_extract.proofs.Common.{true, drop, [], ◌++◌, refl, sym, ap, subst, ◌∙◌, append_assoc}
+use Rattle.pgn_extract.proofs.Common.{codes, arith, on_ok_weaker, faulty_text, fault_text, IsNote}
+use Rattle.pgn_extract.proofs.Common.{FaultyGame, Origin, id_at}
 use Rattle.pgn_extract.proofs.NoteLines.{names_more, names_stop, no_note, notes_join, stop_note}
 use Rattle.pgn_extract.proofs.RestOfBlock.{rest_taken}
 use Rattle.pgn_extract.proofs.engine.report.Report.add_unreadable.Goals as goal
-use Rattle.pgn_extract.specs.Private.Blockwise.{id_at}
 
 pub returns : goal.returns
 returns c =
-    let line =
-    fault_text c.args.context.settings.now.name (id_at c.args.context.id c.args.at)
+    let line = fault_text c.args.context.settings.now.name (id_at c.args.context.id c.args.at)
     (codes "unreadable") in
-    let text =
-    faulty_text c.args.context.settings.now.mode c.args.context.settings.now.select
+    let text = faulty_text c.args.context.settings.now.mode c.args.context.settings.now.select
     (drop c.args.at c.args.context.bytes.now) in
     let written = c.in_ok-push_faulty.ensures
     ∙ ap (λ bytes. c.args.self.now.output.items
@@ -57,11 +49,9 @@ returns c =
 
 pub returns-then-not-settings : goal.returns-then-not-settings
 returns-then-not-settings c =
-    let line =
-    fault_text c.args.context.settings.now.name (id_at c.args.context.id c.args.at)
+    let line = fault_text c.args.context.settings.now.name (id_at c.args.context.id c.args.at)
     (codes "unreadable") in
-    let text =
-    faulty_text c.args.context.settings.now.mode c.args.context.settings.now.select
+    let text = faulty_text c.args.context.settings.now.mode c.args.context.settings.now.select
     (drop c.args.at c.args.context.bytes.now) in
     let written = c.in_ok-push_faulty.ensures
     ∙ ap (λ bytes. c.args.self.now.output.items

@@ -1,13 +1,12 @@
-use Rattle.std.proofs.Common.{◌∷◌, [], length, refl, subst, arith}
-use Rattle.pgn_extract.specs.Private.Lines.{aim_with}
+use Rattle.pgn_extract.proofs.Common.{◌∷◌, [], length, refl, subst, arith, aim_with}
 use Rattle.pgn_extract.proofs.Chosen.{entry_at}
 use Rattle.pgn_extract.proofs.Finds.{leaves_shut, leaves_past, leaves_unwanted, keeps_one}
 use Rattle.pgn_extract.proofs.Finds.{is_wanted, not_wanted}
-use Rattle.pgn_extract.proofs.entries.finding.Finder.ask.Goals as goal
 use Rattle.pgn_extract.proofs.entries.finding.Finder.ask.Goals.{then-not-is_open-via-then-not-is_open}
 use Rattle.pgn_extract.proofs.entries.finding.Finder.ask.Goals.{then-not-is_open-via-else-not-is_open+then-ply-self}
 use Rattle.pgn_extract.proofs.entries.finding.Finder.ask.Goals.{then-ply-self-2-via-then-ply-self-2}
 use Rattle.pgn_extract.proofs.entries.finding.Finder.ask.Goals.{then-ply-self-2-via-else-ply-self-2+then-not-is_met}
+use Rattle.pgn_extract.proofs.entries.finding.Finder.ask.Goals as goal
 
 pub returns-then-not-is_open-clause-asked : goal.returns-then-not-is_open-clause-asked
 returns-then-not-is_open-clause-asked g c name id game before P at start so_far =

@@ -1,11 +1,6 @@
-use Rattle.std.proofs.Common.{◌++◌, ◌∷◌, ℕ, List, Option, [], subst}
-use Rattle.std.proofs.lemmas.Option.{IfSome_then}
-use Rattle.std.proofs.lemmas.Result.{err_from_is_err_and}
-use Rattle.chess.specs.Public.Positions.{State}
-use Rattle.pgn_text.specs.Public.GameTexts.{GameText}
-use Rattle.pgn_game.specs.Public.Faults.{Fault}
-use Rattle.pgn_extract.specs.Public.Aims.{GameId}
-use Rattle.pgn_extract.specs.Private.Lines.{aim_with, GoesTo, Where, HasFault, Fails}
+use Rattle.pgn_extract.proofs.Common.{◌++◌, ◌∷◌, ℕ, List, Option, [], subst, IfSome_then}
+use Rattle.pgn_extract.proofs.Common.{err_from_is_err_and, State, GameText, Fault, GameId, aim_with}
+use Rattle.pgn_extract.proofs.Common.{GoesTo, Where, HasFault, Fails}
 use Rattle.pgn_extract.proofs.Finds.{finds_none, none_yet, goes_on, ends_at}
 use Rattle.pgn_extract.proofs.entries.finding.Finder.find.Goals as goal
 
@@ -33,8 +28,7 @@ loop-still-preserved g c = record {
   found = λ name id game before P at none.
       let aim = aim_with c.args.self.now name in
       let so_far = c.loop-still.invariant.found name id game before P at none in
-      let to =
-      subst (λ more.
+      let to = subst (λ more.
       GoesTo (g.L.Line.At c.advance.new.self) c.in_ok-still.still more aim game so_far.before
       so_far.here)
       c.if-not-branch.false
@@ -80,8 +74,7 @@ returns-in_err-advance-clause-fault g c =
     × g.S.Sink.Grew c.args.sink.now c.ask.new.sink = λ own fails. (
       λ name game P at.
           let aim = aim_with finder name in
-          let so_far =
-          c.loop-still.invariant.found name any_id game [] P at (none_yet aim game) in
+          let so_far = c.loop-still.invariant.found name any_id game [] P at (none_yet aim game) in
           fails aim game so_far.before so_far.here so_far.at,
       g.met.S.Sink.grows c.args.sink.now c.loop-still.sink c.ask.new.sink
           c.loop-still.invariant.grew c.in_ok-still.ensures.kept,
@@ -98,8 +91,7 @@ returns-in_err-still-clause-fault g c =
     × g.S.Sink.Grew c.args.sink.now c.ask.new.sink = λ own of. (
       λ name game P at.
           let aim = aim_with finder name in
-          let so_far =
-          c.loop-still.invariant.found name any_id game [] P at (none_yet aim game) in
+          let so_far = c.loop-still.invariant.found name any_id game [] P at (none_yet aim game) in
           of.0 aim game so_far.before so_far.here so_far.at,
       g.met.S.Sink.grows c.args.sink.now c.loop-still.sink c.ask.new.sink
           c.loop-still.invariant.grew of.1,

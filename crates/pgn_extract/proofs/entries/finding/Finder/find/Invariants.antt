@@ -1,8 +1,5 @@
-use Rattle.std.proofs.Common.{ℕ, List, Option}
-use Rattle.chess.specs.Public.Positions.{State}
-use Rattle.pgn_text.specs.Public.GameTexts.{GameText}
-use Rattle.pgn_extract.specs.Public.Aims.{GameId}
-use Rattle.pgn_extract.specs.Private.Lines.{aim_with, NoneBefore}
+use Rattle.pgn_extract.proofs.Common.{ℕ, List, Option, State, GameText, GameId, aim_with}
+use Rattle.pgn_extract.proofs.Common.{NoneBefore}
 use Rattle.pgn_extract.proofs.Finds.{StandsFound}
 use Rattle.pgn_extract.proofs.entries.finding.Finder.find.Given as goal
 

@@ -1,7 +1,5 @@
-use Rattle.std.proofs.Common.{◌↔◌, List, Option, IsTrue, sym, subst}
-use Rattle.pgn_criteria.specs.Public.Meeting.{heading_of}
-use Rattle.pgn_criteria.specs.Public.Conditions.{Conditions}
-use Rattle.pgn_extract.specs.Public.Aims.{IsMet}
+use Rattle.pgn_extract.proofs.Common.{◌↔◌, List, Option, IsTrue, sym, subst, heading_of, Conditions}
+use Rattle.pgn_extract.proofs.Common.{IsMet}
 use Rattle.pgn_extract.proofs.KeptLines.{legal_line, begins_kept}
 use Rattle.pgn_extract.proofs.entries.kept.Kept.of_game.Goals as goal
 

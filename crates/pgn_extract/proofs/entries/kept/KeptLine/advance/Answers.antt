@@ -1,8 +1,8 @@
 use Rattle.std.proofs.Common.{arith}
 use Rattle.pgn_extract.proofs.KeptLines.{goes_one, ends_kept}
-use Rattle.pgn_extract.proofs.entries.kept.KeptLine.advance.Goals as goal
 use Rattle.pgn_extract.proofs.entries.kept.KeptLine.advance.Goals.{then-not-is_open-via-then-not-is_open}
 use Rattle.pgn_extract.proofs.entries.kept.KeptLine.advance.Goals.{then-not-is_open-via-else-not-is_open+then-next-len}
+use Rattle.pgn_extract.proofs.entries.kept.KeptLine.advance.Goals as goal
 
 pub returns-then-not-is_open-clause-moved : goal.returns-then-not-is_open-clause-moved
 returns-then-not-is_open-clause-moved c aim game before P at =
@@ -10,11 +10,8 @@ returns-then-not-is_open-clause-moved c aim game before P at =
     P at c.args.is_open
     (λ is_on. elim c.then-not-is_open.branch [
       | then-not-is_open-via-then-not-is_open w ↦ let off = w.if-not-is_open.true in absurd (cc)
-      | then-not-is_open-via-else-not-is_open+then-next-len w ↦ omega (
-        arith,
-        w.len.ensures,
-        w.if-next-len.true,
-      )
+      | then-not-is_open-via-else-not-is_open+then-next-len w ↦ omega
+          (arith, w.len.ensures, w.if-next-len.true)
     ])
 
 pub returns-clause-moved : goal.returns-clause-moved

@@ -1,6 +1,4 @@
-use Rattle.std.proofs.Common.{◌≡◌, Some, sym, ap, ◌∙◌, arith}
-use Rattle.std.specs.List.{slice_get}
-use Rattle.std.proofs.lemmas.Option.{slice_get-get_or}
+use Rattle.pgn_extract.proofs.Common.{◌≡◌, Some, sym, ap, ◌∙◌, arith, slice_get, slice_get-get_or}
 use Rattle.pgn_extract.proofs.KeptLines.{reports_there, size_left}
 use Rattle.pgn_extract.proofs.entries.kept.KeptLine.is_met.Goals as goal
 

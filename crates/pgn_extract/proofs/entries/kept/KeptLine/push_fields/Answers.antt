@@ -1,5 +1,4 @@
-use Rattle.std.proofs.Common.{◌++◌, refl, ap, ◌∙◌, append_assoc}
-use Rattle.std.proofs.lemmas.Result.{on_ok_weaker}
+use Rattle.pgn_extract.proofs.Common.{◌++◌, refl, ap, ◌∙◌, append_assoc, on_ok_weaker}
 use Rattle.pgn_extract.proofs.KeptLines.{position_shown, shows_kept}
 use Rattle.pgn_extract.proofs.entries.kept.KeptLine.push_fields.Goals as goal
 

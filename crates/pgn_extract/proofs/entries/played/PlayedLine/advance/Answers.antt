@@ -1,5 +1,4 @@
-use Rattle.std.proofs.lemmas.Option.{IfSome_then}
-use Rattle.std.proofs.lemmas.Result.{MatchResult-weaker}
+use Rattle.pgn_extract.proofs.Common.{IfSome_then, MatchResult-weaker}
 use Rattle.pgn_extract.proofs.PlayedFacts.{moves_on, fails_moved}
 use Rattle.pgn_extract.proofs.entries.played.PlayedLine.advance.Goals as goal
 

@@ -1,5 +1,4 @@
-use Rattle.std.proofs.Common.{◌↔◌, IsTrue, sym, ◌∙◌, subst}
-use Rattle.pgn_criteria.specs.Public.Meeting.{SomeHold}
+use Rattle.pgn_extract.proofs.Common.{◌↔◌, IsTrue, sym, ◌∙◌, subst, SomeHold}
 use Rattle.pgn_extract.proofs.Finds.{met_here}
 use Rattle.pgn_extract.proofs.entries.played.PlayedLine.is_met.Goals as goal
 

@@ -1,7 +1,5 @@
-use Rattle.std.proofs.Common.{◌++◌, refl, ap, ◌∙◌, subst, append_assoc}
-use Rattle.std.proofs.lemmas.Option.{IfSome_then}
-use Rattle.std.proofs.lemmas.Result.{on_ok_weaker, MatchResult-weaker}
-use Rattle.pgn_extract.specs.Private.Finding.{ShowsPosition}
+use Rattle.pgn_extract.proofs.Common.{◌++◌, refl, ap, ◌∙◌, subst, append_assoc, IfSome_then}
+use Rattle.pgn_extract.proofs.Common.{on_ok_weaker, MatchResult-weaker, ShowsPosition}
 use Rattle.pgn_extract.proofs.PlayedFacts.{shows_fields, fails_at}
 use Rattle.pgn_extract.proofs.entries.played.PlayedLine.push_fields.Goals as goal
 

@@ -35,8 +35,7 @@ index_mut-requires c =
 pub overflow_add-index_mut : goal.overflow_add-index_mut
 overflow_add-index_mut c =
     let is : c.index_mut.result.now ≡ 48 + c.args.tens % 10 =
-    c.index_mut.ensures.value
-    ∙ ap (λ t. get_or t c.loop-count.tens_digit c.index_mut.result.now)
+    c.index_mut.ensures.value ∙ ap (λ t. get_or t c.loop-count.tens_digit c.index_mut.result.now)
     c.loop-count.invariant.lines
     ∙ digit_there c.args.mark.now c.args.tens c.requires.tens c.requires.room c.if-tens-eq9.false
     c.loop-count.count (omega arith) c.loop-count.tens_digit c.loop-count.invariant.at
@@ -51,8 +50,7 @@ loop-count-preserved c =
     let last = c.loop-count.tens_digit in
     let at = c.loop-count.invariant.at in
     let wide = c.loop-count.invariant.wide in
-    let is : c.index_mut.result.now ≡ 48 + tens % 10 =
-    c.index_mut.ensures.value
+    let is : c.index_mut.result.now ≡ 48 + tens % 10 = c.index_mut.ensures.value
     ∙ ap (λ t. get_or t last c.index_mut.result.now) c.loop-count.invariant.lines
     ∙ digit_there mark tens c.requires.tens c.requires.room c.if-tens-eq9.false count (omega arith)
     last at c.index_mut.result.now in

@@ -1,5 +1,4 @@
-use Rattle.std.proofs.Common.{◌≡◌, ◌+◌, ◌*◌, length}
-use Rattle.pgn_extract.specs.Private.Blockwise.{lines_from}
+use Rattle.pgn_extract.proofs.Common.{◌≡◌, ◌+◌, ◌*◌, length, lines_from}
 use Rattle.pgn_extract.proofs.TenLines.{width, mixed}
 use Rattle.pgn_extract.proofs.entries.ten_lines.LineBuffers.next_ten.Given as goal
 

@@ -1,5 +1,4 @@
-use Rattle.std.proofs.Common.{◌≡◌, ◌-◌, ◌*◌, ◌≤◌, ◌++◌}
-use Rattle.pgn_extract.specs.Private.Blockwise.{lines_from}
+use Rattle.pgn_extract.proofs.Common.{◌≡◌, ◌-◌, ◌*◌, ◌≤◌, ◌++◌, lines_from}
 use Rattle.pgn_extract.proofs.entries.ten_lines.LineBuffers.push_tens.Given as goal
 
 abbrev pub invariant-loop-tens : goal.invariant-loop-tens

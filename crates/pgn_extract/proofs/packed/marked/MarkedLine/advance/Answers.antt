@@ -1,7 +1,5 @@
-use Rattle.std.proofs.Common.{◌≤◌, ◌-◌, ◌/◌, ℕ, List, length, arith}
-use Rattle.chess.specs.declared.board.man.Side.{Side}
-use Rattle.pgn_criteria.specs.Public.ByMarks.{IsNextMet}
-use Rattle.pgn_criteria.specs.Public.Prefilters.{codes_in}
+use Rattle.pgn_extract.proofs.Common.{◌≤◌, ◌-◌, ◌/◌, ℕ, List, length, arith, Side, IsNextMet}
+use Rattle.pgn_extract.proofs.Common.{codes_in}
 use Rattle.pgn_extract.specs.declared.packed.marked.Marked.{Marked}
 use Rattle.pgn_extract.proofs.WalkedLines.{marks_on, marks_all, codes_count, next_shorter}
 use Rattle.pgn_extract.proofs.packed.marked.MarkedLine.advance.Goals as goal
@@ -45,15 +43,13 @@ overflow_sub-self c = left_fits c.args.self.now c.in-Some.side c.in-Some.left.no
 
 pub invariant_of-self : goal.invariant_of-self
 invariant_of-self c =
-    let fits =
-    left_fits c.args.self.now c.in-Some.side c.in-Some.left.now c.in-Some.ensures in
+    let fits = left_fits c.args.self.now c.in-Some.side c.in-Some.left.now c.in-Some.ensures in
     record { sized = omega (arith, fits) }
 
 pub returns-clause-ends : goal.returns-clause-ends
 returns-clause-ends c is =
     let line = c.args.self.now in
-    let less =
-    next_shorter line.marks.flags (codes_in line.left.now) line.side c.in-Some.side
+    let less = next_shorter line.marks.flags (codes_in line.left.now) line.side c.in-Some.side
     (codes_in c.in-Some.left.now) c.in-Some.ensures in
     let old = codes_count line.left.now in
     let new = codes_count c.in-Some.left.now in

@@ -1,5 +1,4 @@
-use Rattle.std.proofs.Common.{true, ap, ◌∙◌}
-use Rattle.pgn_criteria.specs.Public.ByMarks.{has_marks}
+use Rattle.pgn_extract.proofs.Common.{true, ap, ◌∙◌, has_marks}
 use Rattle.pgn_extract.proofs.WalkedLines.{told_here}
 use Rattle.pgn_extract.proofs.packed.marked.MarkedLine.is_met.Goals as goal
 
