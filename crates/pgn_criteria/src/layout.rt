@@ -130,14 +130,21 @@ impl Layout {
         }
     }
 
-    /// Adds a square on which a man must not stand, if that is so.
-    fn bar(&mut self, is_barred: bool, man: Man, square: Square) -> Result<(), AllocError>
+    /// Adds a square on which a man of the side must not stand, if that is so.
+    fn bar(
+        &mut self,
+        is_barred: bool,
+        side: Side,
+        kind: Kind,
+        square: Square,
+    ) -> Result<(), AllocError>
         ensures { OnOk result
-            (Lays (λ p. IsTrue is_barred → IsOf (Not man) (man_at p square)) (λ p.
+            (Lays (λ p. IsTrue is_barred
+            → IsOf (Not (record { side = side; kind = kind })) (man_at p square)) (λ p.
             Unit {0}) self.old self.new true) }
     {
         if is_barred {
-            let class = SquareTest::Not(man);
+            let class = SquareTest::Not(Man { side, kind });
             self.barred.push(Asked { class, square })?;
         }
         Ok(())
@@ -149,54 +156,12 @@ impl Layout {
             (Lays (λ p. NoneOf side kinds (man_at p square)) (λ p.
             Unit {0}) self.old self.new true) }
     {
-        self.bar(
-            kinds.pawn,
-            Man {
-                side,
-                kind: Kind::Pawn,
-            },
-            square,
-        )?;
-        self.bar(
-            kinds.knight,
-            Man {
-                side,
-                kind: Kind::Knight,
-            },
-            square,
-        )?;
-        self.bar(
-            kinds.bishop,
-            Man {
-                side,
-                kind: Kind::Bishop,
-            },
-            square,
-        )?;
-        self.bar(
-            kinds.rook,
-            Man {
-                side,
-                kind: Kind::Rook,
-            },
-            square,
-        )?;
-        self.bar(
-            kinds.queen,
-            Man {
-                side,
-                kind: Kind::Queen,
-            },
-            square,
-        )?;
-        self.bar(
-            kinds.king,
-            Man {
-                side,
-                kind: Kind::King,
-            },
-            square,
-        )?;
+        self.bar(kinds.pawn, side, Kind::Pawn, square)?;
+        self.bar(kinds.knight, side, Kind::Knight, square)?;
+        self.bar(kinds.bishop, side, Kind::Bishop, square)?;
+        self.bar(kinds.rook, side, Kind::Rook, square)?;
+        self.bar(kinds.queen, side, Kind::Queen, square)?;
+        self.bar(kinds.king, side, Kind::King, square)?;
         Ok(())
     }
 

@@ -4,8 +4,8 @@ use Rattle.pgn_criteria.proofs.layout.Layout.bar.Goals as goal
 
 pub returns-in_ok-push : goal.returns-in_ok-push
 returns-in_ok-push c =
-    lays_like (λ p. IsTrue true → IsOf (Not c.args.man) (man_at p c.args.square)) (λ p.
-    IsTrue c.args.is_barred → IsOf (Not c.args.man) (man_at p c.args.square)) _ _
+    let barred = Not (record { side = c.args.side; kind = c.args.kind }) in
+    lays_like (λ p. IsTrue true → IsOf barred (man_at p c.args.square)) (λ p.
+    IsTrue c.args.is_barred → IsOf barred (man_at p c.args.square)) _ _
     (λ p. (λ so t. so refl, λ so t. so c.if-is_barred.true))
-    (lays_barred _ _ (Not c.args.man) c.args.square _ refl refl c.in_ok-push.ensures.items refl
-    refl)
+    (lays_barred _ _ barred c.args.square _ refl refl c.in_ok-push.ensures.items refl refl)
