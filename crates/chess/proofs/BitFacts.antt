@@ -16,7 +16,8 @@ use Rattle.chess.proofs.Common.{square_bitboard, row_of, man_of_row, IsCleared, 
 use Rattle.chess.proofs.Common.{number_of_side, Man, Side, Kind, White, Black, King}
 use Rattle.chess.specs.Private.Bitboards.{man_below, is_row, number_of_kind}
 use Rattle.chess.proofs.PlaceFacts.{true_not_false}
-use Rattle.chess.proofs.FillFacts.{bit_of_either, bit_of_both, no_bit, common_none, common_some}
+use Rattle.chess.proofs.board.FillFacts.{bit_of_either, bit_of_both, no_bit, common_none}
+use Rattle.chess.proofs.board.FillFacts.{common_some}
 
 -- ---- the words of men
 

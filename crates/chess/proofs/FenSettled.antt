@@ -12,12 +12,14 @@ use Rattle.chess.proofs.Common.{HasWrongPawns, Syntax, Kings, Pawns, InCheck, Ca
 use Rattle.chess.proofs.Common.{Side, White, Black, Wing, KingSide, QueenSide}
 use Rattle.chess.specs.Public.Laws.{EachTextIsReadOrRefused}
 use Rattle.chess.proofs.PlaceFacts.{cases_place}
-use Rattle.chess.proofs.Settled.{Settled, settled_like, settled_not, settled_both, settled_three}
+use Rattle.chess.proofs.Settled.{Settled, settled_like, settled_not, settled_both}
+use Rattle.chess.proofs.Settled.{settled_three}
 use Rattle.chess.proofs.Settled.{settled_either, settled_le, settled_true, settled_below}
 use Rattle.chess.proofs.Settled.{settled_option, cases_bytes}
 use Rattle.chess.proofs.Searches.{search_square, search_side}
-use Rattle.chess.proofs.LegalSettled.{settled_man_at, settled_forward, forward_low, settled_check}
-use Rattle.chess.proofs.RanksSettled.{settled_men}
+use Rattle.chess.proofs.LegalSettled.{settled_man_at, settled_forward, forward_low}
+use Rattle.chess.proofs.LegalSettled.{settled_check}
+use Rattle.chess.proofs.laws.RanksSettled.{settled_men}
 
 -- ---- the fields after the men
 

@@ -13,7 +13,8 @@ use Rattle.chess.proofs.AfterFacts.{after_on_board}
 use Rattle.chess.proofs.AxisSteps.{Axis, Up, Level, Down, file_step, rank_step, IsAxisAhead}
 use Rattle.chess.proofs.AxisSteps.{to_axes, of_axes, steps_gap, straight_or_not}
 use Rattle.chess.proofs.PlaceFacts.{cases_place}
-use Rattle.chess.proofs.Settled.{Settled, settled_like, settled_not, settled_both, settled_three}
+use Rattle.chess.proofs.Settled.{Settled, settled_like, settled_not, settled_both}
+use Rattle.chess.proofs.Settled.{settled_three}
 use Rattle.chess.proofs.Settled.{settled_either, settled_le, settled_true, settled_below}
 use Rattle.chess.proofs.Settled.{settled_held, cases_option}
 use Rattle.chess.proofs.Searches.{search_square, search_way, cases_kind, cases_side, cases_man}

@@ -2,7 +2,8 @@
 -- the board alone.
 use Rattle.chess.proofs.Common.{Option, Place, IsOnBoard, AreOnBoard, State, Kind, Wing, Move}
 use Rattle.chess.specs.Public.Moves.{IsLegal, CanGo, HasMove, IsMate, IsStalemate}
-use Rattle.chess.proofs.Settled.{Settled, settled_like, settled_not, settled_both, search_option}
+use Rattle.chess.proofs.Settled.{Settled, settled_like, settled_not, settled_both}
+use Rattle.chess.proofs.Settled.{search_option}
 use Rattle.chess.proofs.Searches.{search_square, search_wing, search_any_kind}
 use Rattle.chess.proofs.LegalSettled.{settled_check, settled_legal}
 

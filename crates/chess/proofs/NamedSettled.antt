@@ -11,10 +11,14 @@ use Rattle.chess.proofs.Common.{Agrees, IsNamed, IsPromotionKind, on_board_or_no
 use Rattle.chess.proofs.Common.{Wing, Move}
 use Rattle.chess.specs.Public.Laws.{NamesOneNoneOrSeveral, EachTextNamesOneNoneOrSeveral}
 use Rattle.chess.proofs.PlaceFacts.{cases_place}
-use Rattle.chess.proofs.Settled.{Settled, settled_like, settled_below, settled_front, search_option}
-use Rattle.chess.proofs.Settled.{settled_both, settled_le, settled_true, settled_held, cases_option}
-use Rattle.chess.proofs.Settled.{settled_three, settled_either, settled_implies, settled_if_some}
-use Rattle.chess.proofs.Settled.{settled_not, SearchIn, IsAny, search_any, search_both, search_bool}
+use Rattle.chess.proofs.Settled.{Settled, settled_like, settled_below, settled_front}
+use Rattle.chess.proofs.Settled.{search_option}
+use Rattle.chess.proofs.Settled.{settled_both, settled_le, settled_true, settled_held}
+use Rattle.chess.proofs.Settled.{cases_option}
+use Rattle.chess.proofs.Settled.{settled_three, settled_either, settled_implies}
+use Rattle.chess.proofs.Settled.{settled_if_some}
+use Rattle.chess.proofs.Settled.{settled_not, SearchIn, IsAny, search_any, search_both}
+use Rattle.chess.proofs.Settled.{search_bool}
 use Rattle.chess.proofs.Searches.{search_square, search_wing, search_any_kind, cases_kind}
 use Rattle.chess.proofs.Searches.{cases_wing, cases_move}
 use Rattle.chess.proofs.LegalSettled.{settled_promotion_kind, settled_legal}

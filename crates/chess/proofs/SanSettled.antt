@@ -11,7 +11,8 @@ use Rattle.chess.proofs.Common.{Move}
 use Rattle.chess.specs.Public.Laws.{EachMoveHasAText}
 use Rattle.chess.proofs.OnBoard.{men_stay_on_board}
 use Rattle.chess.proofs.PlaceFacts.{cases_place}
-use Rattle.chess.proofs.Settled.{Settled, settled_like, settled_not, settled_both, settled_three}
+use Rattle.chess.proofs.Settled.{Settled, settled_like, settled_not, settled_both}
+use Rattle.chess.proofs.Settled.{settled_three}
 use Rattle.chess.proofs.Searches.{search_square}
 use Rattle.chess.proofs.LegalSettled.{settled_man_at, settled_check}
 use Rattle.chess.proofs.MateSettled.{settled_can_go, settled_mate}

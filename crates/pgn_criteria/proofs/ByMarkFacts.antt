@@ -325,9 +325,8 @@ module _ (set : ℕ) (turn : Side) (rest after : List ℕ) (long : 3 ≤ length 
   next_on fails side left later =
       rw (three rest long) (inr (
         subst (λ side. told side ≡ false) is fails,
-        subst (λ own.
-            IsNextMet set own (codes_in (drop 3 rest)) side left) is (subst (λ (bytes : List ℕ). IsNextMet
-            set other (codes_in bytes) side left) same later),
+        subst (λ own. IsNextMet set own (codes_in (drop 3 rest)) side left) is
+            (subst (λ (bytes : List ℕ). IsNextMet set other (codes_in bytes) side left) same later),
       ))
 
   pub next_here : told other ≡ true → IsNextMet set turn (codes_in rest) other (codes_in after)

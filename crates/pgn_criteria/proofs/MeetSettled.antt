@@ -29,13 +29,13 @@ use Rattle.pgn_criteria.proofs.MoveFacts.{by_move, star_now, star_on, star_none,
 use Rattle.pgn_criteria.proofs.MoveFacts.{byte_now, byte_back, byte_none, by_like}
 use Rattle.pgn_criteria.proofs.SetupFacts.{settled_set_up}
 use Rattle.pgn_criteria.proofs.MirrorFacts.{mirrored_on}
-use Rattle.pgn_criteria.proofs.MenSettled.{settled_material}
+use Rattle.pgn_criteria.proofs.laws.MenSettled.{settled_material}
 use Rattle.pgn_criteria.proofs.SpanFacts.{AreFrom, none_from, one_before, none_before, from_first}
 use Rattle.pgn_criteria.proofs.SpanFacts.{one_number}
-use Rattle.pgn_criteria.proofs.SplitSettled.{settled_pattern}
-use Rattle.pgn_criteria.proofs.StandsSettled.{settled_by, settled_compared, settled_stands}
-use Rattle.pgn_criteria.proofs.StandsSettled.{settled_number}
-use Rattle.pgn_criteria.proofs.DateSettled.{settled_date}
+use Rattle.pgn_criteria.proofs.laws.SplitSettled.{settled_pattern}
+use Rattle.pgn_criteria.proofs.laws.StandsSettled.{settled_by, settled_compared, settled_stands}
+use Rattle.pgn_criteria.proofs.laws.StandsSettled.{settled_number}
+use Rattle.pgn_criteria.proofs.laws.DateSettled.{settled_date}
 
 -- ---- tags
 

@@ -17,7 +17,8 @@ use Rattle.chess.specs.declared.board.man.Side.{Side}
 use Rattle.chess.specs.declared.board.man.Side.TheVariants.{White, Black}
 use Rattle.chess.specs.declared.board.man.Wing.{Wing}
 use Rattle.chess.specs.declared.board.man.Wing.TheVariants.{KingSide, QueenSide}
-use Rattle.chess.proofs.Settled.{Settled, settled_like, settled_not, settled_both, settled_implies}
+use Rattle.chess.proofs.Settled.{Settled, settled_like, settled_not, settled_both}
+use Rattle.chess.proofs.Settled.{settled_implies}
 use Rattle.chess.proofs.Settled.{settled_le, settled_held, Search, cases_option, cases_bool}
 use Rattle.chess.proofs.PlaceFacts.{cases_place}
 use Rattle.chess.proofs.LegalSettled.{settled_man_at}

@@ -5,7 +5,7 @@ use Rattle.pgn_extract.proofs.Common.{inr, false_from_ne_true, Appends, GathersB
 use Rattle.pgn_extract.proofs.Common.{BeginsBlock, AppendsFront, Passage, Report, Aim, GameId}
 use Rattle.pgn_text.proofs.MarkedPieces.{of_block_exist}
 use Rattle.pgn_extract.specs.Private.RunParts.{WriteFaultsAre}
-use Rattle.pgn_extract.proofs.Gathered.{gathers_begun}
+use Rattle.pgn_extract.proofs.engine.Gathered.{gathers_begun}
 use Rattle.pgn_extract.proofs.Writing.{appends_none, appends_join}
 
 -- nothing is a beginning

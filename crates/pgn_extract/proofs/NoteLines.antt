@@ -17,7 +17,7 @@ use Rattle.pgn_text.specs.declared.error.error_position.Within.TheVariants.{Comm
 use Rattle.pgn_text.specs.declared.error.error_position.Within.TheVariants.{TagName, Game, TagValue}
 use Rattle.pgn_text.specs.declared.error.error_position.Within.TheVariants.{Variation}
 use Rattle.pgn_text.proofs.EachStops.{stop_exists}
-use Rattle.pgn_text.proofs.Fronts.{list_all-run}
+use Rattle.pgn_text.proofs.LongestRuns.{list_all-run}
 use Rattle.pgn_extract.specs.Private.NoteTexts.{position_text, place_in, place_text, begin_in}
 use Rattle.pgn_extract.specs.Private.NoteTexts.{begin_text, hex_digit, byte_text, stopper_text}
 use Rattle.pgn_extract.specs.Private.NoteTexts.{context_text, stop_line, IsStopNote}

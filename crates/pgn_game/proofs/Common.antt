@@ -6,7 +6,7 @@ pub use Rattle.chess.proofs.RestFacts.{first_and_rest}
 pub use Rattle.chess.proofs.SanOnce.{one_san}
 pub use Rattle.chess.proofs.SanSettled.{some_san}
 pub use Rattle.chess.proofs.StartFacts.{initial_kept}
-pub use Rattle.chess.proofs.StartText.{initial_fen}
+pub use Rattle.chess.proofs.examples.StartText.{initial_fen}
 pub use Rattle.chess.specs.Public.Fen.{IsFen, IsRefused}
 pub use Rattle.chess.specs.Public.Letters.{kind_letter, square_text}
 pub use Rattle.chess.specs.Public.Moves.{Goes, HasMove, IsLegal, IsPseudoLegal, after, arriving}

@@ -4,8 +4,8 @@ use Rattle.pgn_game.proofs.Common.{◌≡◌, ℕ, List, [], ◌∷◌, ◌++◌
 use Rattle.pgn_game.proofs.Common.{fen_tag, missing_text, escaped, IsTagText, tag_line, AreLinesOf}
 use Rattle.pgn_game.proofs.Common.{written_names, IsLaid, AreMovetextTokens}
 use Rattle.pgn_game.specs.Public.Laws.{GameHasOneExport}
-use Rattle.pgn_game.proofs.LaidOnce.{one_text}
-use Rattle.pgn_game.proofs.OneMovetext.{one_movetext}
+use Rattle.pgn_game.proofs.laws.LaidOnce.{one_text}
+use Rattle.pgn_game.proofs.laws.OneMovetext.{one_movetext}
 use Rattle.pgn_game.proofs.OneReplay.{same_value, one_start}
 
 one_tag_text : (contents : Option (List ℕ)) (missing text other : List ℕ)

@@ -5,7 +5,7 @@ use Rattle.pgn_game.proofs.Common.{HoldStrings, tag_in, value_of_sign, missing_t
 use Rattle.pgn_game.proofs.Common.{IsTagText, tag_line, AreLinesOf, written_names}
 use Rattle.pgn_game.specs.Public.Laws.{GameHasAnExport}
 use Rattle.pgn_game.proofs.LaidFacts.{some_text}
-use Rattle.pgn_game.proofs.SomeMovetext.{some_movetext}
+use Rattle.pgn_game.proofs.laws.SomeMovetext.{some_movetext}
 
 -- a tag, there or missing, has a text
 some_tag_text : (tags : List (List ℕ × List ℕ)) → HoldStrings tags

@@ -18,7 +18,7 @@ use Rattle.chess.specs.declared.board.man.CastlingRights.{CastlingRights}
 use Rattle.chess.proofs.FenOneText.{one_fen, some_fen}
 use Rattle.chess.proofs.FenReadBack.{fen_spells}
 use Rattle.chess.proofs.SoundRead.{read_sound}
-use Rattle.chess.proofs.StartText.{initial_has_fen}
+use Rattle.chess.proofs.examples.StartText.{initial_has_fen}
 use Rattle.pgn_game.proofs.PlainTokens.{AllOf, all_append, AreDigits, decimal_digits}
 
 -- ---- a position that FEN may give: its text is read back

@@ -7,8 +7,8 @@ use Rattle.pgn_text.proofs.Common.{is_not_brace, Part, ByteOrderMark, White, Bra
 use Rattle.pgn_text.proofs.Common.{EscapeLine, Tag, Word, Star, Dot, Glyph, Marks, Open, Close}
 use Rattle.pgn_text.proofs.Common.{Standing, Stands, spelled_part, is_tag, State, Follows}
 use Rattle.pgn_text.proofs.Common.{IsPartFront, Ends, BeforeName}
-use Rattle.pgn_text.proofs.InTag.{tag_is, tag_ends, tag_bytes}
-use Rattle.pgn_text.proofs.Lines.{cut_append}
+use Rattle.pgn_text.proofs.error.InTag.{tag_is, tag_ends, tag_bytes}
+use Rattle.pgn_text.proofs.laws.Lines.{cut_append}
 
 -- ---- classes of bytes
 

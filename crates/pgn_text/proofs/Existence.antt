@@ -7,12 +7,12 @@ use Rattle.pgn_text.proofs.Common.{cases_Bool, cases_eq, Part, standing_of, Stan
 use Rattle.pgn_text.proofs.Common.{spelled_part, is_gap_part, is_result, begins_outside_gap, IsGame}
 use Rattle.pgn_text.proofs.Common.{State, start, step, IsGap, IsLongestGap, NoGame, Piece, Game}
 use Rattle.pgn_text.proofs.Common.{Unreadable, ArePieces}
-use Rattle.pgn_text.proofs.PartLemmas.{one_part, part_has_byte}
+use Rattle.pgn_text.proofs.laws.PartLemmas.{one_part, part_has_byte}
 use Rattle.pgn_text.proofs.FoundLemmas.{part_or_none}
 use Rattle.pgn_text.proofs.OneList.{shorter, game_has_byte}
-use Rattle.pgn_text.proofs.Halfway.{Reads, reads_more, reads_end, reads_first, game_reads}
-use Rattle.pgn_text.proofs.Halfway.{reads_game}
-use Rattle.pgn_text.proofs.Resumption.{no_gap_part, empty_gap, gap_spent}
+use Rattle.pgn_text.proofs.laws.Halfway.{Reads, reads_more, reads_end, reads_first, game_reads}
+use Rattle.pgn_text.proofs.laws.Halfway.{reads_game}
+use Rattle.pgn_text.proofs.laws.ReadAgain.{no_gap_part, empty_gap, gap_spent}
 
 -- ---- a reading, or none
 

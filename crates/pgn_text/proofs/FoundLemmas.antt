@@ -15,8 +15,8 @@ use Rattle.pgn_text.proofs.Common.{spelled_part, number_of, rest_after, brace_fr
 use Rattle.pgn_text.proofs.Common.{tag_end, tag_string, tag_name, tag_front, is_glyph, glyph_front}
 use Rattle.pgn_text.proofs.Common.{game_front, part_front, with_byte, contents_front}
 use Rattle.pgn_text.specs.Private.Reading.{mark_front}
-use Rattle.pgn_text.proofs.Fronts.{run-append-after, list_all-run, stops-after_run}
-use Rattle.pgn_text.proofs.PartLemmas.{tag_regroup, stands-read}
+use Rattle.pgn_text.proofs.LongestRuns.{run-append-after, list_all-run, stops-after_run}
+use Rattle.pgn_text.proofs.laws.PartLemmas.{tag_regroup, stands-read}
 
 -- what is found at the front of the text, if anything is, may stand there
 abbrev pub IsFound : Standing → List ℕ → Option (Part × List ℕ) → Type 0

@@ -7,13 +7,14 @@ use Rattle.pgn_text.proofs.Common.{ArePieces, event_line, is_event_line, IsFirst
 use Rattle.pgn_text.proofs.Common.{TooLongBlock, MarkedPiece, marked, AreOfBlock, over, within}
 use Rattle.pgn_text.proofs.Common.{AreOfBlocks, AreMarkedPieces}
 use Rattle.pgn_text.specs.Public.Laws.{FrontHasThePiecesBefore}
-use Rattle.pgn_text.proofs.LineFronts.{begins_line, starts_more, short_front, gap_line, game_line}
-use Rattle.pgn_text.proofs.LineFronts.{block_line}
-use Rattle.pgn_text.proofs.Lines.{cut_append, cut_single}
+use Rattle.pgn_text.proofs.laws.LineFronts.{begins_line, starts_more, short_front, gap_line}
+use Rattle.pgn_text.proofs.laws.LineFronts.{game_line}
+use Rattle.pgn_text.proofs.laws.LineFronts.{block_line}
+use Rattle.pgn_text.proofs.laws.Lines.{cut_append, cut_single}
 use Rattle.pgn_text.proofs.MarkedPieces.{one_marked_pieces}
 use Rattle.pgn_text.proofs.OneList.{no_bytes, game_has_byte}
 use Rattle.pgn_text.proofs.ResumedText.{not_nil, map_cut, place_of_piece, offset_of_marked}
-use Rattle.pgn_text.proofs.ShorterText.{game_front, gap_front, gap_end}
+use Rattle.pgn_text.proofs.laws.ShorterText.{game_front, gap_front, gap_end}
 
 -- ---- the front of a block
 

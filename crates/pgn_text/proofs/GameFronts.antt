@@ -7,8 +7,9 @@ use Rattle.pgn_text.proofs.Common.{cases_lt, not_from_false, Part, ByteOrderMark
 use Rattle.pgn_text.proofs.Common.{Line, EscapeLine, standing_of, AllStand, spelled, is_gap_part}
 use Rattle.pgn_text.proofs.Common.{begins_outside_gap, State, start, Leads, IsGameFront}
 use Rattle.pgn_text.proofs.Common.{IsLongestViablePrefix, Walks, IsPartFront, NoneFollows}
-use Rattle.pgn_text.proofs.GameLeads.{game_leads, game_from}
-use Rattle.pgn_text.proofs.Halfway.{Reads, stands_join, stands_cut, spelled-append, one_reading}
+use Rattle.pgn_text.proofs.laws.GameLeads.{game_leads, game_from}
+use Rattle.pgn_text.proofs.laws.Halfway.{Reads, stands_join, stands_cut, spelled-append}
+use Rattle.pgn_text.proofs.laws.Halfway.{one_reading}
 use Rattle.pgn_text.proofs.Stopping.{instead_nothing, instead_same, all_instead, Front, ByteFront}
 use Rattle.pgn_text.proofs.Stopping.{front_here, front_back, front_on, front_in_part}
 use Rattle.pgn_text.proofs.Stopping.{part_front_goes}

@@ -9,9 +9,9 @@ use Rattle.pgn_text.proofs.Common.{items_of_part, first_tag, glyphs_of_marks, Is
 use Rattle.pgn_text.proofs.Common.{GivesElement, IsFirstTag, Kept, kept, items_of_kept, named_kept}
 use Rattle.pgn_text.proofs.Common.{PartAt, KeptAt, NothingAt, option_or}
 use Rattle.pgn_text.specs.Public.PartPlaces.{IsElementPlace, IsTagPlace}
-use Rattle.pgn_text.proofs.Halfway.{stands_join, spelled-append, before_more}
+use Rattle.pgn_text.proofs.laws.Halfway.{stands_join, spelled-append, before_more}
 use Rattle.pgn_text.proofs.KeptLemmas.{items-kept, items-push}
-use Rattle.pgn_text.proofs.PartLemmas.{one_part}
+use Rattle.pgn_text.proofs.laws.PartLemmas.{one_part}
 use Rattle.pgn_text.proofs.TagLemmas.{first_tag-cons, first_tag-push, option_or-none}
 
 -- the NAGs of a run of marks: one for each two, and one for a last mark alone

@@ -6,7 +6,7 @@ use Rattle.pgn_text.proofs.Common.{spelled, Piece, Game, Unreadable, ArePieces, 
 use Rattle.pgn_text.proofs.Common.{TooLongBlock, MarkedPiece, marked, AreOfBlock, over, within}
 use Rattle.pgn_text.proofs.Common.{AreOfBlocks}
 use Rattle.pgn_text.specs.Public.TextLaws.{PieceBeginsInItsText}
-use Rattle.pgn_text.proofs.Lines.{cut_append, cut_single}
+use Rattle.pgn_text.proofs.laws.Lines.{cut_append, cut_single}
 use Rattle.pgn_text.proofs.OneList.{game_has_byte}
 use Rattle.pgn_text.proofs.ResumedText.{not_nil, map_cut, place_of_piece, offset_of_marked}
 

@@ -4,8 +4,8 @@ use Rattle.pgn_text.proofs.Common.{◌≡◌, ◌≢◌, ℕ, suc, ◌<◌, Bool
 use Rattle.pgn_text.proofs.Common.{drop, refl, sym, ap, ◌∙◌, arith, append-nil, length-append}
 use Rattle.pgn_text.proofs.Common.{take_at, drop_at, Part, standing_of, spelled, spelled_part}
 use Rattle.pgn_text.proofs.Common.{IsGame, IsLongestGap, Piece, Game, Unreadable, ArePieces}
-use Rattle.pgn_text.proofs.PartLemmas.{part_has_byte}
-use Rattle.pgn_text.proofs.Halfway.{one_game}
+use Rattle.pgn_text.proofs.laws.PartLemmas.{part_has_byte}
+use Rattle.pgn_text.proofs.laws.Halfway.{one_game}
 
 -- two fronts of one text of the same length
 pub same_fronts : {X : Type 0} (a b c d : List X) → length a ≡ length c → a ++ b ≡ c ++ d

@@ -13,11 +13,12 @@ use Rattle.pgn_text.proofs.Common.{spelled_part, Kept, KeptGap, KeptComment, kep
 use Rattle.pgn_text.proofs.Common.{brace_front, KeptMove, KeptNumber, KeptDot, KeptMarks, KeptOpen}
 use Rattle.pgn_text.proofs.Common.{KeptClose, kept_word, part_front, game_front, RunTo, PartAt}
 use Rattle.pgn_text.proofs.Common.{KeptAt, NothingAt, GapPartAt, IsFirstByte}
-use Rattle.pgn_text.proofs.Classes.{is_letter-word, is_digit-word, is_letter-digit}
-use Rattle.pgn_text.proofs.Classes.{is_word_byte-mark, dot-mark, dollar-mark}
-use Rattle.pgn_text.proofs.Fronts.{run_of-append, after_run-append, run-append-after, list_all-run}
+use Rattle.pgn_text.proofs.laws.Classes.{is_letter-word, is_digit-word, is_letter-digit}
+use Rattle.pgn_text.proofs.laws.Classes.{is_word_byte-mark, dot-mark, dollar-mark}
+use Rattle.pgn_text.proofs.LongestRuns.{run_of-append, after_run-append, run-append-after}
+use Rattle.pgn_text.proofs.LongestRuns.{list_all-run}
 use Rattle.pgn_text.proofs.FoundLemmas.{read-stands}
-use Rattle.pgn_text.proofs.PartLemmas.{no_gap-word, no_gap-mark, part_has_byte}
+use Rattle.pgn_text.proofs.laws.PartLemmas.{no_gap-word, no_gap-mark, part_has_byte}
 use Rattle.pgn_text.proofs.Places.{part_placed, kept_at, nothing_at}
 use Rattle.pgn_text.proofs.Braces.{brace_found, brace_none}
 

@@ -11,7 +11,7 @@ use Rattle.pgn_text.proofs.Common.{Standing, Stands, spelled_part, standing_of, 
 use Rattle.pgn_text.proofs.Common.{kept, gap_front, tag_front, tag_string, tag_end, kept_found}
 use Rattle.pgn_text.proofs.Common.{part_front, game_front, rest_after, is_glyph, contents_front}
 use Rattle.pgn_text.proofs.Common.{PartAt, KeptAt, NothingAt, GapPartAt, NoGapPartAt}
-use Rattle.pgn_text.proofs.PartLemmas.{part_has_byte, stands-read}
+use Rattle.pgn_text.proofs.laws.PartLemmas.{part_has_byte, stands-read}
 use Rattle.pgn_text.proofs.FoundLemmas.{IsFound, gap-found, read-stands}
 
 -- a part that stands in a block ends at a place of the block

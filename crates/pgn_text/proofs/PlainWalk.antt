@@ -8,10 +8,10 @@ use Rattle.pgn_text.proofs.Common.{ArePlain, none, PlainTo, Kept, KeptGap, KeptM
 use Rattle.pgn_text.proofs.Common.{KeptDot, items_of_kept, RunTo, PartAt, KeptAt}
 use Rattle.pgn_text.specs.Private.Masks.{HaveEnds, IsNextMove, NoneFrom}
 use Rattle.pgn_text.specs.Private.Movetext.{one_more as then_part}
-use Rattle.pgn_text.proofs.Classes.{is_digit-word, is_letter-word, is_white-word}
-use Rattle.pgn_text.proofs.Bits.{both_true, clash}
+use Rattle.pgn_text.proofs.laws.Classes.{is_digit-word, is_letter-word, is_white-word}
+use Rattle.pgn_text.proofs.lex.Bits.{both_true, clash}
 use Rattle.pgn_text.proofs.PartsAt.{kept_letters, kept_digits, kept_dot, kept_white}
-use Rattle.pgn_text.proofs.RunsTo.{AllPass, none_yet, one_more, passed_to}
+use Rattle.pgn_text.proofs.lex.RunsTo.{AllPass, none_yet, one_more, passed_to}
 
 -- before the first part
 pub with_none : (block : List ℕ) (from : ℕ) → from ≤ length block → PlainTo block from [] from

@@ -9,12 +9,12 @@ use Rattle.pgn_text.proofs.Common.{IsFirstBlock, AreBlocks, ReadableGame, Unread
 use Rattle.pgn_text.proofs.Common.{TooLongBlock, MarkedPiece, marked, AreOfBlock, over, within}
 use Rattle.pgn_text.proofs.Common.{AreOfBlocks, AreMarkedPieces}
 use Rattle.pgn_text.specs.Public.Marks.{ResumesAt}
-use Rattle.pgn_text.proofs.Lines.{cut_append, cut_single}
+use Rattle.pgn_text.proofs.laws.Lines.{cut_append, cut_single}
 use Rattle.pgn_text.proofs.MarkedPieces.{one_marked_pieces}
 use Rattle.pgn_text.proofs.OneList.{no_bytes, game_has_byte, no_more}
-use Rattle.pgn_text.proofs.Resumption.{IsClear, Begun, begun_start, begun_clear, begun_more}
-use Rattle.pgn_text.proofs.Resumption.{gap_spent}
-use Rattle.pgn_text.proofs.ResumedPieces.{moved_back, resumed_at_game, resumed_at_unreadable}
+use Rattle.pgn_text.proofs.laws.ReadAgain.{IsClear, Begun, begun_start, begun_clear, begun_more}
+use Rattle.pgn_text.proofs.laws.ReadAgain.{gap_spent}
+use Rattle.pgn_text.proofs.laws.ResumedPieces.{moved_back, resumed_at_game, resumed_at_unreadable}
 
 -- ---- the blocks of what is left of a text within its first block
 

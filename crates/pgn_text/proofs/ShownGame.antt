@@ -9,9 +9,9 @@ use Rattle.pgn_text.proofs.Common.{if◌then◌else◌, find, is_eq, Part, spell
 use Rattle.pgn_text.proofs.Common.{Brace, Line, EscapeLine, Tag, Word, Star, Dot, Glyph, Marks}
 use Rattle.pgn_text.proofs.Common.{Open, Close, IsGame, first_tag, items_of, result_of, GameText}
 use Rattle.pgn_text.proofs.Common.{IsGameText, ShowsGame, tag_in, start, GameTo}
-use Rattle.pgn_text.proofs.GameLeads.{game_leads}
+use Rattle.pgn_text.proofs.laws.GameLeads.{game_leads}
 use Rattle.pgn_text.proofs.LastResult.{game_result}
-use Rattle.pgn_text.proofs.Pairing.{leads_paired}
+use Rattle.pgn_text.proofs.game.Pairing.{leads_paired}
 use Rattle.pgn_text.proofs.SortedTags.{name_cmp, names_of_sorted, find-tag_in}
 use Rattle.pgn_text.proofs.TagStrings.{first_string}
 

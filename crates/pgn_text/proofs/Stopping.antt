@@ -10,9 +10,9 @@ use Rattle.pgn_text.proofs.Common.{is_not_line_feed, stops, Part, White, Line, E
 use Rattle.pgn_text.proofs.Common.{Star, Glyph, Marks, Close, Standing, standing_of, Stands}
 use Rattle.pgn_text.proofs.Common.{AllStand, spelled, spelled_part, is_result, State, step, Leads}
 use Rattle.pgn_text.proofs.Common.{IsLongestViablePrefix, Walks, Follows, IsPartFront, NoneFollows}
-use Rattle.pgn_text.proofs.Halfway.{Reads, reads_more, reads_end, reads_first}
+use Rattle.pgn_text.proofs.laws.Halfway.{Reads, reads_more, reads_end, reads_first}
 use Rattle.pgn_text.proofs.ByteFronts.{InBytes, part_bytes}
-use Rattle.pgn_text.proofs.Lines.{cut_append}
+use Rattle.pgn_text.proofs.laws.Lines.{cut_append}
 
 -- ---- laws
 

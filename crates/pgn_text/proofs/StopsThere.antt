@@ -9,14 +9,15 @@ use Rattle.pgn_text.proofs.Common.{EscapeLine, standing_of, Stands, spelled, spe
 use Rattle.pgn_text.proofs.Common.{is_gap_part, IsGame, IsGap, IsLongestGap, Piece, Game}
 use Rattle.pgn_text.proofs.Common.{Unreadable, ArePieces, IsGameFront, IsLongestViablePrefix}
 use Rattle.pgn_text.proofs.ByteFronts.{bytes_after}
-use Rattle.pgn_text.proofs.Fronts.{run-append-after, list_all-run, stops-after_run}
-use Rattle.pgn_text.proofs.PartLemmas.{part_has_byte}
-use Rattle.pgn_text.proofs.ShorterText.{game_elsewhere}
+use Rattle.pgn_text.proofs.LongestRuns.{run-append-after, list_all-run, stops-after_run}
+use Rattle.pgn_text.proofs.laws.PartLemmas.{part_has_byte}
+use Rattle.pgn_text.proofs.laws.ShorterText.{game_elsewhere}
 use Rattle.pgn_text.proofs.ResumedText.{not_nil}
-use Rattle.pgn_text.proofs.Resumption.{IsClear, Begun, clear_longer, clear_start, begun_start}
-use Rattle.pgn_text.proofs.Resumption.{begun_clear, begun_more, gap_spent, some_bytes, stand_there}
-use Rattle.pgn_text.proofs.Resumption.{stand_back, stands_anywhere, game_there, game_back}
-use Rattle.pgn_text.proofs.Resumption.{no_gap_part}
+use Rattle.pgn_text.proofs.laws.ReadAgain.{IsClear, Begun, clear_longer, clear_start, begun_start}
+use Rattle.pgn_text.proofs.laws.ReadAgain.{begun_clear, begun_more, gap_spent, some_bytes}
+use Rattle.pgn_text.proofs.laws.ReadAgain.{stand_there}
+use Rattle.pgn_text.proofs.laws.ReadAgain.{stand_back, stands_anywhere, game_there, game_back}
+use Rattle.pgn_text.proofs.laws.ReadAgain.{no_gap_part}
 
 module _ (max_depth : ℕ) (f : Bool) (before : List ℕ) (clear : IsClear f before) where
   -- where no part of a gap stands before the text, a part of a gap that a front of the text agrees

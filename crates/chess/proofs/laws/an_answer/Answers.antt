@@ -2,7 +2,7 @@
 use Rattle.chess.proofs.FenSettled.{fen_answer}
 use Rattle.chess.proofs.NamedSettled.{each_text_names}
 use Rattle.chess.proofs.OnBoard.{spelled_men_on_board, men_stay_on_board}
-use Rattle.chess.proofs.RefusalExamples.{one_reason}
+use Rattle.chess.proofs.laws.RefusalExamples.{one_reason}
 use Rattle.chess.proofs.laws.an_answer.Goals as goal
 
 pub returns-clause-word : goal.returns-clause-word

@@ -1,5 +1,5 @@
 use Rattle.std.proofs.Common.{arith}
-use Rattle.chess.proofs.KindTable.{table_kind, kind_found}
+use Rattle.chess.proofs.letters.KindTable.{table_kind, kind_found}
 use Rattle.chess.proofs.letters.kind_of.Goals as goal
 
 pub returns : goal.returns

@@ -1,5 +1,5 @@
 use Rattle.pgn_criteria.proofs.Common.{◌≡◌, ap, sym, ◌∙◌, arith, value_of, one_value, number_after}
-use Rattle.pgn_criteria.proofs.NumberFacts.{number_found, tenfold, digit_small}
+use Rattle.pgn_criteria.proofs.compare.NumberFacts.{number_found, tenfold, digit_small}
 use Rattle.pgn_criteria.proofs.compare.number_of.Goals as goal
 
 pub loop-byte-init : goal.loop-byte-init

@@ -1,6 +1,6 @@
 -- Each law is a lemma.
 use Rattle.pgn_criteria.proofs.MirrorFacts.{flipped_twice}
-use Rattle.pgn_criteria.proofs.MirrorLaws.{mirror_undone, sides_alike}
+use Rattle.pgn_criteria.proofs.laws.MirrorLaws.{mirror_undone, sides_alike}
 use Rattle.pgn_criteria.proofs.laws.mirrors.Goals as goal
 
 pub returns-clause-mirror : goal.returns-clause-mirror

@@ -1,5 +1,6 @@
 -- Each law is a lemma.
-use Rattle.pgn_criteria.proofs.OneMeaning.{text_one_meaning, text_one_answer, memory_only_fault}
+use Rattle.pgn_criteria.proofs.laws.OneMeaning.{text_one_meaning, text_one_answer}
+use Rattle.pgn_criteria.proofs.laws.OneMeaning.{memory_only_fault}
 use Rattle.pgn_criteria.proofs.laws.one_meaning.Goals as goal
 
 pub returns-clause-meaning : goal.returns-clause-meaning

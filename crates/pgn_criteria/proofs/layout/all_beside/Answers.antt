@@ -1,6 +1,6 @@
 use Rattle.std.proofs.Common.{◌≡◌, ◌+◌, ◌++◌, ◌∷◌, [], length, take, sym, ap, ◌∙◌, subst, arith}
 use Rattle.std.proofs.Math.Seq.{take-length}
-use Rattle.pgn_criteria.proofs.BesideFacts.{AreTurned, turned_more}
+use Rattle.pgn_criteria.proofs.layout.BesideFacts.{AreTurned, turned_more}
 use Rattle.pgn_criteria.proofs.MeetFacts.{alternatives_to}
 use Rattle.pgn_criteria.proofs.layout.all_beside.Goals as goal
 

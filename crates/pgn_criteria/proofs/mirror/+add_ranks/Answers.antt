@@ -1,5 +1,5 @@
 use Rattle.pgn_criteria.proofs.Common.{rules, ◌≡◌, ◌<◌, ◌∷◌, length, parted_at}
-use Rattle.pgn_criteria.proofs.MirrorTextFacts.{ranks_added}
+use Rattle.pgn_criteria.proofs.mirror.MirrorTextFacts.{ranks_added}
 use Rattle.pgn_criteria.proofs.ParseFacts.{part_shorter}
 use Rattle.pgn_criteria.proofs.mirror.+add_ranks.Goals as goal
 

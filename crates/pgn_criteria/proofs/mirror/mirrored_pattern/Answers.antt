@@ -1,5 +1,5 @@
 use Rattle.pgn_criteria.proofs.Common.{◌++◌, ap, ◌∙◌, parted_at, turned}
-use Rattle.pgn_criteria.proofs.MirrorTextFacts.{pattern_mirrored, pattern_again}
+use Rattle.pgn_criteria.proofs.mirror.MirrorTextFacts.{pattern_mirrored, pattern_again}
 use Rattle.pgn_criteria.proofs.mirror.mirrored_pattern.Goals as goal
 
 pub returns-clause-fits : goal.returns-clause-fits

@@ -3,7 +3,7 @@ use Rattle.pgn_criteria.proofs.Common.{◌%◌, false, None, ap, subst, ◌∙�
 use Rattle.pgn_criteria.proofs.Common.{Placement, with_man, rook_from, rook_to, Man, numbered_man}
 use Rattle.pgn_criteria.proofs.Common.{IsPut}
 use Rattle.chess.specs.Shared.SetFacts.{on_board-square_at}
-use Rattle.pgn_criteria.proofs.PrefilterTestFacts.{goes, castles}
+use Rattle.pgn_criteria.proofs.prefilter_test.PrefilterTestFacts.{goes, castles}
 use Rattle.pgn_criteria.proofs.prefilter_test.follow_castling.Goals as goal
 
 -- the men after a king that has gone from one square to another

@@ -1,4 +1,4 @@
-use Rattle.pgn_criteria.proofs.PrefilterTestFacts.{has_his_number}
+use Rattle.pgn_criteria.proofs.prefilter_test.PrefilterTestFacts.{has_his_number}
 use Rattle.pgn_criteria.proofs.prefilter_test.has_number.Goals as goal
 
 pub returns : goal.returns

@@ -1,6 +1,6 @@
 use Rattle.pgn_criteria.proofs.Common.{true, false, ap, subst, ◌∙◌, Place, rook_from, rook_to, Man}
 use Rattle.pgn_criteria.proofs.Common.{numbered_man, IsPut}
-use Rattle.pgn_criteria.proofs.PrefilterTestFacts.{rook_settles}
+use Rattle.pgn_criteria.proofs.prefilter_test.PrefilterTestFacts.{rook_settles}
 use Rattle.pgn_criteria.proofs.prefilter_test.settle_rook.Goals as goal
 
 pub returns-in_default : goal.returns-in_default

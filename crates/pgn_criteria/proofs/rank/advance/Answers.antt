@@ -1,6 +1,6 @@
 use Rattle.std.proofs.Common.{◌<◌, ◌↔◌, ◌+◌, ℕ, subst, sym}
 use Rattle.pgn_criteria.specs.Private.Items.{Has, IsAfter}
-use Rattle.pgn_criteria.proofs.PlaceFacts.{place_kept, place_added, added_low}
+use Rattle.pgn_criteria.proofs.rank.PlaceFacts.{place_kept, place_added, added_low}
 use Rattle.pgn_criteria.proofs.rank.advance.Goals.{then-goes_on, else-goes_on}
 use Rattle.pgn_criteria.proofs.rank.advance.Goals as goal
 

@@ -1,7 +1,7 @@
 use Rattle.pgn_criteria.proofs.Common.{◌≡◌, ◌≢◌, [], length, true, false, sym, ap, ◌∙◌, arith, ◌==◌}
 use Rattle.pgn_criteria.proofs.Common.{no_length, CanBeSplit, items_of}
-use Rattle.pgn_criteria.proofs.PlaceFacts.{at_start, item_kept, no_item_fails, none_fails}
-use Rattle.pgn_criteria.proofs.PlaceFacts.{whole_reached}
+use Rattle.pgn_criteria.proofs.rank.PlaceFacts.{at_start, item_kept, no_item_fails, none_fails}
+use Rattle.pgn_criteria.proofs.rank.PlaceFacts.{whole_reached}
 use Rattle.pgn_criteria.proofs.rank.matches_rank.Goals as goal
 
 pub loop-rest-init : goal.loop-rest-init

@@ -1,5 +1,5 @@
 use Rattle.std.proofs.Common.{◌+◌, ◌-◌, ◌≡◌, arith}
-use Rattle.pgn_criteria.proofs.PlaceFacts.{run_more, run_none}
+use Rattle.pgn_criteria.proofs.rank.PlaceFacts.{run_more, run_none}
 use Rattle.pgn_criteria.proofs.rank.run.Goals as goal
 
 pub loop-step-preserved : goal.loop-step-preserved

@@ -1,5 +1,5 @@
 use Rattle.std.proofs.Common.{arith}
-use Rattle.pgn_criteria.proofs.PlaceFacts.{spread_places}
+use Rattle.pgn_criteria.proofs.rank.PlaceFacts.{spread_places}
 use Rattle.pgn_criteria.proofs.rank.spread.Goals as goal
 
 pub overflow_sub-result : goal.overflow_sub-result

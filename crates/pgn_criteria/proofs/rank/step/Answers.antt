@@ -1,4 +1,4 @@
-use Rattle.pgn_criteria.proofs.PlaceFacts.{many}
+use Rattle.pgn_criteria.proofs.rank.PlaceFacts.{many}
 use Rattle.pgn_criteria.proofs.rank.step.Goals as goal
 
 pub returns-in-Run-clause-goes_on : goal.returns-in-Run-clause-goes_on

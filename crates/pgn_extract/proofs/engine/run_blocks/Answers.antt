@@ -1,7 +1,9 @@
 use Rattle.pgn_extract.proofs.Common.{Err, ap, subst, refl, inl, inr, both_ways, false_from_ne_true}
 use Rattle.pgn_extract.proofs.Common.{Reads, ReadError}
-use Rattle.pgn_extract.proofs.RunProgress.{faulty_fits, progress_start, nearer, progress_more}
-use Rattle.pgn_extract.proofs.RunProgress.{block_breaks, all_written, flush_breaks, read_breaks}
+use Rattle.pgn_extract.proofs.engine.RunProgress.{faulty_fits, progress_start, nearer}
+use Rattle.pgn_extract.proofs.engine.RunProgress.{progress_more}
+use Rattle.pgn_extract.proofs.engine.RunProgress.{block_breaks, all_written, flush_breaks}
+use Rattle.pgn_extract.proofs.engine.RunProgress.{read_breaks}
 use Rattle.pgn_extract.proofs.engine.run_blocks.Goals as goal
 
 pub loop-block-init : goal.loop-block-init

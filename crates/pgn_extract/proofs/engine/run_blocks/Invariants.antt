@@ -1,6 +1,6 @@
 use Rattle.pgn_extract.proofs.Common.{◌≡◌, ◌+◌, ◌-◌, ◌^◌, false, block_limit, depth_limit, turns}
 use Rattle.pgn_extract.proofs.Common.{aim_of, game_id}
-use Rattle.pgn_extract.proofs.RunProgress.{Progress}
+use Rattle.pgn_extract.proofs.engine.RunProgress.{Progress}
 use Rattle.pgn_extract.proofs.engine.run_blocks.Given as goal
 
 abbrev pub invariant-loop-block : goal.invariant-loop-block

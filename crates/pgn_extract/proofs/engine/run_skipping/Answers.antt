@@ -1,5 +1,5 @@
 use Rattle.std.proofs.Common.{refl, rules}
-use Rattle.pgn_extract.proofs.RunEnds.{ended, not_begun}
+use Rattle.pgn_extract.proofs.engine.RunEnds.{ended, not_begun}
 use Rattle.pgn_extract.proofs.engine.run_skipping.Goals as goal
 
 pub returns-in-Ok : goal.returns-in-Ok

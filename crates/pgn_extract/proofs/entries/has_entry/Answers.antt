@@ -1,5 +1,5 @@
 use Rattle.pgn_extract.proofs.Common.{None, false, GameId, aim_of}
-use Rattle.pgn_extract.proofs.KeptLines.{tells_some}
+use Rattle.pgn_extract.proofs.entries.KeptLines.{tells_some}
 use Rattle.pgn_extract.proofs.Picks.{asks_given}
 use Rattle.pgn_extract.proofs.OneMain.{within_entry}
 use Rattle.pgn_extract.proofs.entries.has_entry.Goals as goal

@@ -1,5 +1,5 @@
 use Rattle.pgn_extract.proofs.ModeOutputs.{run_indexes, run_exports}
-use Rattle.pgn_extract.proofs.Resumed.{run_resumes}
+use Rattle.pgn_extract.proofs.laws.Resumed.{run_resumes}
 use Rattle.pgn_extract.proofs.laws.complete_runs.Goals as goal
 
 pub returns : goal.returns

@@ -1,5 +1,5 @@
 -- The law is a lemma.
-use Rattle.pgn_extract.proofs.OneOfThree.{piece_in_one}
+use Rattle.pgn_extract.proofs.laws.OneOfThree.{piece_in_one}
 use Rattle.pgn_extract.proofs.laws.each_piece_in_one_export.Goals as goal
 
 pub returns : goal.returns

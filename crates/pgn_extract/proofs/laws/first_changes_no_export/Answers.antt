@@ -1,5 +1,5 @@
 -- The laws are lemmas.
-use Rattle.pgn_extract.proofs.FirstExports.{first_changes_none}
+use Rattle.pgn_extract.proofs.laws.FirstExports.{first_changes_none}
 use Rattle.pgn_extract.proofs.laws.first_changes_no_export.Goals as goal
 
 pub returns : goal.returns

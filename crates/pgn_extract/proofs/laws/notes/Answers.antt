@@ -1,5 +1,5 @@
 -- The laws are lemmas.
-use Rattle.pgn_extract.proofs.NoteOnce.{no_notes, one_byte}
+use Rattle.pgn_extract.proofs.laws.NoteOnce.{no_notes, one_byte}
 use Rattle.pgn_extract.proofs.laws.notes.Goals as goal
 
 pub returns-clause-one : goal.returns-clause-one

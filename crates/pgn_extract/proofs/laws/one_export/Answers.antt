@@ -1,6 +1,6 @@
 -- The laws are lemmas.
 use Rattle.pgn_extract.proofs.ModeOutputs.{exports_of_pieces}
-use Rattle.pgn_extract.proofs.OneExports.{one_exports}
+use Rattle.pgn_extract.proofs.laws.OneExports.{one_exports}
 use Rattle.pgn_extract.proofs.laws.one_export.Goals as goal
 
 pub returns-clause-written : goal.returns-clause-written

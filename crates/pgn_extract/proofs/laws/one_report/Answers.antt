@@ -1,5 +1,5 @@
 -- The laws are lemmas.
-use Rattle.pgn_extract.proofs.OneReport.{one_report}
+use Rattle.pgn_extract.proofs.laws.OneReport.{one_report}
 use Rattle.pgn_extract.proofs.SomeReport.{some_report}
 use Rattle.pgn_extract.proofs.laws.one_report.Goals as goal
 

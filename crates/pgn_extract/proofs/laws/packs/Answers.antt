@@ -1,6 +1,6 @@
 -- The laws are lemmas.
-use Rattle.pgn_extract.proofs.PackFits.{packed_text, listed_pack}
-use Rattle.pgn_extract.proofs.ShownNames.{names_are_shown}
+use Rattle.pgn_extract.proofs.laws.PackFits.{packed_text, listed_pack}
+use Rattle.pgn_extract.proofs.laws.ShownNames.{names_are_shown}
 use Rattle.pgn_extract.proofs.laws.packs.Goals as goal
 
 pub returns-clause-pack : goal.returns-clause-pack

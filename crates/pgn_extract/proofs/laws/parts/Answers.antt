@@ -1,6 +1,6 @@
 -- The laws are lemmas.
-use Rattle.pgn_extract.proofs.JoinedParts.{parts_join}
-use Rattle.pgn_extract.proofs.PartsReported.{parts_reported}
+use Rattle.pgn_extract.proofs.laws.JoinedParts.{parts_join}
+use Rattle.pgn_extract.proofs.laws.PartsReported.{parts_reported}
 use Rattle.pgn_extract.proofs.laws.parts.Goals as goal
 
 pub returns-clause-join : goal.returns-clause-join

@@ -4,7 +4,7 @@ use Rattle.pgn_extract.proofs.Common.{codes_in, has_marks, heading_of, Condition
 use Rattle.pgn_extract.proofs.Common.{IsMet}
 use Rattle.pgn_extract.proofs.PackedFacts.{lists_none}
 use Rattle.pgn_extract.proofs.Picks.{asks_alike}
-use Rattle.pgn_extract.proofs.WalkedLines.{walks_record, none_in_walk}
+use Rattle.pgn_extract.proofs.packed.WalkedLines.{walks_record, none_in_walk}
 use Rattle.pgn_extract.proofs.packed.push_walked.Goals as goal
 
 pub push_marked-requires-clause-met : goal.push_marked-requires-clause-met

@@ -1,4 +1,4 @@
-use Rattle.pgn_game.proofs.NamedMoves.{HasNamed}
+use Rattle.pgn_game.proofs.explain.NamedMoves.{HasNamed}
 use Rattle.pgn_game.proofs.explain.named_moves.Given as goal
 
 abbrev pub invariant-loop-index : goal.invariant-loop-index

@@ -1,5 +1,5 @@
 use Rattle.pgn_game.proofs.Common.{sym, subst, ◌∙◌, false≢true, RefusesTurn}
-use Rattle.pgn_game.proofs.RefusalSearch.{none_named}
+use Rattle.pgn_game.proofs.explain.RefusalSearch.{none_named}
 use Rattle.pgn_game.proofs.explain.why_refused.Goals as goal
 
 pub returns-then-is_null_move : goal.returns-then-is_null_move

@@ -1,4 +1,4 @@
-use Rattle.pgn_game.proofs.SomeMovetext.{some_movetext}
+use Rattle.pgn_game.proofs.laws.SomeMovetext.{some_movetext}
 use Rattle.pgn_game.proofs.laws.a_movetext.Goals as goal
 
 pub returns : goal.returns

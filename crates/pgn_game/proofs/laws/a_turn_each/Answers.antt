@@ -1,4 +1,4 @@
-use Rattle.pgn_game.proofs.TurnCounts.{turns_counted}
+use Rattle.pgn_game.proofs.laws.TurnCounts.{turns_counted}
 use Rattle.pgn_game.proofs.laws.a_turn_each.Goals as goal
 
 pub returns : goal.returns

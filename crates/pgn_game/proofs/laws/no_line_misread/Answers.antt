@@ -1,6 +1,6 @@
 -- The laws are lemmas.
-use Rattle.pgn_game.proofs.PlainExport.{export_read_as_one}
-use Rattle.pgn_game.proofs.PlainLines.{no_line_misread}
+use Rattle.pgn_game.proofs.laws.PlainExport.{export_read_as_one}
+use Rattle.pgn_game.proofs.laws.PlainLines.{no_line_misread}
 use Rattle.pgn_game.proofs.laws.no_line_misread.Goals as goal
 
 pub returns-clause-movetext : goal.returns-clause-movetext

@@ -1,5 +1,5 @@
 use Rattle.pgn_game.proofs.LaidFacts.{some_text}
-use Rattle.pgn_game.proofs.LaidOnce.{one_text}
+use Rattle.pgn_game.proofs.laws.LaidOnce.{one_text}
 use Rattle.pgn_game.proofs.laws.one_text.Goals as goal
 
 pub returns-clause-some : goal.returns-clause-some

@@ -1,5 +1,5 @@
 use Rattle.pgn_text.proofs.Common.{refl, depth_limit, state_of}
-use Rattle.pgn_text.proofs.ReadingLemmas.{readings_of}
+use Rattle.pgn_text.proofs.game.ReadingLemmas.{readings_of}
 use Rattle.pgn_text.proofs.game.read_comment.Goals as goal
 
 pub returns-in-Some : goal.returns-in-Some

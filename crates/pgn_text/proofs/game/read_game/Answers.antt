@@ -4,7 +4,7 @@ use Rattle.pgn_text.proofs.Common.{list_all, Some, is_name_byte, item_of, tags_o
 use Rattle.pgn_text.proofs.Common.{IsResult, tag_in, IsContents, GameRead, depth_limit}
 use Rattle.pgn_text.specs.Private.GameBuilders.{IsBuilderOf}
 use Rattle.pgn_text.proofs.LastResult.{game_result}
-use Rattle.pgn_text.proofs.Pairing.{tags_ascend}
+use Rattle.pgn_text.proofs.game.Pairing.{tags_ascend}
 use Rattle.pgn_text.proofs.ShownGame.{bytes_of_game}
 use Rattle.pgn_text.proofs.TagLemmas.{tag_in-tags_of}
 use Rattle.pgn_text.proofs.TagStrings.{first_string}

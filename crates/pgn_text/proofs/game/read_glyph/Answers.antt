@@ -1,7 +1,7 @@
 use Rattle.pgn_text.proofs.Common.{inl, refl, depth_limit, glyph_front, state_of}
 use Rattle.pgn_text.specs.Private.Reading.{KeptGlyph}
 use Rattle.pgn_text.proofs.PartsAt.{kept_after, none_further}
-use Rattle.pgn_text.proofs.ReadingLemmas.{readings_of}
+use Rattle.pgn_text.proofs.game.ReadingLemmas.{readings_of}
 use Rattle.pgn_text.proofs.game.read_glyph.Goals as goal
 
 pub returns-in-Some : goal.returns-in-Some

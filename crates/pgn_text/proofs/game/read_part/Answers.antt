@@ -2,7 +2,7 @@ use Rattle.std.proofs.Common.{Some, refl, sym, ap, ◌∙◌}
 use Rattle.pgn_text.proofs.Common.{depth_limit, KeptMove, KeptNumber, State, state_of}
 use Rattle.pgn_text.proofs.PartsAt.{kept_letters, kept_marks, kept_white, kept_dot, kept_open}
 use Rattle.pgn_text.proofs.PartsAt.{kept_close}
-use Rattle.pgn_text.proofs.ReadingLemmas.{reading_of}
+use Rattle.pgn_text.proofs.game.ReadingLemmas.{reading_of}
 use Rattle.pgn_text.proofs.game.read_part.Goals as goal
 
 pub returns-then-is_in : goal.returns-then-is_in

@@ -1,8 +1,8 @@
 use Rattle.pgn_text.proofs.Common.{inl, arith, state_of, depth_limit}
 use Rattle.pgn_text.proofs.PartsAt.{no_part_at_end}
-use Rattle.pgn_text.proofs.PlainLemmas.{kept_plain}
-use Rattle.pgn_text.proofs.ReadLemmas.{kept_start, kept_more, kept_after_white, kept_after_dot}
-use Rattle.pgn_text.proofs.ReadLemmas.{kept_stuck, kept_end}
+use Rattle.pgn_text.proofs.game.PlainLemmas.{kept_plain}
+use Rattle.pgn_text.proofs.game.ReadLemmas.{kept_start, kept_more, kept_after_white, kept_after_dot}
+use Rattle.pgn_text.proofs.game.ReadLemmas.{kept_stuck, kept_end}
 use Rattle.pgn_text.proofs.game.read_parts.Goals as goal
 
 pub loop-at-init : goal.loop-at-init

@@ -1,5 +1,5 @@
 use Rattle.pgn_text.proofs.Common.{◌-◌, length, state_of, depth_limit}
-use Rattle.pgn_text.proofs.ReadLemmas.{KeptUpTo}
+use Rattle.pgn_text.proofs.game.ReadLemmas.{KeptUpTo}
 use Rattle.pgn_text.proofs.game.read_parts.Given as goal
 
 abbrev pub invariant-loop-at : goal.invariant-loop-at

@@ -1,6 +1,6 @@
 use Rattle.pgn_text.proofs.Common.{inl, refl, depth_limit, KeptTag, tag_front, state_of}
 use Rattle.pgn_text.proofs.PartsAt.{kept_after, none_further}
-use Rattle.pgn_text.proofs.ReadingLemmas.{readings_of}
+use Rattle.pgn_text.proofs.game.ReadingLemmas.{readings_of}
 use Rattle.pgn_text.proofs.game.read_tag.Goals as goal
 
 pub returns-in-Some : goal.returns-in-Some

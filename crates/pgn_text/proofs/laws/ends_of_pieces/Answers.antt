@@ -1,5 +1,5 @@
 -- Both laws are lemmas.
-use Rattle.pgn_text.proofs.LeftEnds.{ends_where_nothing_is_left, ends_after_an_error}
+use Rattle.pgn_text.proofs.laws.LeftEnds.{ends_where_nothing_is_left, ends_after_an_error}
 use Rattle.pgn_text.proofs.laws.ends_of_pieces.Goals as goal
 
 pub returns-clause-nothing_left : goal.returns-clause-nothing_left

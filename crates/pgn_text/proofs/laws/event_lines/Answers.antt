@@ -1,5 +1,5 @@
 -- Both laws are lemmas.
-use Rattle.pgn_text.proofs.EventLines.{join_at_event_line, part_at_event_line}
+use Rattle.pgn_text.proofs.laws.EventLines.{join_at_event_line, part_at_event_line}
 use Rattle.pgn_text.proofs.laws.event_lines.Goals as goal
 
 pub returns-clause-join : goal.returns-clause-join

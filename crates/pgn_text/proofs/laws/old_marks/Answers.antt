@@ -1,5 +1,5 @@
 -- Both laws are lemmas.
-use Rattle.pgn_text.proofs.OldMarks.{same_of_block, same_marked_pieces}
+use Rattle.pgn_text.proofs.laws.OldMarks.{same_of_block, same_marked_pieces}
 use Rattle.pgn_text.proofs.laws.old_marks.Goals as goal
 
 pub returns-clause-block : goal.returns-clause-block

@@ -1,5 +1,5 @@
 -- Both laws are lemmas.
-use Rattle.pgn_text.proofs.OneWithin.{stands_in_one_thing, comment_is_open}
+use Rattle.pgn_text.proofs.laws.OneWithin.{stands_in_one_thing, comment_is_open}
 use Rattle.pgn_text.proofs.laws.one_context.Goals as goal
 
 pub returns-clause-one : goal.returns-clause-one

@@ -1,5 +1,5 @@
 -- Both laws are lemmas.
-use Rattle.pgn_text.proofs.OnePlace.{one_element_place, one_tag_place}
+use Rattle.pgn_text.proofs.laws.OnePlace.{one_element_place, one_tag_place}
 use Rattle.pgn_text.proofs.laws.one_place.Goals as goal
 
 pub returns-clause-element : goal.returns-clause-element

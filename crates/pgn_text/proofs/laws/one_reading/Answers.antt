@@ -1,6 +1,6 @@
 -- Each law is a lemma, or two of them: there is a list, and there is one at most.
 use Rattle.std.proofs.Common.{[]}
-use Rattle.pgn_text.proofs.Halfway.{one_game}
+use Rattle.pgn_text.proofs.laws.Halfway.{one_game}
 use Rattle.pgn_text.proofs.OneList.{one_list}
 use Rattle.pgn_text.proofs.Existence.{pieces_exist}
 use Rattle.pgn_text.proofs.OneBlocks.{one_blocks, blocks_exist}

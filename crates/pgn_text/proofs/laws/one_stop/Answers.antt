@@ -3,7 +3,7 @@ use Rattle.pgn_text.proofs.Common.{◌++◌, take, drop, sym, ap, ◌∙◌, sub
 use Rattle.pgn_text.proofs.Common.{IsGameFront}
 use Rattle.pgn_text.proofs.EachStops.{stop_exists, front_of_front}
 use Rattle.pgn_text.proofs.GameFronts.{stops_at_game}
-use Rattle.pgn_text.proofs.Halfway.{game_reads}
+use Rattle.pgn_text.proofs.laws.Halfway.{game_reads}
 use Rattle.pgn_text.proofs.Stopping.{one_stop}
 use Rattle.pgn_text.proofs.StopsThere.{stops_alone}
 use Rattle.pgn_text.proofs.laws.one_stop.Goals as goal

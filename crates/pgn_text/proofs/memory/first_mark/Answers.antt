@@ -1,6 +1,6 @@
 -- The first call gives the first mark.
 use Rattle.pgn_text.specs.Public.Limits.{depth_limit}
-use Rattle.pgn_text.proofs.FirstCalls.{first_mark_of}
+use Rattle.pgn_text.proofs.memory.FirstCalls.{first_mark_of}
 use Rattle.pgn_text.proofs.memory.first_mark.Goals as goal
 
 pub returns : goal.returns

@@ -1,6 +1,6 @@
 -- The first call gives the first piece.
 use Rattle.pgn_text.specs.Public.Limits.{depth_limit}
-use Rattle.pgn_text.proofs.FirstCalls.{first_piece_of}
+use Rattle.pgn_text.proofs.memory.FirstCalls.{first_piece_of}
 use Rattle.pgn_text.proofs.memory.first_piece.Goals as goal
 
 pub returns-in-Some-Ok : goal.returns-in-Some-Ok

@@ -1,8 +1,9 @@
 use Rattle.chess.proofs.Common.{Option, MatchOption, Place, HasOnly, IsTakenFirst}
 use Rattle.chess.proofs.LoopFacts.{fewer}
 use Rattle.chess.proofs.PlaceFacts.{true_not_false}
-use Rattle.chess.proofs.AttackerFacts.{searched_start, searched_more, searched_none, attackers_are}
-use Rattle.chess.proofs.AttackerFacts.{one_open, one_blocked}
+use Rattle.chess.proofs.board.AttackerFacts.{searched_start, searched_more, searched_none}
+use Rattle.chess.proofs.board.AttackerFacts.{attackers_are}
+use Rattle.chess.proofs.board.AttackerFacts.{one_open, one_blocked}
 use Rattle.chess.proofs.board.attack_tables.attackers_of.Goals as goal
 
 pub returns-then-is_unblocked : goal.returns-then-is_unblocked

@@ -1,5 +1,5 @@
 use Rattle.chess.specs.Public.Sets.{size_of}
-use Rattle.chess.proofs.AttackerFacts.{IsSearched}
+use Rattle.chess.proofs.board.AttackerFacts.{IsSearched}
 use Rattle.chess.proofs.board.attack_tables.attackers_of.Given as goal
 
 abbrev pub invariant-loop-square : goal.invariant-loop-square

@@ -1,5 +1,5 @@
 use Rattle.chess.proofs.Common.{sym, subst, IsBitboardOf, StandsBetween}
-use Rattle.chess.proofs.BetweenTable.{between_bitboard, between_is}
+use Rattle.chess.proofs.board.BetweenTable.{between_bitboard, between_is}
 use Rattle.chess.proofs.board.attack_tables.between.Goals as goal
 
 pub returns : goal.returns

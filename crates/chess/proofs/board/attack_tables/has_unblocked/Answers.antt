@@ -1,7 +1,7 @@
 use Rattle.chess.proofs.Common.{◌≡◌, true, false, Option, refl, Place, IsTakenFirst}
 use Rattle.chess.proofs.PlaceFacts.{true_not_false}
 use Rattle.chess.proofs.LoopFacts.{fewer, left_more, left_none}
-use Rattle.chess.proofs.AttackerFacts.{IsOpenFrom, seek_start, found_open}
+use Rattle.chess.proofs.board.AttackerFacts.{IsOpenFrom, seek_start, found_open}
 use Rattle.chess.proofs.board.attack_tables.has_unblocked.Goals as goal
 
 pub loop-square-init : goal.loop-square-init

@@ -1,5 +1,5 @@
 use Rattle.chess.proofs.Common.{◌≡◌, true, index_of, size_of, has_bit, IsLeft}
-use Rattle.chess.proofs.AttackerFacts.{IsOpenFrom}
+use Rattle.chess.proofs.board.AttackerFacts.{IsOpenFrom}
 use Rattle.chess.proofs.board.attack_tables.has_unblocked.Given as goal
 
 abbrev pub invariant-loop-square : goal.invariant-loop-square

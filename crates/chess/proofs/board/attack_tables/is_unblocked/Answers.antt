@@ -1,5 +1,5 @@
 use Rattle.chess.proofs.Common.{◌<◌, ◌^◌, arith, rules, nat_tests}
-use Rattle.chess.proofs.AttackerFacts.{none_between, no_bits_between}
+use Rattle.chess.proofs.board.AttackerFacts.{none_between, no_bits_between}
 use Rattle.chess.proofs.board.attack_tables.is_unblocked.Goals as goal
 
 pub returns : goal.returns

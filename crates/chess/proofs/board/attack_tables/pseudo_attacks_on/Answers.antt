@@ -1,8 +1,8 @@
 use Rattle.chess.proofs.Common.{◌≡◌, ◌∙◌, ap, sym, get_or, [], index_of, has_bit}
 use Rattle.chess.proofs.Common.{pseudo_attacks_row_of, PSEUDO_ATTACKS}
-use Rattle.chess.proofs.TableFacts.{table_bit}
-use Rattle.chess.proofs.PseudoAttacksTable.{attacks_fit}
-use Rattle.chess.proofs.PseudoAttackFacts.{sees, sees_is}
+use Rattle.chess.proofs.board.TableFacts.{table_bit}
+use Rattle.chess.proofs.board.PseudoAttacksTable.{attacks_fit}
+use Rattle.chess.proofs.board.PseudoAttackFacts.{sees, sees_is}
 use Rattle.chess.proofs.board.attack_tables.pseudo_attacks_on.Goals as goal
 
 pub returns : goal.returns

@@ -1,4 +1,4 @@
-use Rattle.chess.proofs.InitialWords.{initial_words_men, initial_words_apart}
+use Rattle.chess.proofs.board.InitialWords.{initial_words_men, initial_words_apart}
 use Rattle.chess.proofs.board.bits.initial_words.Goals as goal
 
 pub returns-clause-men : goal.returns-clause-men

@@ -1,7 +1,7 @@
 use Rattle.chess.proofs.Common.{inl, inr, refl, King, Knight, Pawn}
 use Rattle.chess.proofs.PlaceFacts.{true_not_false}
-use Rattle.chess.proofs.AttackFacts.{attacked_of, attacked_straight, attacked_diagonal}
-use Rattle.chess.proofs.AttackFacts.{attack_at_all}
+use Rattle.chess.proofs.board.AttackFacts.{attacked_of, attacked_straight, attacked_diagonal}
+use Rattle.chess.proofs.board.AttackFacts.{attack_at_all}
 use Rattle.chess.proofs.board.bits.is_attacked.Goals as goal
 
 pub returns-then-is_attacked_nearby : goal.returns-then-is_attacked_nearby

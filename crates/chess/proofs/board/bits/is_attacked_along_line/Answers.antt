@@ -1,6 +1,6 @@
 use Rattle.chess.proofs.Common.{false, Rook, Bishop}
-use Rattle.chess.proofs.FillFacts.{either_bitboard}
-use Rattle.chess.proofs.AttackerFacts.{IsSeeingRunner, attack_along_line, none_seen}
+use Rattle.chess.proofs.board.FillFacts.{either_bitboard}
+use Rattle.chess.proofs.board.AttackerFacts.{IsSeeingRunner, attack_along_line, none_seen}
 use Rattle.chess.proofs.board.bits.is_attacked_along_line.Goals as goal
 
 pub returns-then-seen-eq0 : goal.returns-then-seen-eq0

@@ -1,6 +1,6 @@
 use Rattle.chess.proofs.Common.{bit_or, King, Knight, Pawn}
-use Rattle.chess.proofs.FillFacts.{either_bitboard}
-use Rattle.chess.proofs.LeftFacts.{IsSeer, attack_nearby}
+use Rattle.chess.proofs.board.FillFacts.{either_bitboard}
+use Rattle.chess.proofs.board.LeftFacts.{IsSeer, attack_nearby}
 use Rattle.chess.proofs.board.bits.is_attacked_nearby.Goals as goal
 
 pub returns : goal.returns

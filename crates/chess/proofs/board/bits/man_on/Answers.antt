@@ -1,6 +1,6 @@
 use Rattle.chess.proofs.Common.{◌∙◌, ap, sym, arith, Some, index_of, index_of-below, false_of}
 use Rattle.chess.proofs.Common.{bitboard_at, true_from_ne_false}
-use Rattle.chess.proofs.FillFacts.{common_none, common_some}
+use Rattle.chess.proofs.board.FillFacts.{common_none, common_some}
 use Rattle.chess.proofs.BitFacts.{has_man, no_man, man_at-words}
 use Rattle.chess.proofs.board.bits.man_on.Goals as goal
 

@@ -1,7 +1,7 @@
 use Rattle.chess.proofs.Common.{◌∙◌, ap, sym, Some, None, with_man, words_men, IsMan}
-use Rattle.chess.proofs.OccupiedFacts.{has_square}
-use Rattle.chess.proofs.MovePieceFacts.{moved_apart, moved_men}
-use Rattle.chess.proofs.SlideFacts.{slid_put, first_empty, second_empty}
+use Rattle.chess.proofs.board.OccupiedFacts.{has_square}
+use Rattle.chess.proofs.board.MovePieceFacts.{moved_apart, moved_men}
+use Rattle.chess.proofs.board.SlideFacts.{slid_put, first_empty, second_empty}
 use Rattle.chess.proofs.board.bits.move_piece_words.Goals as goal
 
 pub returns-clause-apart : goal.returns-clause-apart

@@ -1,5 +1,5 @@
 use Rattle.chess.specs.Private.Bitboards.{words_men}
-use Rattle.chess.proofs.OccupiedFacts.{bitboard_of_occupied}
+use Rattle.chess.proofs.board.OccupiedFacts.{bitboard_of_occupied}
 use Rattle.chess.proofs.board.bits.occupied_by.Goals as goal
 
 pub returns : goal.returns

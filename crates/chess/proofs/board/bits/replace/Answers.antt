@@ -1,7 +1,7 @@
 use Rattle.chess.proofs.Common.{◌∙◌, ap, sym, subst, bit_or, Some, None, index_of, with_man}
 use Rattle.chess.proofs.Common.{words_men, IsCleared}
 use Rattle.chess.proofs.BitFacts.{put_none, put_some}
-use Rattle.chess.proofs.MovePieceFacts.{without, cleared_last, moved_apart, moved_men}
+use Rattle.chess.proofs.board.MovePieceFacts.{without, cleared_last, moved_apart, moved_men}
 use Rattle.chess.proofs.board.bits.replace.Goals as goal
 
 pub returns-in_default-clause-men : goal.returns-in_default-clause-men

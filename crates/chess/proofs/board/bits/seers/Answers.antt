@@ -1,6 +1,6 @@
 use Rattle.chess.proofs.Common.{bit_and, IsMan, words_men, IsPseudoAttack}
-use Rattle.chess.proofs.AttackerFacts.{runners_seen}
-use Rattle.chess.proofs.LeftFacts.{men_left}
+use Rattle.chess.proofs.board.AttackerFacts.{runners_seen}
+use Rattle.chess.proofs.board.LeftFacts.{men_left}
 use Rattle.chess.proofs.board.bits.seers.Goals as goal
 
 pub returns : goal.returns

@@ -1,6 +1,6 @@
 use Rattle.chess.proofs.Common.{bit_and, IsRunner, words_men, IsPseudoAttack}
-use Rattle.chess.proofs.AttackerFacts.{runners_seen}
-use Rattle.chess.proofs.LeftFacts.{runners_left}
+use Rattle.chess.proofs.board.AttackerFacts.{runners_seen}
+use Rattle.chess.proofs.board.LeftFacts.{runners_left}
 use Rattle.chess.proofs.board.bits.sliders_in_line.Goals as goal
 
 pub returns : goal.returns

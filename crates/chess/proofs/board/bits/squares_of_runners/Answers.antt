@@ -1,5 +1,5 @@
 use Rattle.chess.proofs.Common.{IsMan, words_men, Queen}
-use Rattle.chess.proofs.FillFacts.{either_bitboard}
+use Rattle.chess.proofs.board.FillFacts.{either_bitboard}
 use Rattle.chess.proofs.board.bits.squares_of_runners.Goals as goal
 
 pub returns : goal.returns

@@ -1,5 +1,5 @@
 use Rattle.chess.proofs.Common.{bit_or, Reaches, IsBitboardOf, Kind}
-use Rattle.chess.proofs.FillFacts.{queen_joined}
+use Rattle.chess.proofs.board.FillFacts.{queen_joined}
 use Rattle.chess.proofs.board.step_attacks.attacks_from.Goals as goal
 
 pub returns-in-Queen : goal.returns-in-Queen

@@ -1,4 +1,4 @@
-use Rattle.chess.proofs.FillFacts.{diagonal_joined}
+use Rattle.chess.proofs.board.FillFacts.{diagonal_joined}
 use Rattle.chess.proofs.board.step_attacks.diagonal_runs.Goals as goal
 
 pub returns : goal.returns

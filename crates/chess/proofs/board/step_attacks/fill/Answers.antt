@@ -1,4 +1,4 @@
-use Rattle.chess.proofs.FillFacts.{filled_start, filled_more, filled_stop, filled_end}
+use Rattle.chess.proofs.board.FillFacts.{filled_start, filled_more, filled_stop, filled_end}
 use Rattle.chess.proofs.board.step_attacks.fill.Goals as goal
 
 pub loop-steps-init : goal.loop-steps-init

@@ -1,5 +1,5 @@
 use Rattle.chess.proofs.Common.{Placement, IsEmpty, IsBitboardOf}
-use Rattle.chess.proofs.FillFacts.{IsFilled}
+use Rattle.chess.proofs.board.FillFacts.{IsFilled}
 use Rattle.chess.proofs.board.step_attacks.fill.Given as goal
 
 abbrev pub invariant-loop-steps : goal.invariant-loop-steps

@@ -1,6 +1,6 @@
 use Rattle.chess.proofs.Common.{◌≡◌, ◌∙◌, bit_or, North, South, East, West}
 use Rattle.chess.specs.Private.Bitboards.{two_steps_bitboard, beside_bitboard, upright_bitboard}
-use Rattle.chess.proofs.LeaperFacts.{jumps_of}
+use Rattle.chess.proofs.board.LeaperFacts.{jumps_of}
 use Rattle.chess.proofs.board.step_attacks.jumps.Goals as goal
 
 pub returns : goal.returns

@@ -1,5 +1,5 @@
 use Rattle.chess.proofs.Common.{ap, ◌∙◌, bit_or, bit_xor, upright_bitboard}
-use Rattle.chess.proofs.LeaperFacts.{near_of}
+use Rattle.chess.proofs.board.LeaperFacts.{near_of}
 use Rattle.chess.proofs.board.step_attacks.near.Goals as goal
 
 pub returns : goal.returns

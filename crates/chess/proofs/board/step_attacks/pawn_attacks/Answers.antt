@@ -1,5 +1,5 @@
 use Rattle.chess.proofs.Common.{ap, ◌∙◌, step_bitboard, beside_bitboard}
-use Rattle.chess.proofs.LeaperFacts.{pawn_attacks_of}
+use Rattle.chess.proofs.board.LeaperFacts.{pawn_attacks_of}
 use Rattle.chess.proofs.board.step_attacks.pawn_attacks.Goals as goal
 
 pub returns : goal.returns

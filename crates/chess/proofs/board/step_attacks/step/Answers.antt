@@ -1,5 +1,5 @@
 use Rattle.chess.proofs.board.step_attacks.step.Goals as goal
-use Rattle.chess.proofs.StepFacts.{step_by}
+use Rattle.chess.proofs.board.StepFacts.{step_by}
 
 pub returns-in-North-clause-next : goal.returns-in-North-clause-next
 returns-in-North-clause-next c s on_board at = step_by _ _ _ s c.in-North.is on_board at

@@ -1,4 +1,4 @@
-use Rattle.chess.proofs.FillFacts.{straight_joined}
+use Rattle.chess.proofs.board.FillFacts.{straight_joined}
 use Rattle.chess.proofs.board.step_attacks.straight_runs.Goals as goal
 
 pub returns : goal.returns

@@ -1,4 +1,4 @@
-use Rattle.chess.proofs.PlainTexts.{two_marked, three_marked, piece_takes, pawn_takes}
+use Rattle.chess.proofs.move_text.PlainTexts.{two_marked, three_marked, piece_takes, pawn_takes}
 use Rattle.chess.proofs.move_text.play.only_played.Goals as goal
 
 pub play_candidate-requires-clause-read : goal.play_candidate-requires-clause-read

@@ -5,7 +5,7 @@ use Rattle.chess.specs.declared.move_text.SanError.TheVariants.{None as NoMove}
 use Rattle.chess.proofs.PlaceFacts.{true_not_false}
 use Rattle.chess.proofs.LoopFacts.{taken_none}
 use Rattle.chess.proofs.NamedFacts.{named_said, read_no_castling}
-use Rattle.chess.proofs.CandidateFacts.{none_said, not_said, the_said, no_rival}
+use Rattle.chess.proofs.move_text.CandidateFacts.{none_said, not_said, the_said, no_rival}
 use Rattle.chess.proofs.move_text.play.play_candidate.Goals as goal
 
 pub returns-in_default-clause-answer : goal.returns-in_default-clause-answer

@@ -2,7 +2,7 @@ use Rattle.chess.proofs.Common.{◌≡◌, sym, subst, Option, Place, IsPseudoLe
 use Rattle.chess.proofs.Common.{IsTakenFirst, said_by, IsMoveSaid, Move}
 use Rattle.chess.proofs.PlaceFacts.{true_not_false}
 use Rattle.chess.proofs.LoopFacts.{taken_none}
-use Rattle.chess.proofs.CandidateFacts.{none_said, not_said, the_said}
+use Rattle.chess.proofs.move_text.CandidateFacts.{none_said, not_said, the_said}
 use Rattle.chess.proofs.move_text.read.moved_by.Goals as goal
 
 pub returns-in_default : goal.returns-in_default

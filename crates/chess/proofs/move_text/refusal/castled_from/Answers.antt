@@ -3,7 +3,7 @@ use Rattle.chess.proofs.Common.{ap, sym, subst, ◌∙◌, king_from, IsLegal, c
 use Rattle.chess.proofs.Common.{IsFrom, Move}
 use Rattle.chess.proofs.NamedFacts.{castling_only}
 use Rattle.chess.proofs.PlaceFacts.{true_not_false}
-use Rattle.chess.proofs.RefusalFacts.{castled_here}
+use Rattle.chess.proofs.move_text.RefusalFacts.{castled_here}
 use Rattle.chess.proofs.move_text.refusal.castled_from.Goals as goal
 
 pub returns-then-not-is : goal.returns-then-not-is

@@ -3,7 +3,7 @@ use Rattle.chess.proofs.Common.{◌≡◌, true, ◌∙◌, sym, subst, IsLegal,
 use Rattle.chess.proofs.Common.{is_in, IsFrom, Move}
 use Rattle.chess.proofs.NamedFacts.{said_candidate, said_legal, said_on}
 use Rattle.chess.proofs.PlaceFacts.{true_not_false}
-use Rattle.chess.proofs.RefusalFacts.{said_here}
+use Rattle.chess.proofs.move_text.RefusalFacts.{said_here}
 use Rattle.chess.proofs.move_text.refusal.moved_from.Goals as goal
 
 pub returns-then-not-has : goal.returns-then-not-has

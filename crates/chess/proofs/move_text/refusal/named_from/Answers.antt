@@ -1,6 +1,6 @@
 use Rattle.chess.proofs.Common.{ap, option_map, IsNamed, said_by, IsCastlingOn, IsMoveSaid}
 use Rattle.chess.proofs.NamedFacts.{castling_named, said_named, named_none}
-use Rattle.chess.proofs.RefusalFacts.{same_from}
+use Rattle.chess.proofs.move_text.RefusalFacts.{same_from}
 use Rattle.chess.proofs.move_text.refusal.named_from.Goals as goal
 
 pub returns-in-Some : goal.returns-in-Some

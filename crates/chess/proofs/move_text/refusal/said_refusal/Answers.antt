@@ -1,6 +1,6 @@
 use Rattle.chess.specs.Private.SanWords.{said_by}
 use Rattle.chess.proofs.PlaceFacts.{true_not_false}
-use Rattle.chess.proofs.RefusalFacts.{none_fitting}
+use Rattle.chess.proofs.move_text.RefusalFacts.{none_fitting}
 use Rattle.chess.proofs.move_text.refusal.said_refusal.Goals as goal
 
 pub returns-then-has_some : goal.returns-then-has_some

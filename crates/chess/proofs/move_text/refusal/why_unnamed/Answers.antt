@@ -1,5 +1,5 @@
 use Rattle.chess.proofs.Common.{ap, option_map, said_by}
-use Rattle.chess.proofs.RefusalFacts.{castling_refused, nothing_said, said_refused}
+use Rattle.chess.proofs.move_text.RefusalFacts.{castling_refused, nothing_said, said_refused}
 use Rattle.chess.proofs.move_text.refusal.why_unnamed.Goals as goal
 
 pub returns-in-Some : goal.returns-in-Some

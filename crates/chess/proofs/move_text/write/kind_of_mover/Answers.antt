@@ -1,5 +1,5 @@
 use Rattle.chess.proofs.PlaceFacts.{true_not_false}
-use Rattle.chess.proofs.SanTextFacts.{mover_is_king}
+use Rattle.chess.proofs.move_text.SanTextFacts.{mover_is_king}
 use Rattle.chess.proofs.move_text.write.kind_of_mover.Goals as goal
 
 pub returns : goal.returns

@@ -1,4 +1,4 @@
-use Rattle.chess.proofs.SanTextFacts.{pieces_alike, left_in}
+use Rattle.chess.proofs.move_text.SanTextFacts.{pieces_alike, left_in}
 use Rattle.chess.proofs.move_text.write.men_alike.Goals as goal
 
 pub returns-in_default : goal.returns-in_default

@@ -1,6 +1,7 @@
 use Rattle.chess.proofs.PlaceFacts.{true_not_false}
-use Rattle.chess.proofs.SanTextFacts.{alone_distinguishes, file_distinguishes, rank_distinguishes}
-use Rattle.chess.proofs.SanTextFacts.{both_distinguish}
+use Rattle.chess.proofs.move_text.SanTextFacts.{alone_distinguishes, file_distinguishes}
+use Rattle.chess.proofs.move_text.SanTextFacts.{rank_distinguishes}
+use Rattle.chess.proofs.move_text.SanTextFacts.{both_distinguish}
 use Rattle.chess.proofs.move_text.write.push_origin.Goals as goal
 
 pub returns-then-not-has_some-clause-text : goal.returns-then-not-has_some-clause-text

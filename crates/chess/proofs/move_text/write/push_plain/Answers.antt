@@ -1,4 +1,4 @@
-use Rattle.chess.proofs.SanTextFacts.{lone_piece}
+use Rattle.chess.proofs.move_text.SanTextFacts.{lone_piece}
 use Rattle.chess.proofs.move_text.write.push_plain.Goals as goal
 
 pub returns-in_default-clause-text : goal.returns-in_default-clause-text

@@ -1,4 +1,4 @@
-use Rattle.chess.proofs.SanTextFacts.{lone_san}
+use Rattle.chess.proofs.move_text.SanTextFacts.{lone_san}
 use Rattle.chess.proofs.move_text.write.write_plain.Goals as goal
 
 pub returns : goal.returns

@@ -1,5 +1,5 @@
 use Rattle.chess.proofs.PlaceFacts.{true_not_false}
-use Rattle.chess.proofs.RightsFacts.{rights_stay}
+use Rattle.chess.proofs.moves.RightsFacts.{rights_stay}
 use Rattle.chess.proofs.moves.play.end_rights.Goals as goal
 
 pub returns-else-is_home-2 : goal.returns-else-is_home-2

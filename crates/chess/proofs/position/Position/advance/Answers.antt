@@ -2,7 +2,7 @@ use Rattle.chess.proofs.Common.{◌≡◌, ◌∙◌, ap, sym, subst, State, IsK
 use Rattle.chess.proofs.Common.{rights_after, CastlingRights, White, Black}
 use Rattle.chess.proofs.KingFacts.{king_follows}
 use Rattle.chess.proofs.GoesFacts.{IsTried}
-use Rattle.chess.proofs.CheckFacts.{men_plainly}
+use Rattle.chess.proofs.position.CheckFacts.{men_plainly}
 use Rattle.chess.proofs.SoundFacts.{after_sound}
 use Rattle.chess.proofs.position.Position.advance.Goals as goal
 

@@ -1,5 +1,5 @@
 use Rattle.chess.proofs.Common.{◌≡◌, ap, State, IsOnlyKing, men_after}
-use Rattle.chess.proofs.CheckFacts.{check_after}
+use Rattle.chess.proofs.position.CheckFacts.{check_after}
 use Rattle.chess.proofs.position.Position.exposes_king.Goals as goal
 
 pub returns : goal.returns

@@ -1,6 +1,6 @@
 use Rattle.chess.specs.Private.MoveWords.{IsStepper}
 use Rattle.chess.proofs.StepperFacts.{one_holds}
-use Rattle.chess.proofs.CandidateFacts.{none_hold}
+use Rattle.chess.proofs.move_text.CandidateFacts.{none_hold}
 use Rattle.chess.proofs.position.Position.steppers.Goals as goal
 
 pub returns-in-Some : goal.returns-in-Some

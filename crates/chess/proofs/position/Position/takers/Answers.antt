@@ -1,7 +1,7 @@
 use Rattle.chess.proofs.Common.{◌≡◌, inl, inr, ap, sym, subst, ◌∙◌, true, opposite, IsOccupiedBy}
 use Rattle.chess.proofs.Common.{IsTaker, is_in}
 use Rattle.chess.proofs.PlaceFacts.{true_not_false}
-use Rattle.chess.proofs.CandidateFacts.{none_hold}
+use Rattle.chess.proofs.move_text.CandidateFacts.{none_hold}
 use Rattle.chess.proofs.position.Position.takers.Goals as goal
 
 pub returns-then-not-is_en_passant_target : goal.returns-then-not-is_en_passant_target

@@ -1,7 +1,7 @@
 use Rattle.pgn_criteria.proofs.Common.{ap, subst, NowhereSeen, codes_in, Conditions, FitsSeen}
 use Rattle.pgn_criteria.proofs.Common.{AllOfPatterns, AreFixed, AreMirrored, FitsPlaced, Nowhere}
 use Rattle.pgn_criteria.proofs.MarkFacts.{placed_seen}
-use Rattle.pgn_criteria.proofs.PlacedFacts.{fixed_patterns, nowhere_mirrored}
+use Rattle.pgn_criteria.proofs.alternative.PlacedFacts.{fixed_patterns, nowhere_mirrored}
 use Rattle.pgn_criteria.proofs.StandFacts.{nowhere_of}
 use Rattle.pgn_criteria.proofs.alternative.Alternative.may_be_met.Goals as goal
 

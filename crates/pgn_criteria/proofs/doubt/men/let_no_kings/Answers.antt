@@ -1,5 +1,5 @@
 use Rattle.chess.specs.declared.board.man.Side.TheVariants.{White, Black}
-use Rattle.pgn_criteria.proofs.DoubtFacts.{no_king}
+use Rattle.pgn_criteria.proofs.doubt.DoubtFacts.{no_king}
 use Rattle.pgn_criteria.proofs.doubt.men.let_no_kings.Goals as goal
 
 pub returns-then-not-lets_one_king : goal.returns-then-not-lets_one_king

@@ -1,4 +1,4 @@
-use Rattle.pgn_criteria.proofs.BesideFacts.{AreTurned, laid_turned}
+use Rattle.pgn_criteria.proofs.layout.BesideFacts.{AreTurned, laid_turned}
 use Rattle.pgn_criteria.proofs.layout.Layout.turned.Goals as goal
 
 pub returns : goal.returns

@@ -1,5 +1,5 @@
 use Rattle.pgn_criteria.proofs.Common.{◌≡◌, Some, refl, subst, Place, man_at, IsOf, StandingSquares}
-use Rattle.pgn_criteria.proofs.PrefilterFacts.{bars}
+use Rattle.pgn_criteria.proofs.prefilter.PrefilterFacts.{bars}
 use Rattle.pgn_criteria.proofs.prefilter.StandingSquares.add.Goals as goal
 
 pub returns-then-bars : goal.returns-then-bars

@@ -1,6 +1,6 @@
 use Rattle.pgn_criteria.proofs.Common.{sym, ap, subst, ◌∙◌, is_in-empty, Places, is_in, AllStand}
 use Rattle.pgn_criteria.proofs.Common.{StandingSquares}
-use Rattle.pgn_criteria.proofs.PrefilterFacts.{begins}
+use Rattle.pgn_criteria.proofs.prefilter.PrefilterFacts.{begins}
 use Rattle.pgn_criteria.proofs.prefilter.StandingSquares.new.Goals as goal
 
 pub returns : goal.returns

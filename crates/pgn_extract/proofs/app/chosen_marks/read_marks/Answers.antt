@@ -1,7 +1,7 @@
 use Rattle.std.specs.Io.Buffered.{reader_buffer, reader_capacity, reader_inner}
 use Rattle.pgn_extract.proofs.Common.{◌≡◌, ◌<◌, ◌++◌, ap, ◌∙◌, arith, codes, length, rules}
 use Rattle.pgn_extract.proofs.Common.{nat_tests, reader_remaining, line_mark, pairs_of}
-use Rattle.pgn_extract.proofs.LinesOfMarks.{all_left, all_read, line_read, none_read}
+use Rattle.pgn_extract.proofs.app.LinesOfMarks.{all_left, all_read, line_read, none_read}
 use Rattle.pgn_extract.proofs.app.chosen_marks.read_marks.Goals as goal
 
 pub loop-init : goal.loop-init

@@ -1,6 +1,6 @@
 use Rattle.std.proofs.Common.{IfSome}
 use Rattle.std.specs.Io.Buffered.{reader_remaining}
-use Rattle.pgn_extract.proofs.LinesOfMarks.{IsReadTo}
+use Rattle.pgn_extract.proofs.app.LinesOfMarks.{IsReadTo}
 use Rattle.pgn_extract.proofs.app.chosen_marks.read_marks.Given as goal
 
 abbrev pub invariant-loop : goal.invariant-loop

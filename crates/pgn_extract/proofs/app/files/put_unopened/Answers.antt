@@ -1,4 +1,4 @@
-use Rattle.pgn_extract.proofs.StoppedFiles.{none_named, none_named_at}
+use Rattle.pgn_extract.proofs.app.StoppedFiles.{none_named, none_named_at}
 use Rattle.pgn_extract.proofs.app.files.put_unopened.Goals as goal
 
 pub returns-then-eq-clause-left : goal.returns-then-eq-clause-left

@@ -1,7 +1,7 @@
 use Rattle.pgn_extract.proofs.Common.{◌++◌, ◌<◌, ◌∙◌, ℕ, Bor, List, [], arith, length, rules}
 use Rattle.pgn_extract.proofs.Common.{err_from_is_err_and, order_at}
-use Rattle.pgn_extract.proofs.SeveralFacts.{known_there, unopened_there, written_there}
-use Rattle.pgn_extract.proofs.StoppedFiles.{stops_there}
+use Rattle.pgn_extract.proofs.app.SeveralFacts.{known_there, unopened_there, written_there}
+use Rattle.pgn_extract.proofs.app.StoppedFiles.{stops_there}
 use Rattle.pgn_extract.proofs.Writing.{appends_join}
 use Rattle.pgn_extract.proofs.app.files.run_files.Goals as goal
 

@@ -1,6 +1,6 @@
 use Rattle.pgn_extract.proofs.Common.{ap, ◌∙◌, err_from_is_err_and}
-use Rattle.pgn_extract.proofs.SeveralFacts.{read_to_end}
-use Rattle.pgn_extract.proofs.StoppedFiles.{stops_at_line, stops_to_end}
+use Rattle.pgn_extract.proofs.app.SeveralFacts.{read_to_end}
+use Rattle.pgn_extract.proofs.app.StoppedFiles.{stops_at_line, stops_to_end}
 use Rattle.pgn_extract.specs.Public.Several.{order_of}
 use Rattle.pgn_extract.proofs.app.files.run_input.Goals as goal
 

@@ -1,7 +1,7 @@
 use Rattle.std.specs.IoError.{error_kind}
 use Rattle.pgn_extract.proofs.Common.{[], inr, err_from_is_err_and, order_at}
-use Rattle.pgn_extract.proofs.SeveralFacts.{unopened_path}
-use Rattle.pgn_extract.proofs.StoppedFiles.{none_begun, stops_late, stops_unopened}
+use Rattle.pgn_extract.proofs.app.SeveralFacts.{unopened_path}
+use Rattle.pgn_extract.proofs.app.StoppedFiles.{none_begun, stops_late, stops_unopened}
 use Rattle.pgn_extract.proofs.Writing.{appends_none}
 use Rattle.pgn_extract.proofs.app.files.run_path.Goals as goal
 

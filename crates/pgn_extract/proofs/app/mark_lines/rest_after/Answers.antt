@@ -1,6 +1,6 @@
 use Rattle.std.proofs.lemmas.Bool.Decides.{Decides-eqb}
 use Rattle.std.proofs.lemmas.Slice.Eq.{strip_prefix_is}
-use Rattle.pgn_extract.proofs.MarkLineFacts.{stripped}
+use Rattle.pgn_extract.proofs.app.MarkLineFacts.{stripped}
 use Rattle.pgn_extract.proofs.app.mark_lines.rest_after.Goals as goal
 
 pub returns : goal.returns

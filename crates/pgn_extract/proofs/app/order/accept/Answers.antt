@@ -1,5 +1,5 @@
 use Rattle.pgn_extract.proofs.Common.{Some, sym, ap, ◌∙◌, option_map}
-use Rattle.pgn_extract.proofs.RequestFacts.{by_options, by_begin, by_end, by_stretch, by_lines}
+use Rattle.pgn_extract.proofs.app.RequestFacts.{by_options, by_begin, by_end, by_stretch, by_lines}
 use Rattle.pgn_extract.proofs.app.order.accept.Goals as goal
 
 pub returns-in-Some-clause-refused : goal.returns-in-Some-clause-refused

@@ -1,6 +1,6 @@
 use Rattle.pgn_extract.proofs.Common.{◌<◌, ◌∙◌, ℕ, Bor, List, [], arith, length, rules, aim_of}
-use Rattle.pgn_extract.proofs.SeveralFacts.{known_there}
-use Rattle.pgn_extract.proofs.SeveralPackFacts.{searched_there, stops_at_pack}
+use Rattle.pgn_extract.proofs.app.SeveralFacts.{known_there}
+use Rattle.pgn_extract.proofs.app.SeveralPackFacts.{searched_there, stops_at_pack}
 use Rattle.pgn_extract.proofs.app.packs.search_paths.Goals as goal
 
 pub loop-path-preserved : goal.loop-path-preserved

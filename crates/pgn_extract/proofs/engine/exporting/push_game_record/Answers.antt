@@ -1,5 +1,5 @@
 use Rattle.pgn_extract.proofs.Common.{subst, IsRecordOf, fault_of, Main}
-use Rattle.pgn_extract.proofs.AllTaken.{put_or_left, stops_left}
+use Rattle.pgn_extract.proofs.engine.AllTaken.{put_or_left, stops_left}
 use Rattle.pgn_extract.proofs.engine.exporting.push_game_record.Goals as goal
 
 pub returns : goal.returns

@@ -1,5 +1,5 @@
 use Rattle.pgn_extract.proofs.Common.{refl, fault_of, aim_of, written_lines}
-use Rattle.pgn_extract.proofs.AllTaken.{stops_left}
+use Rattle.pgn_extract.proofs.engine.AllTaken.{stops_left}
 use Rattle.pgn_extract.proofs.engine.exporting.put_as_is.Goals as goal
 
 pub returns-in-Err : goal.returns-in-Err

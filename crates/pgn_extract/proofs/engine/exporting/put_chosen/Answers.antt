@@ -2,7 +2,7 @@ use Rattle.std.proofs.lemmas.List.{append-nil}
 use Rattle.pgn_extract.proofs.Common.{[], refl, sym, ap, subst, ◌++◌, ◌∙◌, false≢true}
 use Rattle.pgn_extract.proofs.Common.{MatchResult-weaker, fault_of, by_itself, aim_of, IsTextOf}
 use Rattle.pgn_extract.proofs.Common.{as_it_stands, selected, unselected, written_lines}
-use Rattle.pgn_extract.proofs.AllTaken.{stops_left}
+use Rattle.pgn_extract.proofs.engine.AllTaken.{stops_left}
 use Rattle.pgn_extract.proofs.engine.exporting.put_chosen.Goals as goal
 
 pub check_written-requires : goal.check_written-requires

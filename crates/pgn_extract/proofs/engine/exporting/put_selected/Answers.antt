@@ -1,7 +1,7 @@
 use Rattle.pgn_extract.proofs.Common.{[], refl, sym, append-nil, subst, MatchResult-weaker}
 use Rattle.pgn_extract.proofs.Common.{fault_of, aim_of, HasEntry, IsSelected, unselected}
 use Rattle.pgn_extract.proofs.Common.{written_lines, heading_of}
-use Rattle.pgn_extract.proofs.AllTaken.{all_written, stops_left}
+use Rattle.pgn_extract.proofs.engine.AllTaken.{all_written, stops_left}
 use Rattle.pgn_extract.proofs.engine.exporting.put_selected.Goals as goal
 
 pub returns-then-takes_all : goal.returns-then-takes_all

@@ -1,7 +1,7 @@
 use Rattle.pgn_extract.proofs.Common.{[], refl, MatchResult-weaker, on_ok_weaker, fault_of, aim_of}
 use Rattle.pgn_extract.proofs.Common.{as_it_stands, line_with, Standard, AsItStands, Line, Record}
 use Rattle.pgn_extract.proofs.Common.{lines_with}
-use Rattle.pgn_extract.proofs.AllTaken.{put_as, put_or_left, stops_left}
+use Rattle.pgn_extract.proofs.engine.AllTaken.{put_as, put_or_left, stops_left}
 use Rattle.pgn_extract.proofs.Finds.{on_result}
 use Rattle.pgn_extract.proofs.GameExport.{own_export, own_record}
 use Rattle.pgn_extract.proofs.engine.exporting.put_text.Goals as goal

@@ -1,7 +1,7 @@
 use Rattle.pgn_extract.proofs.Common.{[], ◌∷◌, refl, arith, err_from_is_err_and, over}
 use Rattle.pgn_extract.proofs.Common.{too_long_piece}
 use Rattle.pgn_extract.proofs.BlockWritten.{begins_none}
-use Rattle.pgn_extract.proofs.Gathered.{gathers_all}
+use Rattle.pgn_extract.proofs.engine.Gathered.{gathers_all}
 use Rattle.pgn_extract.proofs.engine.piecewise.report_block.Goals as goal
 
 pub returns-in_err-report_too_long-in-TooLong-clause-stopped : goal.returns-in_err-report_too_long-in-TooLong-clause-stopped

@@ -1,7 +1,7 @@
 use Rattle.pgn_extract.proofs.Common.{◌∙◌, refl, err_from_is_err_and, aim_of, game_id}
 use Rattle.pgn_extract.proofs.BlockWritten.{front_none, written_soundly}
-use Rattle.pgn_extract.proofs.Listed.{listed_none, listed_more, listed_passed, listed_begun}
-use Rattle.pgn_extract.proofs.Listed.{listed_all}
+use Rattle.pgn_extract.proofs.engine.Listed.{listed_none, listed_more, listed_passed, listed_begun}
+use Rattle.pgn_extract.proofs.engine.Listed.{listed_all}
 use Rattle.pgn_extract.proofs.engine.piecewise.report_games.Goals as goal
 
 pub loop-piece-init : goal.loop-piece-init

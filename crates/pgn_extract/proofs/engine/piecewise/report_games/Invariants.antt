@@ -1,5 +1,5 @@
 use Rattle.pgn_extract.proofs.Common.{◌≡◌, false, aim_of, game_id}
-use Rattle.pgn_extract.proofs.Listed.{Listed}
+use Rattle.pgn_extract.proofs.engine.Listed.{Listed}
 use Rattle.pgn_extract.proofs.engine.piecewise.report_games.Given as goal
 
 abbrev pub invariant-loop-piece : goal.invariant-loop-piece

@@ -1,7 +1,8 @@
 use Rattle.pgn_extract.proofs.Common.{◌∙◌, refl, err_from_is_err_and, aim_of, game_id}
 use Rattle.pgn_extract.proofs.BlockWritten.{front_none, written_soundly}
-use Rattle.pgn_extract.proofs.Indexed.{indexed_none, indexed_more, indexed_passed, indexed_begun}
-use Rattle.pgn_extract.proofs.Indexed.{indexed_all}
+use Rattle.pgn_extract.proofs.engine.Indexed.{indexed_none, indexed_more, indexed_passed}
+use Rattle.pgn_extract.proofs.engine.Indexed.{indexed_begun}
+use Rattle.pgn_extract.proofs.engine.Indexed.{indexed_all}
 use Rattle.pgn_extract.proofs.engine.piecewise.report_marks.Goals as goal
 
 pub loop-mark-init : goal.loop-mark-init

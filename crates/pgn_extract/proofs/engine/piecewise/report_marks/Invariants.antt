@@ -1,5 +1,5 @@
 use Rattle.pgn_extract.proofs.Common.{◌≡◌, false, aim_of, game_id}
-use Rattle.pgn_extract.proofs.Indexed.{Indexed}
+use Rattle.pgn_extract.proofs.engine.Indexed.{Indexed}
 use Rattle.pgn_extract.proofs.engine.piecewise.report_marks.Given as goal
 
 abbrev pub invariant-loop-mark : goal.invariant-loop-mark

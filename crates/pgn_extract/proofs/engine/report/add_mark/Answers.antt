@@ -2,7 +2,7 @@ use Rattle.pgn_extract.proofs.Common.{◌≡◌, ℕ, ◌++◌, true, false, Vec
 use Rattle.pgn_extract.proofs.Common.{on_ok_weaker, mark_place, PieceStart, aim_of, is_chosen}
 use Rattle.pgn_extract.proofs.Common.{mark_line, id_at}
 use Rattle.pgn_extract.proofs.ChoiceFacts.{passed_by, taken_by}
-use Rattle.pgn_extract.proofs.GameVerdict.{mark_game, mark_passed, mark_unreadable}
+use Rattle.pgn_extract.proofs.engine.GameVerdict.{mark_game, mark_passed, mark_unreadable}
 use Rattle.pgn_extract.proofs.engine.report.add_mark.Goals as goal
 
 pub returns-then-passes_over : goal.returns-then-passes_over

@@ -1,6 +1,6 @@
 use Rattle.pgn_extract.proofs.Common.{◌+◌, ap, refl, ◌∙◌, main_words, fault_of, Main, line_length}
 use Rattle.pgn_extract.proofs.Common.{heading_of}
-use Rattle.pgn_extract.proofs.AllTaken.{stops_left}
+use Rattle.pgn_extract.proofs.engine.AllTaken.{stops_left}
 use Rattle.pgn_extract.proofs.engine.report.push_counted.Goals as goal
 
 pub returns-in_ok-push_plies-in-Ok : goal.returns-in_ok-push_plies-in-Ok

@@ -1,6 +1,6 @@
 use Rattle.pgn_extract.proofs.Common.{MatchResult-weaker, fault_of, aim_of}
 use Rattle.pgn_extract.specs.declared.settings.Mode.TheVariants.{Export, Index, List}
-use Rattle.pgn_extract.proofs.AllTaken.{entries_out, put_in}
+use Rattle.pgn_extract.proofs.engine.AllTaken.{entries_out, put_in}
 use Rattle.pgn_extract.proofs.engine.report.push_sound.Goals as goal
 
 pub returns-in-Index : goal.returns-in-Index

@@ -1,5 +1,5 @@
 use Rattle.pgn_extract.proofs.Common.{ℕ, arith, refl, ◌∙◌, length-take, or_from}
-use Rattle.pgn_extract.proofs.Dropping.{dropping_more}
+use Rattle.pgn_extract.proofs.engine.Dropping.{dropping_more}
 use Rattle.pgn_extract.proofs.engine.skip.drop_first.Goals as goal
 
 pub loop-left-preserved : goal.loop-left-preserved

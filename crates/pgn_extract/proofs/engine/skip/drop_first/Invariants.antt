@@ -1,4 +1,4 @@
-use Rattle.pgn_extract.proofs.Dropping.{Dropping}
+use Rattle.pgn_extract.proofs.engine.Dropping.{Dropping}
 use Rattle.pgn_extract.proofs.engine.skip.drop_first.Given as goal
 
 abbrev pub invariant-loop-left : goal.invariant-loop-left

@@ -1,5 +1,5 @@
 use Rattle.std.proofs.lemmas.Result.{IfOk-weaker, IfErr-weaker}
-use Rattle.pgn_extract.proofs.Dropping.{drops_after, drops_some_after}
+use Rattle.pgn_extract.proofs.engine.Dropping.{drops_after, drops_some_after}
 use Rattle.pgn_extract.proofs.engine.skip.skip_first.Goals as goal
 
 pub returns-in-Ok-clause-ok : goal.returns-in-Ok-clause-ok

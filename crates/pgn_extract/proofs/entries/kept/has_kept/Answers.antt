@@ -1,5 +1,5 @@
 use Rattle.pgn_extract.proofs.Common.{◌↔◌, IsTrue, sym, subst, Main, heading_of, aim_of, HasEntry}
-use Rattle.pgn_extract.proofs.KeptLines.{first_entry}
+use Rattle.pgn_extract.proofs.entries.KeptLines.{first_entry}
 use Rattle.pgn_extract.proofs.entries.kept.has_kept.Goals as goal
 
 pub returns : goal.returns

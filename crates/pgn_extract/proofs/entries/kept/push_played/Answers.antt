@@ -1,7 +1,7 @@
 use Rattle.std.proofs.Common.{◌≡◌, ◌∷◌, ◌++◌, [], refl, sym, ap, subst, append_assoc, ◌∙◌, arith}
 use Rattle.std.specs.Prelude.{codes}
 use Rattle.pgn_extract.specs.Public.Listing.{IsNextField}
-use Rattle.pgn_extract.proofs.KeptLines.{next_played, none_played, legal_there}
+use Rattle.pgn_extract.proofs.entries.KeptLines.{next_played, none_played, legal_there}
 use Rattle.pgn_extract.proofs.entries.kept.push_played.Goals as goal
 
 pub returns-then-ply-plies : goal.returns-then-ply-plies

@@ -1,5 +1,5 @@
 use Rattle.pgn_extract.proofs.Common.{◌-◌, ◌++◌, ap, ◌∙◌, aim_of, lines_from}
-use Rattle.pgn_extract.proofs.EachPly.{plies_from, lines_listed, listed_plies}
+use Rattle.pgn_extract.proofs.entries.EachPly.{plies_from, lines_listed, listed_plies}
 use Rattle.pgn_extract.proofs.entries.listing.push_lines.Goals as goal
 
 pub returns : goal.returns

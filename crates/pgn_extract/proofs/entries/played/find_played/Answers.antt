@@ -1,7 +1,7 @@
 use Rattle.pgn_extract.proofs.Common.{None, [], IfSome_then, on_ok_weaker, MatchResult-weaker}
 use Rattle.pgn_extract.proofs.Common.{aim_with}
 use Rattle.pgn_extract.proofs.Finds.{none_yet}
-use Rattle.pgn_extract.proofs.PlayedFacts.{begins_with, never_met, fails_at_start}
+use Rattle.pgn_extract.proofs.entries.PlayedFacts.{begins_with, never_met, fails_at_start}
 use Rattle.pgn_extract.proofs.entries.played.find_played.Goals as goal
 
 pub find-requires-clause-open : goal.find-requires-clause-open

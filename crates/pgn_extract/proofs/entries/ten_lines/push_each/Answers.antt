@@ -1,5 +1,5 @@
 use Rattle.pgn_extract.proofs.Common.{◌≡◌, ◌-◌, ◌++◌, ◌∷◌, [], decimal, ap, ◌∙◌, arith, lines_from}
-use Rattle.pgn_extract.proofs.TenLines.{no_lines, lines_more, one_line}
+use Rattle.pgn_extract.proofs.entries.TenLines.{no_lines, lines_more, one_line}
 use Rattle.pgn_extract.proofs.entries.ten_lines.push_each.Goals as goal
 
 pub loop-ply-init : goal.loop-ply-init

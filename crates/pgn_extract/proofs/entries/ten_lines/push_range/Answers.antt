@@ -1,6 +1,6 @@
 use Rattle.std.proofs.Common.{◌≡◌, ◌+◌, ◌-◌, ◌*◌, ◌/◌, ◌++◌, refl, ap, ◌∙◌, arith}
 use Rattle.pgn_extract.specs.Private.Blockwise.{lines_from}
-use Rattle.pgn_extract.proofs.TenLines.{lines_more}
+use Rattle.pgn_extract.proofs.entries.TenLines.{lines_more}
 use Rattle.pgn_extract.proofs.entries.ten_lines.push_range.Goals as goal
 
 pub returns : goal.returns

@@ -1,6 +1,6 @@
 use Rattle.std.proofs.Common.{sym, ◌∙◌}
 use Rattle.std.proofs.lemmas.List.Filters.{dedup_is}
-use Rattle.pgn_extract.proofs.MarkOrder.{deduped_in_order, same_marks, same_permuted}
+use Rattle.pgn_extract.proofs.marks.MarkOrder.{deduped_in_order, same_marks, same_permuted}
 use Rattle.pgn_extract.proofs.marks.Marks.of_pairs.Goals as goal
 
 pub invariant_of-result : goal.invariant_of-result

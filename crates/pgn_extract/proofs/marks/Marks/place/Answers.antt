@@ -1,5 +1,5 @@
 use Rattle.std.proofs.Common.{sym}
-use Rattle.pgn_extract.proofs.MarkOrder.{found, not_found}
+use Rattle.pgn_extract.proofs.marks.MarkOrder.{found, not_found}
 use Rattle.pgn_extract.proofs.marks.Marks.place.Goals as goal
 
 pub returns-in-Ok : goal.returns-in-Ok

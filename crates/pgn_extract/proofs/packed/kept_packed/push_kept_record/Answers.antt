@@ -2,7 +2,7 @@ use Rattle.pgn_extract.proofs.Common.{◌↔◌, [], List, Option, IsTrue, refl,
 use Rattle.pgn_extract.proofs.Common.{Replay, IsReplay, fen_tag, Main, Conditions, heading_of}
 use Rattle.pgn_extract.proofs.Common.{aim_of, IsMet, record_aim}
 use Rattle.pgn_extract.proofs.Finds.{none_yet}
-use Rattle.pgn_extract.proofs.KeptLines.{begins_kept}
+use Rattle.pgn_extract.proofs.entries.KeptLines.{begins_kept}
 use Rattle.pgn_extract.proofs.packed.kept_packed.push_kept_record.Goals as goal
 
 pub returns-in-Err-clause-err : goal.returns-in-Err-clause-err

@@ -1,5 +1,5 @@
 use Rattle.pgn_extract.proofs.Common.{List, ℕ, sym, subst, IsCodedLine, IsCodedReplay}
-use Rattle.pgn_extract.proofs.KeptPackedFacts.{kept_of, none_of}
+use Rattle.pgn_extract.proofs.packed.KeptPackedFacts.{kept_of, none_of}
 use Rattle.pgn_extract.proofs.packed.kept_packed.replay_from.Goals as goal
 
 pub returns-in-Ok-clause-ok : goal.returns-in-Ok-clause-ok

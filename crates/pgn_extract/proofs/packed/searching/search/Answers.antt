@@ -1,9 +1,11 @@
 use Rattle.pgn_extract.proofs.Common.{◌∙◌, ◌+◌, ◌≤◌, arith, sym, false_from_ne_true}
 use Rattle.pgn_extract.proofs.Common.{err_from_is_err_and, largest_offset, BadPack}
 use Rattle.pgn_extract.specs.declared.packed.searching.SearchError.TheVariants.{Write, OutOfMemory}
-use Rattle.pgn_extract.proofs.SearchFacts.{searched_none, searched_more, searched_put, few_records}
-use Rattle.pgn_extract.proofs.SearchFacts.{ends_well, stops_within, stops_here, stops_at_game}
-use Rattle.pgn_extract.proofs.SearchFacts.{stops_at_step, stopped, stopped_after}
+use Rattle.pgn_extract.proofs.packed.SearchFacts.{searched_none, searched_more, searched_put}
+use Rattle.pgn_extract.proofs.packed.SearchFacts.{few_records}
+use Rattle.pgn_extract.proofs.packed.SearchFacts.{ends_well, stops_within, stops_here}
+use Rattle.pgn_extract.proofs.packed.SearchFacts.{stops_at_game}
+use Rattle.pgn_extract.proofs.packed.SearchFacts.{stops_at_step, stopped, stopped_after}
 use Rattle.pgn_extract.proofs.packed.searching.search.Goals as goal
 
 pub loop-text-init : goal.loop-text-init

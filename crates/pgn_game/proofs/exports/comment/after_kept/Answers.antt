@@ -1,5 +1,5 @@
 use Rattle.std.proofs.Common.{false, sym, ◌∙◌}
-use Rattle.pgn_game.proofs.CommentFacts.{kept_word, full}
+use Rattle.pgn_game.proofs.exports.CommentFacts.{kept_word, full}
 use Rattle.pgn_game.proofs.exports.comment.after_kept.Goals as goal
 
 pub returns : goal.returns

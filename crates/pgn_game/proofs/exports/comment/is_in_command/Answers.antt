@@ -1,6 +1,6 @@
 use Rattle.std.specs.Prelude.{if◌then◌else◌, ◌&&◌, not}
 use Rattle.pgn_game.proofs.Common.{sym, ap, ◌∙◌, words_in, has_bracket, closes, joined}
-use Rattle.pgn_game.proofs.CommandFacts.{closes_words}
+use Rattle.pgn_game.proofs.exports.CommandFacts.{closes_words}
 use Rattle.pgn_game.proofs.exports.comment.is_in_command.Goals as goal
 
 pub returns-then-leaves_open : goal.returns-then-leaves_open

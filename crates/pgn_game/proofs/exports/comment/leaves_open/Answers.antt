@@ -1,5 +1,5 @@
 use Rattle.pgn_game.proofs.Common.{◌-◌, length, take, drop, slice_index_or, first_and_rest}
-use Rattle.pgn_game.proofs.CommandFacts.{open_next}
+use Rattle.pgn_game.proofs.exports.CommandFacts.{open_next}
 use Rattle.pgn_game.proofs.exports.comment.leaves_open.Goals as goal
 
 pub loop-rest-preserved : goal.loop-rest-preserved

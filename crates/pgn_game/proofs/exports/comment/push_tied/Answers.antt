@@ -1,7 +1,7 @@
 use Rattle.std.proofs.Common.{◌++◌, ◌∷◌, [], true, length, ap, ◌∙◌, arith, append_assoc}
 use Rattle.pgn_game.specs.Public.Comments.{words_in, unbraced, in_front}
 use Rattle.pgn_game.specs.Private.CommentWords.{found_words, found_size, closing, tied_words}
-use Rattle.pgn_game.proofs.CommandFacts.{word_end, size_after, tied_on}
+use Rattle.pgn_game.proofs.exports.CommandFacts.{word_end, size_after, tied_on}
 use Rattle.pgn_game.proofs.exports.comment.push_tied.Goals as goal
 
 pub loop-inside-preserved : goal.loop-inside-preserved

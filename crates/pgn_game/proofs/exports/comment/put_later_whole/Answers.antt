@@ -1,7 +1,7 @@
 use Rattle.pgn_game.proofs.Common.{◌≡◌, ◌++◌, ◌∷◌, false, sym, ap, ◌∙◌, words_in, unbraced}
 use Rattle.pgn_game.proofs.Common.{found_words, tied_words, after_tokens}
-use Rattle.pgn_game.proofs.CommandFacts.{words_left}
-use Rattle.pgn_game.proofs.MovetextFacts.{grown_twice}
+use Rattle.pgn_game.proofs.exports.CommandFacts.{words_left}
+use Rattle.pgn_game.proofs.exports.MovetextFacts.{grown_twice}
 use Rattle.pgn_game.proofs.exports.comment.put_later_whole.Goals as goal
 
 pub loop-next-preserved : goal.loop-next-preserved

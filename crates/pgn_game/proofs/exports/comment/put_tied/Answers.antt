@@ -1,6 +1,6 @@
 use Rattle.pgn_game.proofs.Common.{◌≡◌, ◌++◌, sym, ap, ◌∙◌, append_assoc, words_in, unbraced}
 use Rattle.pgn_game.proofs.Common.{closing}
-use Rattle.pgn_game.proofs.CommandFacts.{tied_all}
+use Rattle.pgn_game.proofs.exports.CommandFacts.{tied_all}
 use Rattle.pgn_game.proofs.exports.comment.put_tied.Goals as goal
 
 pub returns-clause-text : goal.returns-clause-text

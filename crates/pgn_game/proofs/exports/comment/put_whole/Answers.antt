@@ -1,7 +1,7 @@
 use Rattle.pgn_game.proofs.Common.{◌≡◌, ◌∷◌, [], false, true, sym, subst, on_ok_weaker, words_in}
 use Rattle.pgn_game.proofs.Common.{comment_tokens, found_words, tied_words, HasPut}
-use Rattle.pgn_game.proofs.CommandFacts.{whole_comment}
-use Rattle.pgn_game.proofs.LineWrapperFacts.{put_both}
+use Rattle.pgn_game.proofs.exports.CommandFacts.{whole_comment}
+use Rattle.pgn_game.proofs.exports.LineWrapperFacts.{put_both}
 use Rattle.pgn_game.proofs.exports.comment.put_whole.Goals as goal
 
 pub returns-clause-text : goal.returns-clause-text

@@ -1,6 +1,6 @@
 use Rattle.pgn_game.proofs.Common.{◌≡◌, ◌-◌, length, take, sym, ap, ◌∙◌, arith, take-append_seam}
 use Rattle.pgn_game.proofs.Common.{eqb-true, word_front, after_front}
-use Rattle.pgn_game.proofs.CommentFacts.{front_whole, front_length, bare_word}
+use Rattle.pgn_game.proofs.exports.CommentFacts.{front_whole, front_length, bare_word}
 use Rattle.pgn_game.proofs.exports.comment.split_word.Goals as goal
 
 pub slice_bounds-result-count : goal.slice_bounds-result-count

@@ -1,5 +1,5 @@
 use Rattle.pgn_game.proofs.Common.{subst, tag_in, fen_tag, IsStart}
-use Rattle.pgn_game.proofs.MovetextLines.{none_of_sound, starts_there}
+use Rattle.pgn_game.proofs.exports.MovetextLines.{none_of_sound, starts_there}
 use Rattle.pgn_game.proofs.exports.exporter.export.Goals as goal
 
 pub put_or_leave-requires : goal.put_or_leave-requires

@@ -1,9 +1,9 @@
 use Rattle.std.proofs.Common.{ℕ, ◌∷◌, ◌++◌, [], true, false, Vec, Global, refl, ap, ◌∙◌}
 use Rattle.pgn_game.proofs.Common.{IfSome_then, err_from_is_err_and, Stops, HasPut, after_tokens}
 use Rattle.pgn_game.proofs.Common.{StopsAt, WalksOn, shown_items, MovetextWriter}
-use Rattle.pgn_game.proofs.LineWrapperFacts.{put_both}
-use Rattle.pgn_game.proofs.MovetextFacts.{grown_twice, laid_first, wrapper_writes}
-use Rattle.pgn_game.proofs.MovetextLines.{written_tokens, written_fault}
+use Rattle.pgn_game.proofs.exports.LineWrapperFacts.{put_both}
+use Rattle.pgn_game.proofs.exports.MovetextFacts.{grown_twice, laid_first, wrapper_writes}
+use Rattle.pgn_game.proofs.exports.MovetextLines.{written_tokens, written_fault}
 use Rattle.pgn_game.proofs.exports.movetext.put_movetext.Goals as goal
 
 pub returns-in_err-walked-clause-fault : goal.returns-in_err-walked-clause-fault

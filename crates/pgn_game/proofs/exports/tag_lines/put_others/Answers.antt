@@ -6,7 +6,7 @@ use Rattle.pgn_game.proofs.Common.{map, Bor, filter, is_some, slice_cmp, deref_p
 use Rattle.pgn_game.proofs.Common.{common_steps, iter_end, tag_of, tag_in, tag_names, fen_tag}
 use Rattle.pgn_game.proofs.Common.{IsLineOf, AreLinesOf, is_beside}
 use Rattle.pgn_game.proofs.Tags.{tag_found_in, tag_there}
-use Rattle.pgn_game.proofs.TagLineFacts.{lines_push, shown_names, passed_more}
+use Rattle.pgn_game.proofs.exports.TagLineFacts.{lines_push, shown_names, passed_more}
 use Rattle.pgn_game.proofs.exports.tag_lines.put_others.Goals as goal
 
 pub put_tag-requires : goal.put_tag-requires

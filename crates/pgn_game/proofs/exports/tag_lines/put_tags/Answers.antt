@@ -1,6 +1,6 @@
 use Rattle.pgn_game.proofs.Common.{◌++◌, arith, filter, is_some, common_steps, tag_in, tag_names}
 use Rattle.pgn_game.proofs.Common.{fen_tag, roster, is_beside}
-use Rattle.pgn_game.proofs.TagLineFacts.{lines_join}
+use Rattle.pgn_game.proofs.exports.TagLineFacts.{lines_join}
 use Rattle.pgn_game.proofs.exports.tag_lines.put_tags.Goals as goal
 
 pub returns-clause-lines : goal.returns-clause-lines

@@ -1,5 +1,5 @@
 use Rattle.pgn_game.proofs.Common.{subst, tag_in, IsFlat, fen_tag}
-use Rattle.pgn_game.proofs.FlatGames.{flat_sound}
+use Rattle.pgn_game.proofs.replays.FlatGames.{flat_sound}
 use Rattle.pgn_game.proofs.replays.replayer.check_variations.Goals as goal
 
 pub returns-then-is_flat : goal.returns-then-is_flat

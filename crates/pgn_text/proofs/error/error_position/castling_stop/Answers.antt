@@ -1,6 +1,6 @@
 use Rattle.pgn_text.proofs.Common.{sym, ◌∙◌, arith, is_check_sign, no_byte}
-use Rattle.pgn_text.proofs.FrontLengths.{front_short, front_whole}
-use Rattle.pgn_text.proofs.Furthest.{as_far}
+use Rattle.pgn_text.proofs.error.FrontLengths.{front_short, front_whole}
+use Rattle.pgn_text.proofs.error.Furthest.{as_far}
 use Rattle.pgn_text.proofs.error.error_position.castling_stop.Goals as goal
 
 pub returns-then-count-word : goal.returns-then-count-word

@@ -1,5 +1,5 @@
 use Rattle.std.proofs.Common.{arith}
-use Rattle.pgn_text.proofs.FrontLengths.{word_end}
+use Rattle.pgn_text.proofs.error.FrontLengths.{word_end}
 use Rattle.pgn_text.proofs.error.error_position.common.Goals as goal
 
 pub returns-else-count-word : goal.returns-else-count-word

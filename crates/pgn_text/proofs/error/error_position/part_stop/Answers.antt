@@ -3,10 +3,11 @@ use Rattle.pgn_text.proofs.Common.{take, drop, refl, sym, ap, subst, ◌∙◌, 
 use Rattle.pgn_text.proofs.Common.{◌<◌, ne_eqb, take_rest, length-take-le, is_empty, depth_limit}
 use Rattle.pgn_text.proofs.Common.{Longest, IsPartFront, IsFrontOf, IsWordFront, NoneFollows}
 use Rattle.pgn_text.proofs.Common.{front_length, no_byte, Standing, standing_of, State, state_of}
-use Rattle.pgn_text.proofs.Furthest.{as_far}
-use Rattle.pgn_text.proofs.InPart.{open_tag, stray_glyph}
-use Rattle.pgn_text.proofs.Stuck.{stuck_brace, stuck_bracket, stuck_word, stuck_mark, stuck_other}
-use Rattle.pgn_text.proofs.Stuck.{stuck_end}
+use Rattle.pgn_text.proofs.error.Furthest.{as_far}
+use Rattle.pgn_text.proofs.error.InPart.{open_tag, stray_glyph}
+use Rattle.pgn_text.proofs.error.Stuck.{stuck_brace, stuck_bracket, stuck_word, stuck_mark}
+use Rattle.pgn_text.proofs.error.Stuck.{stuck_other}
+use Rattle.pgn_text.proofs.error.Stuck.{stuck_end}
 use Rattle.pgn_text.proofs.error.error_position.part_stop.Goals as goal
 
 nothing : (xs : List ℕ) → length xs ≡ 0 → xs ≡ []

@@ -1,5 +1,5 @@
 use Rattle.pgn_text.proofs.Common.{◌≡◌, subst, sym, arith, Longest, IsTagFront, BeforeName}
-use Rattle.pgn_text.proofs.InTag.{tag_far, tag_longest, tag_stuck, tag_over}
+use Rattle.pgn_text.proofs.error.InTag.{tag_far, tag_longest, tag_stuck, tag_over}
 use Rattle.pgn_text.proofs.error.error_position.tag_stop.Goals as goal
 
 pub returns-in_default : goal.returns-in_default

@@ -1,5 +1,5 @@
 use Rattle.pgn_text.proofs.Common.{◌-◌, ◌≡◌, ◌+◌, ◌≤◌, length, drop, BeforeName}
-use Rattle.pgn_text.proofs.InTag.{tag_far}
+use Rattle.pgn_text.proofs.error.InTag.{tag_far}
 use Rattle.pgn_text.proofs.error.error_position.tag_stop.Given as goal
 
 abbrev pub invariant-loop-at : goal.invariant-loop-at

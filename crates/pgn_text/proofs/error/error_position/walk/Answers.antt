@@ -1,6 +1,6 @@
 use Rattle.pgn_text.proofs.Common.{sym, ◌∙◌, false≢true, depth_limit, state_of, token_of}
-use Rattle.pgn_text.proofs.StopContexts.{after_game}
-use Rattle.pgn_text.proofs.StopWalk.{walk_game, walk_more, walk_stuck}
+use Rattle.pgn_text.proofs.error.StopContexts.{after_game}
+use Rattle.pgn_text.proofs.error.StopWalk.{walk_game, walk_more, walk_stuck}
 use Rattle.pgn_text.proofs.error.error_position.walk.Goals as goal
 
 pub returns-then-is_closed : goal.returns-then-is_closed

@@ -1,6 +1,6 @@
 use Rattle.pgn_text.proofs.Common.{◌≡◌, false, true, refl, is_digit}
-use Rattle.pgn_text.proofs.FrontLengths.{run_front}
-use Rattle.pgn_text.proofs.Stuck.{move_most, word_most, word_longest}
+use Rattle.pgn_text.proofs.error.FrontLengths.{run_front}
+use Rattle.pgn_text.proofs.error.Stuck.{move_most, word_most, word_longest}
 use Rattle.pgn_text.proofs.error.error_position.word_stop.Goals as goal
 
 pub returns-then-not-closed : goal.returns-then-not-closed

@@ -1,5 +1,5 @@
 use Rattle.pgn_text.proofs.Common.{◌-◌, take_rest}
-use Rattle.pgn_text.proofs.BlockCuts.{no_cut, first_cut}
+use Rattle.pgn_text.proofs.io.BlockCuts.{no_cut, first_cut}
 use Rattle.pgn_text.proofs.io.blocks.find_cut.Goals as goal
 
 pub returns-in_default : goal.returns-in_default

@@ -1,7 +1,7 @@
 use Rattle.std.proofs.lemmas.Result.{err_from_is_err_and}
 use Rattle.pgn_text.proofs.Common.{refl, arith, false_from_ne_true, nil_from_length}
-use Rattle.pgn_text.proofs.EndSearch.{nothing_joined, search_start, cut_found, passed, end_found}
-use Rattle.pgn_text.proofs.EndSearch.{past_limit, failed_so_far, read_failed, search_more}
+use Rattle.pgn_text.proofs.io.EndSearch.{nothing_joined, search_start, cut_found, passed, end_found}
+use Rattle.pgn_text.proofs.io.EndSearch.{past_limit, failed_so_far, read_failed, search_more}
 use Rattle.pgn_text.proofs.io.blocks.find_end.Goals as goal
 
 pub loop-cut-init : goal.loop-cut-init

@@ -1,5 +1,5 @@
 use Rattle.pgn_text.proofs.Common.{◌+◌, ◌-◌, length, take, drop, largest_offset}
-use Rattle.pgn_text.proofs.EndSearch.{Searched}
+use Rattle.pgn_text.proofs.io.EndSearch.{Searched}
 use Rattle.pgn_text.proofs.io.blocks.find_end.Given as goal
 
 abbrev pub invariant-loop-cut : goal.invariant-loop-cut

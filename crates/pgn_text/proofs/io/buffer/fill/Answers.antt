@@ -3,7 +3,7 @@ use Rattle.std.proofs.Common.{length-take, length-drop}
 use Rattle.std.specs.Prelude.{vec_len}
 use Rattle.std.proofs.lemmas.List.{length-take-le}
 use Rattle.pgn_text.proofs.Joined.{reads_counted}
-use Rattle.pgn_text.proofs.Spliced.{spliced}
+use Rattle.pgn_text.proofs.io.Spliced.{spliced}
 use Rattle.pgn_text.proofs.io.buffer.fill.Goals as goal
 
 pub returns-in-Ok-clause-ok : goal.returns-in-Ok-clause-ok

@@ -1,5 +1,5 @@
 use Rattle.std.proofs.Common.{arith}
-use Rattle.pgn_text.proofs.Tables.{by_table}
+use Rattle.pgn_text.proofs.lex.Tables.{by_table}
 use Rattle.pgn_text.proofs.lex.class.is_in.Goals as goal
 
 pub returns : goal.returns

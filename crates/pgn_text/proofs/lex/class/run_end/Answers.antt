@@ -1,5 +1,5 @@
 use Rattle.pgn_text.proofs.Common.{sym, ◌∙◌, ◌+◌, arith, test_of}
-use Rattle.pgn_text.proofs.RunsTo.{one_more, passed_to}
+use Rattle.pgn_text.proofs.lex.RunsTo.{one_more, passed_to}
 use Rattle.pgn_text.proofs.lex.class.run_end.Goals as goal
 
 pub returns-then-not-is_in : goal.returns-then-not-is_in

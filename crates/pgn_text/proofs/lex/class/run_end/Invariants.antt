@@ -1,5 +1,5 @@
 use Rattle.pgn_text.proofs.Common.{◌-◌, length, test_of}
-use Rattle.pgn_text.proofs.RunsTo.{AllPass}
+use Rattle.pgn_text.proofs.lex.RunsTo.{AllPass}
 use Rattle.pgn_text.proofs.lex.class.run_end.Given as goal
 
 abbrev pub invariant-loop-at : goal.invariant-loop-at

@@ -1,4 +1,4 @@
-use Rattle.pgn_text.proofs.Gaps.{gap_more, gap_ended}
+use Rattle.pgn_text.proofs.laws.Gaps.{gap_more, gap_ended}
 use Rattle.pgn_text.proofs.lex.place.gap_end.Goals as goal
 
 pub loop-end-preserved : goal.loop-end-preserved

@@ -1,5 +1,5 @@
 use Rattle.std.proofs.Common.{sym, ◌∙◌, arith}
-use Rattle.pgn_text.proofs.Contents.{read_run, read_pair}
+use Rattle.pgn_text.proofs.lex.Contents.{read_run, read_pair}
 use Rattle.pgn_text.proofs.lex.quoted.contents_end.Goals as goal
 
 pub loop-at-init : goal.loop-at-init

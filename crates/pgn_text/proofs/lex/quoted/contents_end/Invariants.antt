@@ -1,5 +1,5 @@
 use Rattle.std.proofs.Common.{◌-◌, length}
-use Rattle.pgn_text.proofs.Contents.{ReadTo}
+use Rattle.pgn_text.proofs.lex.Contents.{ReadTo}
 use Rattle.pgn_text.proofs.lex.quoted.contents_end.Given as goal
 
 abbrev pub invariant-loop-at : goal.invariant-loop-at

@@ -1,5 +1,5 @@
 use Rattle.pgn_text.proofs.Common.{refl, gap_front, game_front, standing_view}
-use Rattle.pgn_text.proofs.PartLemmas.{kept-or}
+use Rattle.pgn_text.proofs.laws.PartLemmas.{kept-or}
 use Rattle.pgn_text.proofs.lex.scan.part.Goals as goal
 
 pub returns-in-Some : goal.returns-in-Some

@@ -1,4 +1,4 @@
-use Rattle.pgn_text.proofs.TagReads.{whole_tag}
+use Rattle.pgn_text.proofs.lex.TagReads.{whole_tag}
 use Rattle.pgn_text.proofs.lex.tag.tag_at.Goals as goal
 
 pub returns-clause-found : goal.returns-clause-found

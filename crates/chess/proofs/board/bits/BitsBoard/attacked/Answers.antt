@@ -1,6 +1,6 @@
 use Rattle.chess.proofs.Common.{on_board-men_of, words_men, man_in}
-use Rattle.chess.proofs.FileFacts.{all_bits}
-use Rattle.chess.proofs.LeftFacts.{all_left}
+use Rattle.chess.proofs.board.FileFacts.{all_bits}
+use Rattle.chess.proofs.board.LeftFacts.{all_left}
 use Rattle.chess.proofs.board.bits.BitsBoard.attacked.Goals as goal
 
 pub returns : goal.returns

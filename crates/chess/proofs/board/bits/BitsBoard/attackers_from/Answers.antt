@@ -1,5 +1,5 @@
 use Rattle.chess.specs.Private.Bitboards.{words_men}
-use Rattle.chess.proofs.AttackerFacts.{among_own}
+use Rattle.chess.proofs.board.AttackerFacts.{among_own}
 use Rattle.chess.proofs.board.bits.BitsBoard.attackers_from.Goals as goal
 
 pub returns : goal.returns

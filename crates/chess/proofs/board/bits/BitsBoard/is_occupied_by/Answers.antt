@@ -1,7 +1,7 @@
 use Rattle.std.proofs.Common.{eq-eqb}
 use Rattle.chess.proofs.Common.{◌≡◌, false, true, arith, nat_tests, IsOccupiedBy, words_men}
 use Rattle.chess.proofs.BitFacts.{empty_by_bitboard}
-use Rattle.chess.proofs.OccupiedFacts.{has_square, occupied_not_empty}
+use Rattle.chess.proofs.board.OccupiedFacts.{has_square, occupied_not_empty}
 use Rattle.chess.proofs.board.bits.BitsBoard.is_occupied_by.Goals as goal
 
 pub returns-then-occupied-bit-eq0 : goal.returns-then-occupied-bit-eq0

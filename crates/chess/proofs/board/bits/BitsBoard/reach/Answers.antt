@@ -1,5 +1,5 @@
 use Rattle.chess.proofs.Common.{sym, ◌∙◌, words_men}
-use Rattle.chess.proofs.BoardFacts.{no_reach}
+use Rattle.chess.proofs.board.BoardFacts.{no_reach}
 use Rattle.chess.proofs.board.bits.BitsBoard.reach.Goals as goal
 
 pub returns-in-None : goal.returns-in-None

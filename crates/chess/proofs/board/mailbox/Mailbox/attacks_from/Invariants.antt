@@ -1,5 +1,5 @@
 use Rattle.chess.proofs.Common.{cells_men, Reaches}
-use Rattle.chess.proofs.BoardFacts.{IsGathered}
+use Rattle.chess.proofs.board.BoardFacts.{IsGathered}
 use Rattle.chess.proofs.board.mailbox.Mailbox.attacks_from.Given as goal
 
 abbrev pub invariant-loop-index : goal.invariant-loop-index

@@ -1,5 +1,5 @@
 use Rattle.chess.proofs.Common.{cells_men, IsAttacker}
-use Rattle.chess.proofs.BoardFacts.{gathered_none, gathered_step}
+use Rattle.chess.proofs.board.BoardFacts.{gathered_none, gathered_step}
 use Rattle.chess.proofs.board.mailbox.MailboxBoard.attackers_from.Goals as goal
 
 pub loop-index-init : goal.loop-index-init

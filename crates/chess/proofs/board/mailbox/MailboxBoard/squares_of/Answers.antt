@@ -1,5 +1,5 @@
 use Rattle.chess.proofs.Common.{◌≡◌, Some, man_at, cells_men}
-use Rattle.chess.proofs.BoardFacts.{gathered_none, gathered_step}
+use Rattle.chess.proofs.board.BoardFacts.{gathered_none, gathered_step}
 use Rattle.chess.proofs.board.mailbox.MailboxBoard.squares_of.Goals as goal
 
 pub loop-index-init : goal.loop-index-init

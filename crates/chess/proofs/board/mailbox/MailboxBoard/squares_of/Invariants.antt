@@ -1,5 +1,5 @@
 use Rattle.chess.proofs.Common.{◌≡◌, Some, man_at, cells_men}
-use Rattle.chess.proofs.BoardFacts.{IsGathered}
+use Rattle.chess.proofs.board.BoardFacts.{IsGathered}
 use Rattle.chess.proofs.board.mailbox.MailboxBoard.squares_of.Given as goal
 
 abbrev pub invariant-loop-index : goal.invariant-loop-index

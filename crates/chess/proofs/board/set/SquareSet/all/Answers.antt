@@ -1,4 +1,4 @@
-use Rattle.chess.proofs.FileFacts.{all_squares}
+use Rattle.chess.proofs.board.FileFacts.{all_squares}
 use Rattle.chess.proofs.board.set.SquareSet.all.Goals as goal
 
 pub returns : goal.returns

@@ -1,4 +1,4 @@
-use Rattle.chess.proofs.FileFacts.{common_squares}
+use Rattle.chess.proofs.board.FileFacts.{common_squares}
 use Rattle.chess.proofs.board.set.SquareSet.common.Goals as goal
 
 pub returns : goal.returns

@@ -1,5 +1,5 @@
 use Rattle.chess.proofs.Common.{ap, ◌∙◌, size_of}
-use Rattle.chess.proofs.SizeFacts.{ones-size}
+use Rattle.chess.proofs.board.SizeFacts.{ones-size}
 use Rattle.chess.proofs.board.set.SquareSet.count.Goals as goal
 
 pub returns : goal.returns

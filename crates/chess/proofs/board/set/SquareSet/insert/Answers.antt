@@ -1,6 +1,6 @@
 use Rattle.chess.proofs.Common.{arith, ap, ◌∙◌, ◌||◌, ◌<◌, ◌*◌, ◌^◌, ◌%◌, bit_or, same_square}
 use Rattle.chess.proofs.Common.{is_in, places_of, has_bit, or_lt}
-use Rattle.chess.proofs.SetBits.{set_bit}
+use Rattle.chess.proofs.board.SetBits.{set_bit}
 use Rattle.chess.proofs.board.set.SquareSet.insert.Goals as goal
 
 pub invariant_of-self : goal.invariant_of-self

@@ -1,5 +1,5 @@
 use Rattle.std.proofs.Common.{arith}
-use Rattle.chess.proofs.FileFacts.{file_squares, no_file}
+use Rattle.chess.proofs.board.FileFacts.{file_squares, no_file}
 use Rattle.chess.proofs.board.set.SquareSet.of_file.Goals as goal
 
 pub returns-then-file-lt1 : goal.returns-then-file-lt1

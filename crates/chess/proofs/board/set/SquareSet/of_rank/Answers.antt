@@ -1,5 +1,5 @@
 use Rattle.std.proofs.Common.{arith}
-use Rattle.chess.proofs.FileFacts.{rank_squares, no_rank}
+use Rattle.chess.proofs.board.FileFacts.{rank_squares, no_rank}
 use Rattle.chess.proofs.board.set.SquareSet.of_rank.Goals as goal
 
 pub returns-then-rank-lt1 : goal.returns-then-rank-lt1

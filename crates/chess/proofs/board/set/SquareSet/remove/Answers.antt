@@ -1,6 +1,6 @@
 use Rattle.chess.proofs.Common.{arith, ap, not, ◌∙◌, ◌&&◌, Place, same_square, square_at, is_in}
 use Rattle.chess.proofs.Common.{square_at-index_of}
-use Rattle.chess.proofs.SetBits.{clear_bit}
+use Rattle.chess.proofs.board.SetBits.{clear_bit}
 use Rattle.chess.proofs.board.set.SquareSet.remove.Goals as goal
 
 pub returns : goal.returns

@@ -3,7 +3,7 @@ use Rattle.chess.proofs.Common.{not, ◌&&◌, nat_tests, index_of-square_at, Pl
 use Rattle.chess.proofs.Common.{same_square, index_of, square_at, is_in, places_of, has_bit}
 use Rattle.chess.proofs.Common.{is_in-places_of, on_board-places_of, empty_bitboard}
 use Rattle.chess.proofs.Common.{bit_at-trailing_zeros, trailing_zeros, cases_lt}
-use Rattle.chess.proofs.SetBits.{clear_bit, without_lowest}
+use Rattle.chess.proofs.board.SetBits.{clear_bit, without_lowest}
 use Rattle.chess.proofs.board.set.SquareSet.take_first.Goals as goal
 
 pub returns-then-bitboard-eq0 : goal.returns-then-bitboard-eq0

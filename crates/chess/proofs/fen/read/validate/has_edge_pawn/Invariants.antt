@@ -1,4 +1,4 @@
-use Rattle.chess.proofs.BoardFacts.{IsNoneYet}
+use Rattle.chess.proofs.board.BoardFacts.{IsNoneYet}
 use Rattle.chess.specs.Private.FenWords.{IsEdgePawn}
 use Rattle.chess.proofs.fen.read.validate.has_edge_pawn.Given as goal
 

@@ -1,8 +1,9 @@
 use Rattle.chess.proofs.Common.{◌≡◌, inl, inr, subst, sym, IsOccupiedBy, HoldsExactly, IsAttacker}
 use Rattle.chess.proofs.Common.{said_by, man_said, IsCandidate, Man}
 use Rattle.chess.proofs.PlaceFacts.{true_not_false}
-use Rattle.chess.proofs.CandidateFacts.{candidate_pieces, no_piece, none_hold, promotes_some}
-use Rattle.chess.proofs.CandidateFacts.{promotes_none}
+use Rattle.chess.proofs.move_text.CandidateFacts.{candidate_pieces, no_piece, none_hold}
+use Rattle.chess.proofs.move_text.CandidateFacts.{promotes_some}
+use Rattle.chess.proofs.move_text.CandidateFacts.{promotes_none}
 use Rattle.chess.proofs.move_text.read.candidates.candidate_pieces.Goals.{then-is_some-via-then-is_some}
 use Rattle.chess.proofs.move_text.read.candidates.candidate_pieces.Goals.{then-is_some-via-else-is_some+then-is_occupied_by}
 use Rattle.chess.proofs.move_text.read.candidates.candidate_pieces.Goals as goal

@@ -1,6 +1,6 @@
 use Rattle.chess.proofs.Common.{Promotes, said_by, IsCandidate}
 use Rattle.chess.proofs.PlaceFacts.{true_not_false}
-use Rattle.chess.proofs.CandidateFacts.{candidate_steppers, pawn_goes, none_hold}
+use Rattle.chess.proofs.move_text.CandidateFacts.{candidate_steppers, pawn_goes, none_hold}
 use Rattle.chess.proofs.move_text.read.candidates.candidate_steppers.Goals as goal
 
 pub returns-then-not-promotes : goal.returns-then-not-promotes

@@ -1,5 +1,5 @@
-use Rattle.chess.proofs.PlainTexts.{answer_weaker, two_marked, three_marked, piece_takes}
-use Rattle.chess.proofs.PlainTexts.{pawn_takes}
+use Rattle.chess.proofs.move_text.PlainTexts.{answer_weaker, two_marked, three_marked, piece_takes}
+use Rattle.chess.proofs.move_text.PlainTexts.{pawn_takes}
 use Rattle.chess.proofs.move_text.read.parse.read_frequent.Goals as goal
 
 pub returns-in-len2 : goal.returns-in-len2

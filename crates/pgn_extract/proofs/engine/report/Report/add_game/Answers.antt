@@ -1,5 +1,5 @@
 use Rattle.pgn_extract.proofs.Common.{refl, on_ok_weaker, aim_of}
-use Rattle.pgn_extract.proofs.GameVerdict.{game_added, game_indexed, sound_added}
+use Rattle.pgn_extract.proofs.engine.GameVerdict.{game_added, game_indexed, sound_added}
 use Rattle.pgn_extract.proofs.engine.report.Report.add_game.Goals as goal
 
 pub returns-in-Index : goal.returns-in-Index

@@ -2,7 +2,7 @@ use Rattle.pgn_extract.proofs.Common.{◌≡◌, false, sym, ap, subst, on_ok_we
 use Rattle.pgn_extract.proofs.Common.{is_chosen, id_at}
 use Rattle.pgn_text.specs.declared.game.pieces.Piece.{Piece}
 use Rattle.pgn_extract.proofs.ChoiceFacts.{passed_by, taken_by}
-use Rattle.pgn_extract.proofs.GameVerdict.{piece_game, piece_passed, piece_unreadable}
+use Rattle.pgn_extract.proofs.engine.GameVerdict.{piece_game, piece_passed, piece_unreadable}
 use Rattle.pgn_extract.proofs.engine.report.Report.add_piece.Goals as goal
 
 pub returns-then-passes_over : goal.returns-then-passes_over

@@ -2,7 +2,7 @@ use Rattle.std.proofs.Math.Seq.{take-append_seam}
 use Rattle.pgn_extract.proofs.Common.{◌≡◌, ◌++◌, take, length, refl, ap, subst, append-nil, ◌∙◌}
 use Rattle.pgn_extract.proofs.Common.{arith, IfSome, on_ok_weaker, aim_of, StopsIn, faulty_text}
 use Rattle.pgn_extract.proofs.Common.{cause_text, fault_text, FaultyGame, SoundGame, replayed_lines}
-use Rattle.pgn_extract.proofs.GameVerdict.{sound_added}
+use Rattle.pgn_extract.proofs.engine.GameVerdict.{sound_added}
 use Rattle.pgn_extract.proofs.engine.report.Report.add_replayed.Goals as goal
 
 pub returns-in-Ok : goal.returns-in-Ok

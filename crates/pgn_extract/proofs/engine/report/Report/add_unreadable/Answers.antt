@@ -3,7 +3,7 @@ use Rattle.pgn_extract.proofs.Common.{true, drop, [], ◌++◌, refl, sym, ap, s
 use Rattle.pgn_extract.proofs.Common.{codes, arith, on_ok_weaker, faulty_text, fault_text, IsNote}
 use Rattle.pgn_extract.proofs.Common.{FaultyGame, Origin, id_at}
 use Rattle.pgn_extract.proofs.NoteLines.{names_more, names_stop, no_note, notes_join, stop_note}
-use Rattle.pgn_extract.proofs.RestOfBlock.{rest_taken}
+use Rattle.pgn_extract.proofs.engine.RestOfBlock.{rest_taken}
 use Rattle.pgn_extract.proofs.engine.report.Report.add_unreadable.Goals as goal
 
 pub returns : goal.returns

@@ -1,6 +1,6 @@
 use Rattle.pgn_extract.proofs.Common.{◌↔◌, List, Option, IsTrue, sym, subst, heading_of, Conditions}
 use Rattle.pgn_extract.proofs.Common.{IsMet}
-use Rattle.pgn_extract.proofs.KeptLines.{legal_line, begins_kept}
+use Rattle.pgn_extract.proofs.entries.KeptLines.{legal_line, begins_kept}
 use Rattle.pgn_extract.proofs.entries.kept.Kept.of_game.Goals as goal
 
 pub returns : goal.returns

@@ -1,5 +1,5 @@
 use Rattle.std.proofs.Common.{arith}
-use Rattle.pgn_extract.proofs.KeptLines.{goes_one, ends_kept}
+use Rattle.pgn_extract.proofs.entries.KeptLines.{goes_one, ends_kept}
 use Rattle.pgn_extract.proofs.entries.kept.KeptLine.advance.Goals.{then-not-is_open-via-then-not-is_open}
 use Rattle.pgn_extract.proofs.entries.kept.KeptLine.advance.Goals.{then-not-is_open-via-else-not-is_open+then-next-len}
 use Rattle.pgn_extract.proofs.entries.kept.KeptLine.advance.Goals as goal

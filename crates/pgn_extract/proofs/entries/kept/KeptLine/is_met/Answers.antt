@@ -1,5 +1,5 @@
 use Rattle.pgn_extract.proofs.Common.{◌≡◌, Some, sym, ap, ◌∙◌, arith, slice_get, slice_get-get_or}
-use Rattle.pgn_extract.proofs.KeptLines.{reports_there, size_left}
+use Rattle.pgn_extract.proofs.entries.KeptLines.{reports_there, size_left}
 use Rattle.pgn_extract.proofs.entries.kept.KeptLine.is_met.Goals as goal
 
 pub returns : goal.returns

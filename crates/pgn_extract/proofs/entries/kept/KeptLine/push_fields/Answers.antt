@@ -1,5 +1,5 @@
 use Rattle.pgn_extract.proofs.Common.{◌++◌, refl, ap, ◌∙◌, append_assoc, on_ok_weaker}
-use Rattle.pgn_extract.proofs.KeptLines.{position_shown, shows_kept}
+use Rattle.pgn_extract.proofs.entries.KeptLines.{position_shown, shows_kept}
 use Rattle.pgn_extract.proofs.entries.kept.KeptLine.push_fields.Goals as goal
 
 pub returns-clause-shown : goal.returns-clause-shown

@@ -1,6 +1,6 @@
 use Rattle.pgn_extract.proofs.Common.{◌++◌, refl, ap, ◌∙◌, subst, append_assoc, IfSome_then}
 use Rattle.pgn_extract.proofs.Common.{on_ok_weaker, MatchResult-weaker, ShowsPosition}
-use Rattle.pgn_extract.proofs.PlayedFacts.{shows_fields, fails_at}
+use Rattle.pgn_extract.proofs.entries.PlayedFacts.{shows_fields, fails_at}
 use Rattle.pgn_extract.proofs.entries.played.PlayedLine.push_fields.Goals as goal
 
 pub returns-clause-shown : goal.returns-clause-shown

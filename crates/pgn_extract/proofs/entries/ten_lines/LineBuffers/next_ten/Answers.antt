@@ -1,6 +1,7 @@
 use Rattle.std.proofs.Common.{◌≡◌, ◌+◌, ◌*◌, ◌/◌, ◌%◌, length, get_or, set, sym, ap, ◌∙◌, arith}
-use Rattle.pgn_extract.proofs.TenLines.{width, mixed, ten_length, place_within, digit_there}
-use Rattle.pgn_extract.proofs.TenLines.{one_more, next_place, none_long, none_mixed, all_mixed}
+use Rattle.pgn_extract.proofs.entries.TenLines.{width, mixed, ten_length, place_within, digit_there}
+use Rattle.pgn_extract.proofs.entries.TenLines.{one_more, next_place, none_long, none_mixed}
+use Rattle.pgn_extract.proofs.entries.TenLines.{all_mixed}
 use Rattle.pgn_extract.proofs.entries.ten_lines.LineBuffers.next_ten.Goals as goal
 
 -- the width that is worked out is the one of each line

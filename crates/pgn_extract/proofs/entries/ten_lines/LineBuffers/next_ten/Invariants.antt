@@ -1,5 +1,5 @@
 use Rattle.pgn_extract.proofs.Common.{◌≡◌, ◌+◌, ◌*◌, length, lines_from}
-use Rattle.pgn_extract.proofs.TenLines.{width, mixed}
+use Rattle.pgn_extract.proofs.entries.TenLines.{width, mixed}
 use Rattle.pgn_extract.proofs.entries.ten_lines.LineBuffers.next_ten.Given as goal
 
 abbrev pub invariant-loop-count : goal.invariant-loop-count

@@ -1,6 +1,7 @@
 use Rattle.std.proofs.Common.{◌≡◌, ◌+◌, ◌-◌, ◌*◌, ◌/◌, ◌^◌, ◌≤◌, ◌++◌, length, take, ap, ◌∙◌, arith}
 use Rattle.pgn_extract.specs.Private.Blockwise.{lines_from}
-use Rattle.pgn_extract.proofs.TenLines.{width, no_lines, lines_more, ten_length, first_lines}
+use Rattle.pgn_extract.proofs.entries.TenLines.{width, no_lines, lines_more, ten_length}
+use Rattle.pgn_extract.proofs.entries.TenLines.{first_lines}
 use Rattle.pgn_extract.proofs.entries.ten_lines.LineBuffers.push_tens.Goals as goal
 
 pub loop-tens-init : goal.loop-tens-init

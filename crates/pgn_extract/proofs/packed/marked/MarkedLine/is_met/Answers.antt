@@ -1,5 +1,5 @@
 use Rattle.pgn_extract.proofs.Common.{true, ap, ◌∙◌, has_marks}
-use Rattle.pgn_extract.proofs.WalkedLines.{told_here}
+use Rattle.pgn_extract.proofs.packed.WalkedLines.{told_here}
 use Rattle.pgn_extract.proofs.packed.marked.MarkedLine.is_met.Goals as goal
 
 pub returns : goal.returns

@@ -1,5 +1,5 @@
 use Rattle.std.proofs.Common.{[], sym, append-nil}
-use Rattle.pgn_extract.proofs.WalkedLines.{shows_none}
+use Rattle.pgn_extract.proofs.packed.WalkedLines.{shows_none}
 use Rattle.pgn_extract.proofs.packed.marked.MarkedLine.push_fields.Goals as goal
 
 pub returns-clause-shown : goal.returns-clause-shown

@@ -1,7 +1,7 @@
 use Rattle.pgn_extract.proofs.Common.{drop, get_or, refl, subst, arith, codes_in, IsWalkedWith}
 use Rattle.pgn_game.specs.Public.PlyCodes.{PlyCode, code_of}
 use Rattle.pgn_criteria.proofs.StandFacts.{three, below, rest_is}
-use Rattle.pgn_extract.proofs.WalkedLines.{walks_on, walks_all}
+use Rattle.pgn_extract.proofs.packed.WalkedLines.{walks_on, walks_all}
 use Rattle.pgn_extract.proofs.packed.walked.WalkedLine.advance.Goals as goal
 
 pub returns-then-not-is_open-clause-moved : goal.returns-then-not-is_open-clause-moved

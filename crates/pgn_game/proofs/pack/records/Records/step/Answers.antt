@@ -1,5 +1,6 @@
 use Rattle.pgn_game.proofs.Common.{arith, ap, ◌∙◌, err_from_is_err_and, Window}
-use Rattle.pgn_game.proofs.PackStreamFacts.{whole_held, bad_step, failed_step, held_step, long_step}
+use Rattle.pgn_game.proofs.PackStreamFacts.{whole_held, bad_step, failed_step, held_step}
+use Rattle.pgn_game.proofs.PackStreamFacts.{long_step}
 use Rattle.pgn_game.proofs.pack.records.Records.step.Goals as goal
 
 pub returns-in_err-hold_whole-clause-gives : goal.returns-in_err-hold_whole-clause-gives

@@ -1,6 +1,7 @@
 use Rattle.std.proofs.Common.{◌∙◌, sym, arith}
-use Rattle.pgn_game.proofs.PlayedFacts.{plays_word, passes_words, passes_position, passes_plies}
-use Rattle.pgn_game.proofs.PlayedFacts.{has_ended}
+use Rattle.pgn_game.proofs.replays.PlayedFacts.{plays_word, passes_words, passes_position}
+use Rattle.pgn_game.proofs.replays.PlayedFacts.{passes_plies}
+use Rattle.pgn_game.proofs.replays.PlayedFacts.{has_ended}
 use Rattle.pgn_game.proofs.replays.played_line.MainLine.advance.Goals as goal
 
 pub returns-then-is_some : goal.returns-then-is_some

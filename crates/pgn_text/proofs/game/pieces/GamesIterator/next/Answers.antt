@@ -1,5 +1,5 @@
 use Rattle.pgn_text.specs.Public.Limits.{depth_limit}
-use Rattle.pgn_text.proofs.Gives.{gives_game, gives_unreadable, gives_error}
+use Rattle.pgn_text.proofs.game.Gives.{gives_game, gives_unreadable, gives_error}
 use Rattle.pgn_text.proofs.game.pieces.GamesIterator.next.Goals as goal
 
 pub returns-in-Ok-Some-clause-steps : goal.returns-in-Ok-Some-clause-steps

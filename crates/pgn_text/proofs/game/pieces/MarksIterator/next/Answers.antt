@@ -1,5 +1,5 @@
 use Rattle.pgn_text.specs.Public.Limits.{depth_limit}
-use Rattle.pgn_text.proofs.GivesMarks.{marks_game, marks_unreadable}
+use Rattle.pgn_text.proofs.game.GivesMarks.{marks_game, marks_unreadable}
 use Rattle.pgn_text.proofs.game.pieces.MarksIterator.next.Goals as goal
 
 pub returns-in-Some-clause-steps : goal.returns-in-Some-clause-steps

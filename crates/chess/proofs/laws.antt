@@ -1,0 +1,3 @@
+pub mod InitialFacts
+pub mod RanksSettled
+pub mod RefusalExamples

@@ -1,0 +1,4 @@
+pub mod CandidateFacts
+pub mod PlainTexts
+pub mod RefusalFacts
+pub mod SanTextFacts

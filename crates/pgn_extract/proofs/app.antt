@@ -1,0 +1,6 @@
+pub mod LinesOfMarks
+pub mod MarkLineFacts
+pub mod RequestFacts
+pub mod SeveralFacts
+pub mod SeveralPackFacts
+pub mod StoppedFiles

@@ -1,0 +1,12 @@
+pub mod AllTaken
+pub mod Beginnings
+pub mod BlocksGiven
+pub mod Dropping
+pub mod GameVerdict
+pub mod Gathered
+pub mod Indexed
+pub mod Listed
+pub mod RestOfBlock
+pub mod RunEnds
+pub mod RunProgress
+pub mod WholeRun

@@ -1,0 +1,4 @@
+pub mod EachPly
+pub mod KeptLines
+pub mod PlayedFacts
+pub mod TenLines

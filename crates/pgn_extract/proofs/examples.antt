@@ -1,0 +1,7 @@
+pub mod ChoiceRows
+pub mod Examples
+pub mod LineRows
+pub mod ReportExamples
+pub mod ReportRows
+pub mod RequestExamples
+pub mod RunRows

@@ -1,0 +1,12 @@
+pub mod FirstExports
+pub mod JoinedParts
+pub mod NoteOnce
+pub mod OneExports
+pub mod OneOfThree
+pub mod OneReport
+pub mod OneVerdict
+pub mod PackFits
+pub mod PackTaken
+pub mod PartsReported
+pub mod Resumed
+pub mod ShownNames

@@ -1,0 +1,4 @@
+pub mod KeptPackedFacts
+pub mod PackListed
+pub mod SearchFacts
+pub mod WalkedLines

@@ -1,0 +1,2 @@
+pub mod NamedMoves
+pub mod RefusalSearch

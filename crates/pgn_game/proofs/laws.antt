@@ -1,0 +1,6 @@
+pub mod LaidOnce
+pub mod OneMovetext
+pub mod PlainExport
+pub mod PlainLines
+pub mod SomeMovetext
+pub mod TurnCounts

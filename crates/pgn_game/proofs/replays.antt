@@ -1,0 +1,3 @@
+pub mod FlatGames
+pub mod KeptSteps
+pub mod PlayedFacts

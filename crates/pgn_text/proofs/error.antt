@@ -1,0 +1,9 @@
+pub mod FrontLengths
+pub mod Furthest
+pub mod InPart
+pub mod InTag
+pub mod InWord
+pub mod MeantFronts
+pub mod StopContexts
+pub mod StopWalk
+pub mod Stuck

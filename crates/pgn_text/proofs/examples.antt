@@ -1,0 +1,5 @@
+pub mod ByteRows
+pub mod Examples
+pub mod GameRows
+pub mod Rows
+pub mod StopRows

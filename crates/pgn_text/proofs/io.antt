@@ -1,0 +1,3 @@
+pub mod BlockCuts
+pub mod EndSearch
+pub mod Spliced

@@ -1,0 +1,16 @@
+pub mod Classes
+pub mod EventLines
+pub mod GameLeads
+pub mod Gaps
+pub mod Halfway
+pub mod LeftEnds
+pub mod LineFronts
+pub mod Lines
+pub mod OldMarks
+pub mod OnePlace
+pub mod OneWithin
+pub mod PartLemmas
+pub mod ResumedPieces
+pub mod ReadAgain
+pub mod ShorterText
+pub mod UncutFailures
