@@ -2,7 +2,7 @@
 pub use Rattle.memchr.specs.Find.{IsFirstByte}
 pub use Rattle.pgn_text.specs.Private.Cuts.{NoCutBefore, is_cut}
 pub use Rattle.pgn_text.specs.Private.ErrorPosition.{WalkedTo, Walks}
-pub use Rattle.pgn_text.specs.Private.Masks.{Sweeps, has_bit, is_word_sign, word_begins}
+pub use Rattle.pgn_text.specs.Private.Masks.{Sweeps, is_word_sign, word_begins}
 pub use Rattle.pgn_text.specs.Private.Movetext.{ArePlain, PlainTo, is_plain_kept, none}
 pub use Rattle.pgn_text.specs.Private.PartFronts.{Ends, Follows, IsFrontOf, IsMoveFront}
 pub use Rattle.pgn_text.specs.Private.PartFronts.{IsPartFront, IsResultFront, IsTagFront}
@@ -56,6 +56,7 @@ pub use Rattle.pgn_text.specs.Public.Strings.{Escaped, IsContents, Sign, Single,
 pub use Rattle.pgn_text.specs.Public.Strings.{spelled_sign, value_of_sign}
 pub use Rattle.pgn_text.specs.Public.Tallies.{Reads}
 pub use Rattle.pgn_text.specs.Public.Windows.{FailsAfter, IsCutOff, IsCutShort, IsPastEnd, Window}
+pub use Rattle.pgn_text.specs.Shared.Lanes.{has_bit}
 pub use Rattle.pgn_text.specs.Shared.StringTexts.{contents_front, with_byte}
 pub use Rattle.pgn_text.specs.declared.error.error_position.InTag.TheVariants.{BeforeName}
 pub use Rattle.pgn_text.specs.declared.error.error_position.Within.{Within}

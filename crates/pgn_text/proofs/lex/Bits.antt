@@ -14,7 +14,7 @@ use lib.Bits.{bit_and, bit_or, and_le_l, or_lt, shifted_even}
 use lib.Count.{count_leading_zeros, count_trailing_zeros, leading_of_zero, trailing_of_zero}
 use lib.Pow.{field, mod-mod-pow, shr-shr, shl-shr, pow-add}
 use lib.Lanes.{mask_l}
-use Rattle.pgn_text.specs.Private.Masks.{has_bit}
+use Rattle.pgn_text.specs.Shared.Lanes.{has_bit}
 
 pub bit_cases : (P : ℕ → Type 0) → P 0 → P 1 → (x : ℕ) → x < 2 → P x
 bit_cases P p q zero h = p

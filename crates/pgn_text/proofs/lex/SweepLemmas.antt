@@ -4,7 +4,8 @@ use Rattle.std.proofs.lemmas.List.{get_or_past}
 use Rattle.pgn_text.proofs.Common.{◌≡◌, ℕ, zero, suc, ◌+◌, ◌/◌, ◌^◌, ◌<◌, ◌≤◌, Bool, true, false}
 use Rattle.pgn_text.proofs.Common.{not, ◌||◌, List, length, get_or, refl, sym, ap, ap₂, ◌∙◌, arith}
 use Rattle.pgn_text.proofs.Common.{inl, inr, cases_lt, is_white, is_digit, is_letter, is_word_byte}
-use Rattle.pgn_text.specs.Private.Masks.{has_bit, is_word_sign, AreBegins, word_begins}
+use Rattle.pgn_text.specs.Private.Masks.{is_word_sign, AreBegins, word_begins}
+use Rattle.pgn_text.specs.Shared.Lanes.{has_bit}
 use Rattle.pgn_text.proofs.lex.Bits.{bit-shr, bit-above, clash}
 
 -- where the words begin

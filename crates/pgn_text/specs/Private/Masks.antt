@@ -1,20 +1,12 @@
--- Words of 64 bits that say which of 64 bytes of a block are of a class.
+-- What words of 64 bits show of 64 bytes of a block.
 use Rattle.std.specs.Prelude.{◌≡◌, ℕ, zero, suc, Bool, true, false, not, ◌&&◌, ◌||◌, ◌==◌, ◌+◌, ◌<◌}
 use Rattle.std.specs.Prelude.{◌≤◌, List, length, get_or}
-use Rattle.std.specs.Int.{bit_at}
 use Rattle.pgn_text.specs.Public.Bytes.{is_white, is_digit, is_letter, is_word_byte}
-
--- bit i of the word is set
-unfoldable pub has_bit : ℕ → ℕ → Bool
-has_bit word i = bit_at word i == 1
+use Rattle.pgn_text.specs.Shared.Lanes.{has_bit}
 
 -- a byte of a word that is neither a letter nor a digit
 abbrev pub is_word_sign : ℕ → Bool
 is_word_sign b = (b == 95 || ((b == 43 || b == 35) || (b == 61 || b == 58))) || (b == 45 || b == 47)
-
--- the bits of the word are set where the `count` bytes of the vector pass the test
-abbrev pub AreLanes : ℕ → (ℕ → Bool) → List ℕ → ℕ → Type 0
-AreLanes count test vector word = (i : ℕ) → i < count → has_bit word i ≡ test (get_or vector i 0)
 
 -- the bits of `begins` are those of `words` before which none of them is set
 abbrev pub AreBegins : ℕ → ℕ → Type 0

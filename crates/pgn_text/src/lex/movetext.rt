@@ -7,8 +7,9 @@ ghost use Rattle.pgn_text.specs.Public.Bytes.{is_digit, is_letter, is_white};
 ghost use Rattle.pgn_text.specs.Public.Elements.{item_of};
 ghost use Rattle.pgn_text.specs.Public.Games.{Item};
 ghost use Rattle.pgn_text.specs.Private.Movetext.{PlainTo};
-ghost use Rattle.pgn_text.specs.Private.Masks.{has_bit, is_word_sign, AreLanes, AreBegins};
+ghost use Rattle.pgn_text.specs.Private.Masks.{is_word_sign, AreBegins};
 ghost use Rattle.pgn_text.specs.Private.Masks.{HaveEnds, IsNextMove, NoneFrom, Sweeps};
+ghost use Rattle.pgn_text.specs.Shared.Lanes.{has_bit, AreLanes};
 
 use crate::game::Element;
 use std::alloc::AllocError;

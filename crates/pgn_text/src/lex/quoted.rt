@@ -1,7 +1,7 @@
 //! The contents of strings.
 
 ghost use Rattle.std.specs.Prelude.{◌≡◌, ◌↔◌, ◌≤◌, ◌<◌, ◌+◌, ℕ, not, List, length, get_or, IsTrue};
-ghost use Rattle.pgn_text.specs.Private.Masks.{AreLanes};
+ghost use Rattle.pgn_text.specs.Shared.Lanes.{AreLanes};
 ghost use Rattle.pgn_text.specs.Private.Reading.{is_single};
 ghost use Rattle.pgn_text.specs.Private.Tokens.{EndsContents, RunTo};
 ghost use Rattle.pgn_text.specs.Public.Strings.{Sign, IsContents, HasValue};
