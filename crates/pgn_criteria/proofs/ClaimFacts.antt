@@ -10,7 +10,8 @@ use Rattle.pgn_criteria.proofs.Common.{SpellsPosition, SpellsMove, SpellsSpan, S
 use Rattle.pgn_criteria.proofs.Common.{side_text, relation_text, comparison_text, ValueClaim, Text}
 use Rattle.pgn_criteria.proofs.Common.{Number, Date, GameClaim, Tag, Moves, Plies, Result}
 use Rattle.pgn_criteria.proofs.Common.{PositionClaim, Fen, Flip, Material, Turn, Check, Mate}
-use Rattle.pgn_criteria.proofs.Common.{Stalemate, MoveClaim, Next, Played, SpanClaim, For, Count}
+use Rattle.pgn_criteria.proofs.Common.{Stalemate, MoveClaim, Next, Played, Setup, SpanClaim, For}
+use Rattle.pgn_criteria.proofs.Common.{Count}
 use Rattle.pgn_criteria.proofs.SolidFacts.{is_solid, BeginsSolid, EndsSolid, solid_ends, ends_after}
 use Rattle.pgn_criteria.proofs.SolidFacts.{begins_some, word_read, word_spelled}
 use Rattle.pgn_criteria.proofs.TurnFacts.{side_ends, turn_read}

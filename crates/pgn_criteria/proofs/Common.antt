@@ -101,7 +101,7 @@ pub use Rattle.pgn_criteria.specs.declared.condition.GameClaim.{GameClaim}
 pub use Rattle.pgn_criteria.specs.declared.condition.GameClaim.TheVariants.{Moves, Plies, Result}
 pub use Rattle.pgn_criteria.specs.declared.condition.GameClaim.TheVariants.{Tag}
 pub use Rattle.pgn_criteria.specs.declared.condition.MoveClaim.{MoveClaim}
-pub use Rattle.pgn_criteria.specs.declared.condition.MoveClaim.TheVariants.{Next, Played}
+pub use Rattle.pgn_criteria.specs.declared.condition.MoveClaim.TheVariants.{Next, Played, Setup}
 pub use Rattle.pgn_criteria.specs.declared.condition.PositionClaim.{PositionClaim}
 pub use Rattle.pgn_criteria.specs.declared.condition.PositionClaim.TheVariants.{Check, Fen, Flip}
 pub use Rattle.pgn_criteria.specs.declared.condition.PositionClaim.TheVariants.{Mate, Material}

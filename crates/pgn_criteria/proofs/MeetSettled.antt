@@ -13,7 +13,8 @@ use Rattle.pgn_criteria.proofs.Common.{FitMoves, IsLike, GoesOnBy, IsReachedBy, 
 use Rattle.pgn_criteria.proofs.Common.{Conditions, Stated, ValueClaim, Text, Number, Date}
 use Rattle.pgn_criteria.proofs.Common.{GameClaim, Tag, Moves, Plies, Result, PositionCondition}
 use Rattle.pgn_criteria.proofs.Common.{PositionClaim, Fen, Flip, Material, Turn, Check, Mate}
-use Rattle.pgn_criteria.proofs.Common.{Stalemate, MoveClaim, Next, Played, SpanClaim, For, Count}
+use Rattle.pgn_criteria.proofs.Common.{Stalemate, MoveClaim, Next, Played, Setup, SpanClaim, For}
+use Rattle.pgn_criteria.proofs.Common.{Count}
 use Rattle.chess.specs.declared.moves.Move.{Move}
 use Rattle.chess.proofs.LegalSettled.{settled_check}
 use Rattle.chess.proofs.MateSettled.{settled_mate, settled_stalemate}
@@ -166,6 +167,7 @@ settled_ply : (replay : Replay) (ply : ℕ) (claim : MoveClaim (List ℕ))
     → AllOnBoard replay → AreLegal replay → Settled (IsSoOfMoves replay ply claim)
 settled_ply replay ply (Next word) on_board legal = settled_on replay ply word on_board legal
 settled_ply replay ply (Played word) on_board legal = settled_reached replay ply word on_board legal
+settled_ply replay ply (Setup setup) on_board legal = settled_set_up replay ply setup
 
 settled_position : (P : State) (claim : PositionClaim (List ℕ)) → AreOnBoard P.men
     → Settled (IsSoAt P claim)

@@ -6,7 +6,7 @@ use Rattle.pgn_criteria.proofs.Common.{Heading, AllTaken, IsSoOfGame, IsSoOfMove
 use Rattle.pgn_criteria.proofs.Common.{HoldsThere, IsMetBy, SomeHold, Meets, FitMoves, GoesOnBy}
 use Rattle.pgn_criteria.proofs.Common.{words_of, Compares, Comparison, AsksWithin, AllClaims}
 use Rattle.pgn_criteria.proofs.Common.{AllAskWithin, EachAsksWithin, on_positions, Stated}
-use Rattle.pgn_criteria.proofs.Common.{GameClaim, Moves, Plies, MoveClaim, Next, Played}
+use Rattle.pgn_criteria.proofs.Common.{GameClaim, Moves, Plies, MoveClaim, Next, Played, Setup}
 use Rattle.pgn_text.specs.Public.Games.{Item}
 use Rattle.pgn_game.specs.Public.Openings.{IsOpening}
 use Rattle.pgn_game.proofs.Openings.{AgreeAt, opening_agrees}

@@ -14,7 +14,8 @@ use Rattle.pgn_criteria.proofs.Common.{IsFirstBad, Comparison, Relation, Has, Be
 use Rattle.pgn_criteria.proofs.Common.{Condition, Game, Position, Move, Span, ValueClaim, Text}
 use Rattle.pgn_criteria.proofs.Common.{Number, Date, GameClaim, Tag, Moves, Plies, Result}
 use Rattle.pgn_criteria.proofs.Common.{PositionClaim, Fen, Flip, Material, Turn, Check, Mate}
-use Rattle.pgn_criteria.proofs.Common.{Stalemate, MoveClaim, Next, Played, SpanClaim, For, Count}
+use Rattle.pgn_criteria.proofs.Common.{Stalemate, MoveClaim, Next, Played, Setup, SpanClaim, For}
+use Rattle.pgn_criteria.proofs.Common.{Count}
 use Rattle.pgn_criteria.proofs.Common.{Meaning, Nothing, Or, Asks}
 use Rattle.pgn_criteria.specs.Public.Laws.{TextHasOneMeaning, TextHasOneAnswer}
 use Rattle.pgn_criteria.specs.Public.Laws.{MemoryIsTheOnlyFault}

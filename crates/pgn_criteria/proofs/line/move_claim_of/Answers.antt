@@ -1,4 +1,5 @@
-use Rattle.pgn_criteria.proofs.Common.{ℕ, List, SpellsMove, MoveClaim, Next, Played}
+use Rattle.pgn_criteria.proofs.Common.{ℕ, List, SpellsMove, MoveClaim, Next, Played, Setup}
+use Rattle.pgn_criteria.specs.declared.setup.Setup as declared
 use Rattle.pgn_criteria.proofs.line.move_claim_of.Goals as goal
 
 none : (text : List ℕ) → ((word : List ℕ) → SpellsMove text (Next word) → ⊥)
