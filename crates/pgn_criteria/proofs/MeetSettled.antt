@@ -167,7 +167,7 @@ settled_ply : (replay : Replay) (ply : ℕ) (claim : MoveClaim (List ℕ))
     → AllOnBoard replay → AreLegal replay → Settled (IsSoOfMoves replay ply claim)
 settled_ply replay ply (Next word) on_board legal = settled_on replay ply word on_board legal
 settled_ply replay ply (Played word) on_board legal = settled_reached replay ply word on_board legal
-settled_ply replay ply (Setup setup) on_board legal = settled_set_up replay ply setup
+settled_ply replay ply (Setup setup) on_board legal = settled_set_up replay ply setup on_board
 
 settled_position : (P : State) (claim : PositionClaim (List ℕ)) → AreOnBoard P.men
     → Settled (IsSoAt P claim)

@@ -1,14 +1,21 @@
--- Whether a position is one that is asked for by fields of a FEN: man by man, and right by right.
-use Rattle.std.proofs.Common.{◌≡◌, ◌<◌, ℕ, Bool, true, false, Option, Some}
-use Rattle.std.proofs.Common.{None, refl, sym, ◌∙◌, subst, inl, inr, arith, IsTrue, length}
-use Rattle.std.specs.Prelude.{◌↔◌, ◌+◌, ◌&&◌}
+-- Whether a position is one that is asked for by fields of a FEN: kind by kind, right by right, and
+-- by the moves that take a pawn en passant.
+use Rattle.std.proofs.Common.{◌≡◌, ◌<◌, ◌≤◌, ℕ, Bool, true, false, Option, Some, List, [], ◌∷◌}
+use Rattle.std.proofs.Common.{None, refl, sym, ◌∙◌, subst, ap, inl, inr, arith, IsTrue, length}
+use Rattle.std.specs.Prelude.{◌↔◌, ◌⊎◌, ◌+◌, ◌-◌, ◌&&◌, ◌==◌, not, IfSome}
 use Rattle.std.specs.Bool.{beq}
-use Rattle.std.proofs.lemmas.Bool.{and_parts, and_from}
+use Rattle.std.specs.FinMap.{entries, same_entries_map}
+use Rattle.std.proofs.lemmas.Bool.{and_parts, and_from, cases_eq}
+use Rattle.std.proofs.lemmas.Bool.Decides.{nat_tests}
 use Rattle.std.specs.List.{slice_get}
 use Rattle.std.proofs.lemmas.Option.{slice_get_within}
-use Rattle.chess.specs.Public.Squares.{Place, IsOnBoard}
-use Rattle.chess.specs.Public.Placements.{Placement, man_at}
-use Rattle.chess.specs.Public.Positions.{State, has_right}
+use Rattle.chess.specs.Public.Squares.{Place, IsOnBoard, gap}
+use Rattle.chess.specs.Public.Placements.{Placement, man_at, AreOnBoard, opposite}
+use Rattle.chess.specs.Public.Attacks.{IsForward, IsPawnAttack}
+use Rattle.chess.specs.Public.Positions.{State, IsSound, FitsEnPassant, has_right, passed_rank}
+use Rattle.chess.specs.Public.Moves.{Goes, IsPawnMove, IsLegal, Promotes, is_pawn, is_square}
+use Rattle.chess.specs.Public.Moves.{is_en_passant}
+use Rattle.chess.specs.Shared.CellFacts.{same_men, on_board_or_not}
 use Rattle.chess.specs.declared.board.man.CastlingRights.{CastlingRights}
 use Rattle.chess.specs.declared.board.man.Man.{Man}
 use Rattle.chess.specs.declared.board.man.Kind.{Kind}
@@ -17,14 +24,18 @@ use Rattle.chess.specs.declared.board.man.Side.{Side}
 use Rattle.chess.specs.declared.board.man.Side.TheVariants.{White, Black}
 use Rattle.chess.specs.declared.board.man.Wing.{Wing}
 use Rattle.chess.specs.declared.board.man.Wing.TheVariants.{KingSide, QueenSide}
+use Rattle.chess.specs.declared.moves.Move.{Move}
+use Rattle.chess.proofs.KingFacts.{pawn_kind}
+use Rattle.chess.proofs.PlaceFacts.{cases_place, same_square-then, place_of}
+use Rattle.chess.proofs.LegalSettled.{settled_legal}
+use Rattle.chess.proofs.Searches.{search_square, search_side, search_wing, search_any_kind}
+use Rattle.chess.proofs.Searches.{cases_side, cases_man}
 use Rattle.chess.proofs.Settled.{Settled, settled_like, settled_not, settled_both}
-use Rattle.chess.proofs.Settled.{settled_implies}
-use Rattle.chess.proofs.Settled.{settled_le, settled_held, Search, cases_option, cases_bool}
-use Rattle.chess.proofs.PlaceFacts.{cases_place}
-use Rattle.chess.proofs.LegalSettled.{settled_man_at}
-use Rattle.chess.proofs.Searches.{search_square, search_side, search_wing, cases_side}
+use Rattle.chess.proofs.Settled.{settled_implies, settled_true, settled_le, Search, SearchIn}
+use Rattle.chess.proofs.Settled.{IsAny, search_any, search_both, search_pair, search_option}
+use Rattle.chess.proofs.Settled.{Cases, cases_bool, cases_pair}
 use Rattle.pgn_game.specs.Public.Replays.{Replay}
-use Rattle.pgn_criteria.specs.Public.Setups.{IsAlike, IsSetUp}
+use Rattle.pgn_criteria.specs.Public.Setups.{TakesEnPassant, IsAlike, IsSetUp}
 use Rattle.pgn_criteria.specs.Private.MenAlike.{StandsAlike, KindAlike}
 use Rattle.pgn_criteria.specs.declared.setup.Setup.{Setup}
 
@@ -52,14 +63,14 @@ kind_none p q kind white first is =
     ((λ t. let clash : true ≡ false = sym t ∙ is in cc), (λ both. first.1 (both White)))
 
 -- all men
-abbrev pub AreMenAlike : Placement → Placement → Type 0
-AreMenAlike p q = (s : Place) → IsOnBoard s → man_at p s ≡ man_at q s
-
 same_man : (first second : Option Man) → ((man : Man) → (first ≡ Some man) ↔ (second ≡ Some man))
     → first ≡ second
 same_man None None each = refl
 same_man (Some man) second each = sym ((each man).0 refl)
 same_man None (Some man) each = (each man).1 refl
+
+abbrev pub AreMenAlike : Placement → Placement → Type 0
+AreMenAlike p q = (s : Place) → IsOnBoard s → man_at p s ≡ man_at q s
 
 pub men_alike : (p q : Placement) → ((kind : Kind) → KindAlike p q kind) → AreMenAlike p q
 men_alike p q each s on_board =
@@ -68,6 +79,22 @@ men_alike p q each s on_board =
 pub kinds_alike : (p q : Placement) → AreMenAlike p q → (kind : Kind) → KindAlike p q kind
 kinds_alike p q alike kind side s on_board =
     ((λ is. sym (alike s on_board) ∙ is), (λ is. alike s on_board ∙ is))
+
+-- no man stands off the board, so they are the same men
+same_at : (p q : Placement) → AreOnBoard p → AreOnBoard q → AreMenAlike p q → (s : Place)
+    → man_at p s ≡ man_at q s
+same_at p q on also alike s = elim (on_board_or_not s) [
+  | inl within ↦ alike s within
+  | inr off ↦
+      same_man (man_at p s) (man_at q s) (λ man.
+      ((λ is. absurd (off (on s man is))), (λ is. absurd (off (also s man is)))))
+]
+
+pub are_same : (p q : Placement) → AreOnBoard p → AreOnBoard q → AreMenAlike p q → p ≡ q
+are_same p q on also alike = same_men p q (same_at p q on also alike)
+
+pub are_alike : (p q : Placement) → p ≡ q → AreMenAlike p q
+are_alike p q same s on_board = ap (λ (men : Placement). man_at men s) same
 
 pub each_kind : (F : Kind → Type 0) → F Pawn → F Knight → F Bishop → F Rook → F Queen → F King
     → (kind : Kind) → F kind
@@ -121,6 +148,72 @@ rights_compared a b is reports = (
       (test_same _ _ (each Black QueenSide))))),
 )
 
+-- ---- captures en passant
+
+square_is : (o : Option Place) (s : Place) → is_square o s ≡ true → o ≡ Some s
+square_is None s e = let f : false ≡ true = e in cc
+square_is (Some t) s e = ap Some (same_square-then t s e)
+
+-- a pawn that goes to another file attacks the square that it goes to
+attack_of : (P : State) (s t : Place) → IsPawnMove P s t → not (s.file == t.file) ≡ true
+    → IsPawnAttack P.turn s t
+attack_of P s t (inl single) other = let same = single.0 in absurd (grind (arith, nat_tests))
+attack_of P s t (inr (inl double)) other =
+    let same = double.file in absurd (grind (arith, nat_tests))
+attack_of P s t (inr (inr capture)) other = capture.0
+
+-- a move that takes a pawn en passant goes to the en passant square, which the pawn attacks
+pub captures : (P : State) (m : Move) → TakesEnPassant P m
+    → (P.en_passant ≡ Some m.to) × IsPawnAttack P.turn m.from m.to
+captures P m takes =
+    let first = and_parts _ _ takes.capture in
+    let second = and_parts _ _ first.0 in
+    let rules = takes.legal.pseudo_legal in
+    let pawn = pawn_kind rules.man (ap is_pawn (sym rules.here) ∙ second.0) in
+    let goes : Goes P m Pawn = subst (Goes P m) pawn rules.goes in
+    (square_is P.en_passant m.to first.1, attack_of P m.from m.to goes.1 second.1)
+
+-- it comes from one of the two files beside the square
+abbrev AreTaken : State → State → ℕ → Type 0
+AreTaken P Q file = (m : Move) → m.from.file ≡ file → TakesEnPassant P m → TakesEnPassant Q m
+
+beside : (a b : ℕ) → gap a b ≡ 1 → (a ≡ b - 1) ⊎ (a ≡ b + 1)
+beside a b near = elim (cases_eq a (b + 1)) [
+  | inl after ↦ inr after
+  | inr other ↦ inl (omega (arith, near, other))
+]
+
+from_beside : (P : State) (m : Move) (square : Place) → P.en_passant ≡ Some square
+    → TakesEnPassant P m → (m.from.file ≡ square.file - 1) ⊎ (m.from.file ≡ square.file + 1)
+from_beside P m square is takes =
+    let known = captures P m takes in
+    let here = known.0 in
+    let same : m.to ≡ square = cc in
+    beside m.from.file square.file
+    (subst (λ (s : Place). gap m.from.file s.file ≡ 1) same known.1.0)
+
+pub taken_beside : (P Q : State) (square : Place) (second : Bool) → P.en_passant ≡ Some square
+    → AreTaken P Q (square.file - 1) → (IsTrue second ↔ AreTaken P Q (square.file + 1))
+    → IsTrue second ↔ ((m : Move) → TakesEnPassant P m → TakesEnPassant Q m)
+taken_beside P Q square second is before reports = (
+  (λ t m takes. elim (from_beside P m square is takes) [
+    | inl left ↦ before m left takes
+    | inr right ↦ reports.0 t m right takes
+  ]),
+  (λ all. reports.1 (λ m right. all m)),
+)
+
+-- ---- all four fields
+
+pub alike_by : (given : ℕ) (P Q : State) (is : Bool) → P.men ≡ Q.men
+    → (2 ≤ given → P.turn ≡ Q.turn) → (3 ≤ given → AreRightsAlike P.rights Q.rights) → 4 ≤ given
+    → (IsTrue is ↔ ((m : Move) → TakesEnPassant P m ↔ TakesEnPassant Q m))
+    → IsTrue is ↔ IsAlike given P Q
+alike_by given P Q is men turn rights four reports = (
+  (λ t. record { men = men; turn = turn; rights = rights; en_passant = λ g. reports.0 t }),
+  (λ alike. reports.1 (alike.en_passant four)),
+)
+
 -- ---- each position is such a one or not
 
 settled_all : {A : Type 0} → Search A → (F : A → Type 0) → ((a : A) → Settled (F a))
@@ -130,16 +223,23 @@ settled_all search F each = elim (search (λ a. F a → ⊥) (λ a. settled_not 
   | inr none ↦ inl (λ a. elim (each a) [ inl is ↦ is | inr fails ↦ absurd (none (a, fails)) ])
 ]
 
-settled_men : (p q : Placement) → Settled (AreMenAlike p q)
-settled_men p q =
-    elim (search_square (λ s. man_at p s ≡ man_at q s → ⊥)
-    (λ s. settled_not (settled_man_at p s (man_at q s)))) [
-      | inl found ↦ inr (λ all. found.2 (all found.0 found.1))
-      | inr none ↦ inl (λ s on_board. elim (settled_man_at p s (man_at q s)) [
-        | inl is ↦ is
-        | inr fails ↦ absurd (none (s, on_board, fails))
-      ])
-    ]
+cases_list : {A : Type 0} → Cases A → Cases (List A)
+cases_list cases [] [] = inl refl
+cases_list cases [] (b ∷ y) = inr (λ e. cc)
+cases_list cases (a ∷ x) [] = inr (λ e. cc)
+cases_list cases (a ∷ x) (b ∷ y) = elim (cases a b) [
+  | inr none ↦ inr (λ e. none cc)
+  | inl same ↦ elim (cases_list cases x y) [
+    | inr none ↦ inr (λ e. none cc)
+    | inl rest ↦ inl (λ i. same i ∷ rest i)
+  ]
+]
+
+cases_men : Cases Placement
+cases_men p q = elim (cases_list (cases_pair cases_place cases_man) (entries p) (entries q)) [
+  | inl same ↦ inl (same_entries_map p q same)
+  | inr none ↦ inr (λ same. none (ap entries same))
+]
 
 settled_rights : (a b : CastlingRights) → Settled (AreRightsAlike a b)
 settled_rights a b =
@@ -148,24 +248,79 @@ settled_rights a b =
     (λ side. settled_all search_wing (λ wing. has_right a side wing ≡ has_right b side wing)
     (λ wing. cases_bool (has_right a side wing) (has_right b side wing)))
 
-settled_alike : (given : ℕ) (P Q : State) → Settled (IsAlike given P Q)
-settled_alike given P Q =
-    settled_like (λ h. record { men = h.0.0; turn = h.0.1; rights = h.1.0; en_passant = h.1.1 })
-    (λ a. ((a.men, a.turn), (a.rights, a.en_passant)))
-    (settled_both
-    (settled_both (settled_men P.men Q.men)
-    (settled_implies (settled_le 2 given) (cases_side P.turn Q.turn)))
-    (settled_both (settled_implies (settled_le 3 given) (settled_rights P.rights Q.rights))
-    (settled_implies (settled_le 4 given)
-    (cases_option cases_place P.en_passant Q.en_passant))))
+settled_takes : (P : State) (m : Move) → AreOnBoard P.men → Settled (TakesEnPassant P m)
+settled_takes P m on_board =
+    settled_like (λ h. record { capture = h.0; legal = h.1 })
+    (λ takes. (takes.capture, takes.legal))
+    (settled_both (settled_true (is_en_passant P m)) (settled_legal P m on_board))
+
+abbrev Ends : Type 0
+Ends = Place × Place
+
+abbrev AreOn : Ends → Type 0
+AreOn ends = IsOnBoard ends.0 × IsOnBoard ends.1
+
+abbrev How : Type 0
+How = Option Kind × Option Wing
+
+abbrev move_by : Ends × How → Move
+move_by c = record { from = c.0.0; to = c.0.1; promote = c.1.0; castle = c.1.1 }
+
+search_move : SearchIn (Ends × How) (λ c. AreOn c.0 × IsAny c.1)
+search_move =
+    search_both AreOn IsAny (search_both IsOnBoard IsOnBoard search_square search_square)
+    (search_any (search_pair search_any_kind (search_option search_wing)))
+
+settled_taken : (P Q : State) → AreOnBoard P.men → AreOnBoard Q.men
+    → Settled ((m : Move) → TakesEnPassant P m → TakesEnPassant Q m)
+settled_taken P Q on also =
+    elim (search_move (λ c. TakesEnPassant P (move_by c) × (TakesEnPassant Q (move_by c) → ⊥))
+    (λ c. settled_both (settled_takes P (move_by c) on)
+    (settled_not (settled_takes Q (move_by c) also)))) [
+      | inl found ↦ inr (λ all. found.2.1 (all (move_by found.0) found.2.0))
+      | inr none ↦ inl (λ m takes. elim (settled_takes Q m also) [
+        | inl is ↦ is
+        | inr fails ↦ absurd (none (
+          ((m.from, m.to), (m.promote, m.castle)),
+          ((takes.legal.pseudo_legal.from, takes.legal.pseudo_legal.to), tt),
+          (takes, fails),
+        ))
+      ])
+    ]
+
+settled_captures : (P Q : State) → AreOnBoard P.men → AreOnBoard Q.men
+    → Settled ((m : Move) → TakesEnPassant P m ↔ TakesEnPassant Q m)
+settled_captures P Q on also =
+    settled_like (λ both m. (both.0 m, both.1 m)) (λ each. ((λ m. (each m).0), (λ m. (each m).1)))
+    (settled_both (settled_taken P Q on also) (settled_taken Q P also on))
+
+settled_alike : (given : ℕ) (P Q : State) → AreOnBoard P.men → Settled (IsAlike given P Q)
+settled_alike given P Q on = elim (cases_men P.men Q.men) [
+  | inr differ ↦ inr (λ alike. differ alike.men)
+  | inl same ↦
+      settled_like (λ h. record { men = same; turn = h.0; rights = h.1.0; en_passant = h.1.1 })
+      (λ alike. (alike.turn, (alike.rights, alike.en_passant)))
+      (settled_both (settled_implies (settled_le 2 given) (cases_side P.turn Q.turn))
+      (settled_both (settled_implies (settled_le 3 given) (settled_rights P.rights Q.rights))
+      (settled_implies (settled_le 4 given)
+      (settled_captures P Q on (subst AreOnBoard same on)))))
+]
+
+-- ---- the game
 
 pub settled_set_up : (replay : Replay) (plies : ℕ) (setup : Setup)
+    → ((i : ℕ) (P : State) → slice_get replay.positions i ≡ Some P → AreOnBoard P.men)
     → Settled (IsSetUp replay plies setup)
-settled_set_up replay plies setup =
-    settled_held (slice_get replay.positions plies) (λ P. IsAlike setup.given P setup.position)
-    (λ P. settled_alike setup.given P setup.position)
-
--- ---- the position after so many plies
+settled_set_up replay plies setup on_board =
+    elim (slice_get replay.positions plies) as (λ o. slice_get replay.positions plies ≡ o
+    → Settled (IsSetUp replay plies setup)) [
+      | None ↦ λ none. inr (λ found. let here = found.1 in cc)
+      | Some P ↦ λ here.
+          settled_like (λ alike. (P, here, alike))
+          (λ found. let same : found.0 ≡ P = cc (found.1, here) in
+          subst (λ Q. IsAlike setup.given Q setup.position) same found.2)
+          (settled_alike setup.given P setup.position (on_board plies P here))
+    ] refl
 
 pub set_up_at : (replay : Replay) (plies : ℕ) (setup : Setup) (P : State) (is : Bool)
     → slice_get replay.positions plies ≡ Some P

@@ -1,25 +1,31 @@
 -- A position that is asked for by the first fields of a FEN.
-use Rattle.std.specs.Prelude.{◌≡◌, ◌≤◌, ℕ, Some}
+use Rattle.std.specs.Prelude.{◌≡◌, ◌≤◌, ◌↔◌, ℕ, true, Some}
 use Rattle.std.specs.List.{slice_get}
-use Rattle.chess.specs.Public.Squares.{Place, IsOnBoard}
-use Rattle.chess.specs.Public.Placements.{man_at}
 use Rattle.chess.specs.Public.Positions.{State, has_right}
+use Rattle.chess.specs.Public.Moves.{IsLegal, is_en_passant}
 use Rattle.chess.specs.declared.board.man.Side.{Side}
 use Rattle.chess.specs.declared.board.man.Wing.{Wing}
+use Rattle.chess.specs.declared.moves.Move.{Move}
 use Rattle.pgn_game.specs.Public.Replays.{Replay}
 use Rattle.pgn_criteria.specs.declared.setup.Setup.{Setup}
 
+-- the move takes a pawn en passant, and is legal
+pub record TakesEnPassant (P : State) (m : Move) : Type 0 where
+  pub capture : is_en_passant P m ≡ true
+  pub legal : IsLegal P m
+
 -- the position is that one in so many of the first four fields of its FEN
 pub record IsAlike (given : ℕ) (P Q : State) : Type 0 where
-  -- on each square stands the same man, or none
-  pub men : (s : Place) → IsOnBoard s → man_at P.men s ≡ man_at Q.men s
+  -- the same men stand on the same squares
+  pub men : P.men ≡ Q.men
   -- the same side is to move
   pub turn : 2 ≤ given → P.turn ≡ Q.turn
   -- the same rights to castle are held
   pub rights : 3 ≤ given → (side : Side) (wing : Wing)
       → has_right P.rights side wing ≡ has_right Q.rights side wing
-  -- the en passant square is the same, or there is none
-  pub en_passant : 4 ≤ given → P.en_passant ≡ Q.en_passant
+  -- the same moves take a pawn en passant (Laws 9.2): where none does, it is the same whether there
+  -- is an en passant square
+  pub en_passant : 4 ≤ given → (m : Move) → TakesEnPassant P m ↔ TakesEnPassant Q m
 
 -- the main line has a position after so many plies, and it is that one in the fields that are given
 abbrev pub IsSetUp : Replay → ℕ → Setup → Type 0
