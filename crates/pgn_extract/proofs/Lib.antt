@@ -21,3 +21,4 @@ pub mod NextLine
 pub mod NoteLines
 pub mod OneMain
 pub mod examples
+pub mod TwoFiles

@@ -17,7 +17,7 @@ use Rattle.pgn_extract.proofs.Common.{heading_of, Faulty, Matching, game_id}
 use Rattle.pgn_game.specs.Public.Faults.{BadStart}
 use Rattle.pgn_extract.specs.Public.Several.{IsOpened}
 use Rattle.pgn_extract.proofs.ChoiceFacts.{when_taken}
-use Rattle.pgn_extract.proofs.memory.TwoFiles.{plain}
+use Rattle.pgn_extract.proofs.TwoFiles.{plain}
 use Rattle.pgn_extract.specs.declared.settings.Mode.TheVariants as modes
 
 -- ---- lines

@@ -1,5 +1,5 @@
 use Rattle.pgn_extract.proofs.Common.{◌++◌, ◌∙◌, ap, take, IfOk-weaker, listing, job_of}
-use Rattle.pgn_extract.proofs.memory.TwoFiles.{listed_alone}
+use Rattle.pgn_extract.proofs.TwoFiles.{listed_alone}
 use Rattle.pgn_extract.proofs.memory.list_files.Goals as goal
 
 pub returns : goal.returns

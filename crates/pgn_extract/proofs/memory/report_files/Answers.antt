@@ -1,5 +1,5 @@
 use Rattle.pgn_extract.proofs.Common.{◌∙◌, ap, false, refl, job_of, Order}
-use Rattle.pgn_extract.proofs.memory.TwoFiles.{all_known, grown, two_too_long, two_written}
+use Rattle.pgn_extract.proofs.TwoFiles.{all_known, grown, two_too_long, two_written}
 use Rattle.pgn_extract.proofs.memory.report_files.Goals as goal
 
 pub returns-in-Ok-clause-written : goal.returns-in-Ok-clause-written
