@@ -2,7 +2,7 @@
 -- by the moves that take a pawn en passant.
 use Rattle.std.proofs.Common.{◌≡◌, ◌<◌, ◌≤◌, ℕ, Bool, true, false, Option, Some, List, [], ◌∷◌}
 use Rattle.std.proofs.Common.{None, refl, sym, ◌∙◌, subst, ap, inl, inr, arith, IsTrue, length}
-use Rattle.std.specs.Prelude.{◌↔◌, ◌⊎◌, ◌+◌, ◌-◌, ◌&&◌, ◌==◌, not, IfSome}
+use Rattle.std.specs.Prelude.{◌↔◌, ◌⊎◌, ◌+◌, ◌-◌, ◌&&◌, ◌==◌, not}
 use Rattle.std.specs.Bool.{beq}
 use Rattle.std.specs.FinMap.{entries, same_entries_map}
 use Rattle.std.proofs.lemmas.Bool.{and_parts, and_from, cases_eq}
@@ -10,11 +10,10 @@ use Rattle.std.proofs.lemmas.Bool.Decides.{nat_tests}
 use Rattle.std.specs.List.{slice_get}
 use Rattle.std.proofs.lemmas.Option.{slice_get_within}
 use Rattle.chess.specs.Public.Squares.{Place, IsOnBoard, gap}
-use Rattle.chess.specs.Public.Placements.{Placement, man_at, AreOnBoard, opposite}
-use Rattle.chess.specs.Public.Attacks.{IsForward, IsPawnAttack}
-use Rattle.chess.specs.Public.Positions.{State, IsSound, FitsEnPassant, has_right, passed_rank}
-use Rattle.chess.specs.Public.Moves.{Goes, IsPawnMove, IsLegal, Promotes, is_pawn, is_square}
-use Rattle.chess.specs.Public.Moves.{is_en_passant}
+use Rattle.chess.specs.Public.Placements.{Placement, man_at, AreOnBoard}
+use Rattle.chess.specs.Public.Attacks.{IsPawnAttack}
+use Rattle.chess.specs.Public.Positions.{State, has_right}
+use Rattle.chess.specs.Public.Moves.{Goes, IsPawnMove, is_pawn, is_square, is_en_passant}
 use Rattle.chess.specs.Shared.CellFacts.{same_men, on_board_or_not}
 use Rattle.chess.specs.declared.board.man.CastlingRights.{CastlingRights}
 use Rattle.chess.specs.declared.board.man.Man.{Man}
@@ -26,7 +25,7 @@ use Rattle.chess.specs.declared.board.man.Wing.{Wing}
 use Rattle.chess.specs.declared.board.man.Wing.TheVariants.{KingSide, QueenSide}
 use Rattle.chess.specs.declared.moves.Move.{Move}
 use Rattle.chess.proofs.KingFacts.{pawn_kind}
-use Rattle.chess.proofs.PlaceFacts.{cases_place, same_square-then, place_of}
+use Rattle.chess.proofs.PlaceFacts.{cases_place, same_square-then}
 use Rattle.chess.proofs.LegalSettled.{settled_legal}
 use Rattle.chess.proofs.Searches.{search_square, search_side, search_wing, search_any_kind}
 use Rattle.chess.proofs.Searches.{cases_side, cases_man}

@@ -12,8 +12,8 @@ use Rattle.chess.specs.Public.Moves.{is_en_passant, men_after}
 use Rattle.chess.specs.Public.Start.{initial, initial_man}
 use Rattle.chess.specs.declared.board.man.Side.TheVariants.{White, Black}
 use Rattle.chess.specs.declared.board.man.Wing.TheVariants.{KingSide}
-use Rattle.chess.proofs.FenReadBack.{fen_reads}
 use Rattle.chess.specs.declared.moves.Move.{Move}
+use Rattle.chess.proofs.FenReadBack.{fen_reads}
 use Rattle.chess.proofs.StartFacts.{initial_kept, initial_at}
 use Rattle.chess.proofs.examples.StartText.{initial_fen, initial_has_fen}
 use Rattle.pgn_game.specs.Public.Replays.{Replay}
