@@ -121,6 +121,14 @@ _pgn_extract_command() {
         mapfile -t COMPREPLY < <(compgen -W "first longest-tags" -- "$word")
         return
         ;;
+    --encoding)
+        mapfile -t COMPREPLY < <(compgen -W "cp1250 cp1251 cp1252 latin-1" -- "$word")
+        return
+        ;;
+    --language)
+        mapfile -t COMPREPLY < <(compgen -W "cs da de es et fi fr hu is it nl no pl pt ro sv" -- "$word")
+        return
+        ;;
     --by)
         mapfile -t COMPREPLY < <(compgen -W "year eco player event White Black Round Site Result" -- "$word")
         return
@@ -128,7 +136,13 @@ _pgn_extract_command() {
     --plies | --least | --jobs | --part | --sshlogin) return ;;
     esac
     case ${COMP_WORDS[0]##*/} in
-    pgn-mend) options+=' --dry-run --latin-1' ;;
+    pgn-mend)
+        options+=' --dry-run --summary --encoding --latin-1 --language'
+        options+=' --no-values --no-tags --no-missing-results --no-byte-order-marks --no-dos-ends'
+        options+=' --no-line-ends --no-utf-16 --no-compression --no-nested --no-signs --no-results'
+        options+=' --no-figurines --no-castling --no-en-passant --no-lower-case --no-languages'
+        options+=' --no-variants'
+        ;;
     pgn-tree) options+=' --plies --least --criteria --where' ;;
     pgn-unique) options+=' --keep --report --keep-faulty --against --keys --near --drop-near' ;;
     pgn-split) options+=' --by --to --force' ;;

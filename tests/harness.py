@@ -51,6 +51,8 @@ import make_games  # noqa: E402
 BUILT = TOP / "crates/cli/out/cli"
 # What the commands beside the program share.
 SHARED = TOP / "tools/pgn_tools.py"
+# What pgn-mend has for itself.
+MOVETEXT = TOP / "tools/pgn_movetext.py"
 # The variable by which tools are given a program.
 TOOL_VARIABLE = "PGN_EXTRACT"
 # The status of a run that was ended at its time limit, as timeout(1) has it.
@@ -388,7 +390,8 @@ UNSHOWN = b"x\x1b]0;y\x07\x7f\xc2\x9b31m\x9b\xff\r\nz"
 def copy_command(command, target):
     """Copies a command beside the program, and beside it what the commands share."""
     shutil.copy(command, target)
-    shutil.copy(SHARED, Path(target).parent)
+    for module in (SHARED, MOVETEXT):
+        shutil.copy(module, Path(target).parent)
 
 
 class MissingTool(Exception):
