@@ -45,7 +45,7 @@ settled_value (Text relation contents) given = settled_stands relation given con
 settled_value (Number comparison number) given = settled_number comparison given number
 settled_value (Date comparison days) given = settled_date comparison given days
 
-settled_one_of : (heading : Heading) (claim : ValueClaim (List ℕ)) (names : List (List ℕ))
+pub settled_one_of : (heading : Heading) (claim : ValueClaim (List ℕ)) (names : List (List ℕ))
     → Settled (HasOneOf heading claim names)
 settled_one_of heading claim [] = inr (λ h. h)
 settled_one_of heading claim (name ∷ more) =
@@ -148,7 +148,7 @@ settled_reached replay (suc plies) word on_board legal =
 
 -- ---- conditions, alternatives, criteria
 
-settled_taken : {A : Type 0} (denied : Bool) → Settled A → Settled (Taken denied A)
+pub settled_taken : {A : Type 0} (denied : Bool) → Settled A → Settled (Taken denied A)
 settled_taken false settled = settled
 settled_taken true (inl a) = inr (λ none. none a)
 settled_taken true (inr none) = inl none

@@ -10,6 +10,7 @@ pub mod Dates
 pub mod Conditions
 pub mod Mirrors
 pub mod Meeting
+pub mod Headings
 pub mod Walks
 pub mod Prefilters
 pub mod ByMarks

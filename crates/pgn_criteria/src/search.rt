@@ -11,6 +11,7 @@ ghost use Rattle.pgn_game.specs.Public.Starts.{fen_tag};
 ghost use Rattle.pgn_game.specs.declared.replays.replayer.Lines.TheVariants.{Main};
 ghost use Rattle.pgn_criteria.specs.Public.Prefilters.{MeetsSeen, NowhereSeen, codes_in};
 ghost use Rattle.pgn_criteria.specs.Public.Meeting.{Heading, heading_of, SomeHold, Meets};
+ghost use Rattle.pgn_criteria.specs.Public.Headings.{MayMeet};
 ghost use Rattle.pgn_criteria.specs.Private.Stages.{AllGood, AreLegal, EachAsksWithin};
 ghost use Rattle.pgn_criteria.specs.Public.Walks.{IsSeenOf};
 
@@ -135,6 +136,19 @@ impl Criteria {
             }
         }
         Ok(Some(Search { left }))
+    }
+
+    /// Whether the game can meet the criteria by its tags and its result: some alternative has no
+    /// condition on them that fails. No memory is needed.
+    pub fn may_be_of<'a>(&'a self, game: &RawGame<'a>) -> bool
+        ensures { IsTrue result ↔ MayMeet (heading_of game.now) self.now }
+    {
+        for alternative in &self.alternatives {
+            if alternative.is_of_heading(game) {
+                return true;
+            }
+        }
+        false
     }
 
     /// What the criteria ask of the positions of a packed game. Conditions on its tags and its
