@@ -34,7 +34,8 @@ pub use Rattle.pgn_extract.specs.Private.Packed.{raw_id, record_aim}
 pub use Rattle.pgn_extract.specs.Private.SearchSteps.{HasSearched}
 pub use Rattle.pgn_extract.specs.Private.SeveralPacks.{SearchesPath, SearchesPaths}
 pub use Rattle.pgn_extract.specs.Private.WalkedLines.{IsWalkedWith}
-pub use Rattle.pgn_extract.specs.Public.Aims.{Aim, GameId, IsEntry, IsMet, IsWanted, aim_of}
+pub use Rattle.pgn_extract.specs.Public.Aims.{Aim, GameId, HasNoChance, IsEntry, IsMet, IsRuledOut}
+pub use Rattle.pgn_extract.specs.Public.Aims.{IsWanted, aim_of}
 pub use Rattle.pgn_extract.specs.Public.Choices.{IfChosen, id_of, is_among, is_chosen, is_mark_of}
 pub use Rattle.pgn_extract.specs.Public.Exports.{AreExports, HasEntry, IsGameExport, IsPieceExport}
 pub use Rattle.pgn_extract.specs.Public.Exports.{IsSelected, IsTextOf, IsWritten, as_it_stands}
@@ -72,8 +73,9 @@ pub use Rattle.pgn_extract.specs.Public.Several.{IsOfPath, IsRead, IsRefused, Is
 pub use Rattle.pgn_extract.specs.Public.Several.{NamesUnopened, NoFile, Order, StopsAmong}
 pub use Rattle.pgn_extract.specs.Public.Several.{StopsAtPath, Unknown, WritesPaths, is_no_file}
 pub use Rattle.pgn_extract.specs.Public.Several.{name_at, order_at, own_summary, summary_text}
-pub use Rattle.pgn_extract.specs.Public.Verdicts.{AreEntryLines, AreVerdicts, FaultyGame, IsOutput}
-pub use Rattle.pgn_extract.specs.Public.Verdicts.{IsPieceVerdict, IsReplayed, IsReplayedGame}
+pub use Rattle.pgn_extract.specs.Public.Verdicts.{AreEntryLines, AreVerdicts, FaultyGame}
+pub use Rattle.pgn_extract.specs.Public.Verdicts.{IsGameReported, IsGameVerdict, IsOutput}
+pub use Rattle.pgn_extract.specs.Public.Verdicts.{IsPieceVerdict, IsReplayed}
 pub use Rattle.pgn_extract.specs.Public.Verdicts.{IsReportedBy, IsSameReport, IsUnreadableVerdict}
 pub use Rattle.pgn_extract.specs.Public.Verdicts.{IsVerdict, IsVerdictIn, SoundGame, Verdict}
 pub use Rattle.pgn_extract.specs.Public.Verdicts.{fault_line_of, fault_lines, is_faulty, output_of}

@@ -15,6 +15,7 @@ pub mod Picks
 pub mod Decided
 pub mod SomeReport
 pub mod StopNotes
+pub mod TagsFirst
 pub mod VerdictFacts
 pub mod Writing
 pub mod NextLine

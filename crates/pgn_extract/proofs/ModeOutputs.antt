@@ -7,12 +7,16 @@ use Rattle.pgn_extract.proofs.Common.{MarkedPiece, GameText, id_of, IfChosen, is
 use Rattle.pgn_extract.proofs.Common.{index_line, Entry, entry_line, listing, AreGameEntries}
 use Rattle.pgn_extract.proofs.Common.{ArePieceEntries, AreEntryRows, IsGameExport, IsPieceExport}
 use Rattle.pgn_extract.proofs.Common.{AreExports, faulty_text, Adds, Verdict, SoundGame, FaultyGame}
-use Rattle.pgn_extract.proofs.Common.{output_of, IsReplayed, output_text, IsVerdictIn}
+use Rattle.pgn_extract.proofs.Common.{output_of, IsReplayed, IsGameVerdict, output_text}
+use Rattle.pgn_extract.proofs.Common.{IsGameText, IsEntry, AreFields, heading_of, plies_of, Main}
+use Rattle.pgn_extract.proofs.Common.{written_lines, unselected, IsVerdictIn}
 use Rattle.pgn_extract.proofs.Common.{IsPieceVerdict, AreVerdicts, Aim, GameId}
 use Rattle.pgn_extract.specs.Private.EntryRows.{sound, faulty}
 use Rattle.pgn_extract.specs.Public.Exports.{sound as exported, faulty as unexported}
 use Rattle.pgn_extract.specs.Public.Laws.{RunIndexes, RunExports}
 use Rattle.pgn_extract.proofs.ChoiceFacts.{choice_of}
+use Rattle.pgn_extract.proofs.SomeReport.{answers}
+use Rattle.pgn_extract.proofs.TagsFirst.{either_way, no_entry, none_chosen, not_selected}
 use Rattle.pgn_extract.specs.declared.settings.Mode.TheVariants as modes
 
 -- the lines of entries, and then of others
@@ -33,6 +37,27 @@ of_game aim (SoundGame text) id game (replay, is, (entries, these, here)) =
 of_game aim (FaultyGame text line note) id game (fault, is, here, noted, empty) =
     ([], faulty fault is refl, empty)
 
+-- and where tags may come first
+of_game_verdict : (tags_first : Bool) (aim : Aim) (verdict : Verdict) (id : GameId)
+    (game : GameText) → IsGameText game → IsGameVerdict tags_first modes.List aim id game verdict
+    → (own : List Entry) × AreGameEntries aim id game own
+    × (output_of verdict ≡ listing aim.name own)
+of_game_verdict tags_first aim verdict id game text is =
+    elim (either_way tags_first modes.List aim id game verdict is) [
+      | inr replayed ↦ of_game aim verdict id game replayed
+      | inl (out, none) ↦ elim (answers Main game text) [
+        | inl (replay, is) ↦ (
+          [],
+          sound replay is
+              (none_chosen id (IsEntry aim (heading_of game) replay) (AreFields aim.fields replay)
+              (λ ply. no_entry aim (heading_of game) replay ply out)
+              (plies_of 0 replay.positions)),
+          ap output_of none,
+        )
+        | inr (fault, is) ↦ ([], faulty fault is refl, ap output_of none)
+      ]
+    ]
+
 -- a piece's entries
 of_piece : (kind : PieceKind) (aim : Aim) → aim.mode ≡ modes.List
     → (id : GameId) (verdict : Verdict) → IsPieceVerdict kind aim id verdict
@@ -40,7 +65,7 @@ of_piece : (kind : PieceKind) (aim : Aim) → aim.mode ≡ modes.List
     × (output_of verdict ≡ listing aim.name own)
 of_piece (ReadableGame parts) aim lists id verdict is =
     let (game, made, by) = subst (λ m. IsVerdictIn m aim id parts verdict) lists is in
-    let own = of_game aim verdict id game by in
+    let own = of_game_verdict aim.tags_first aim verdict id game made.0 by in
     (own.0, (game, made, own.1), own.2)
 of_piece (UnreadableRest bytes) aim lists id verdict (note, noted, names, is) =
     ([], refl, ap output_of is ∙ ap (λ m. faulty_text m aim.select bytes) lists)
@@ -80,13 +105,29 @@ export_of_game aim (SoundGame text) id game (replay, is, written) = exported rep
 export_of_game aim (FaultyGame text line note) id game (fault, is, here, noted, written) =
     unexported fault is written
 
+export_of_verdict : (tags_first : Bool) (aim : Aim) (verdict : Verdict) (id : GameId)
+    (game : GameText) → IsGameText game
+    → IsGameVerdict tags_first modes.Export aim id game verdict
+    → IsGameExport aim id game (output_of verdict)
+export_of_verdict tags_first aim verdict id game text is =
+    elim (either_way tags_first modes.Export aim id game verdict is) [
+      | inr replayed ↦ export_of_game aim verdict id game replayed
+      | inl (out, none) ↦ elim (answers (written_lines aim) game text) [
+        | inl (replay, is) ↦ exported replay is
+            (unselected (not_selected aim (heading_of game) replay out) (ap output_of none))
+        | inr (fault, is) ↦ unexported fault is
+            (ap output_of none
+            ∙ ap (λ s. faulty_text modes.Export s game.text) (sym out.select))
+      ]
+    ]
+
 -- a piece's export
 export_of_piece : (kind : PieceKind) (aim : Aim) → aim.mode ≡ modes.Export
     → (id : GameId) (verdict : Verdict) → IsPieceVerdict kind aim id verdict
     → IsPieceExport aim id kind (output_of verdict)
 export_of_piece (ReadableGame parts) aim exports id verdict is =
     let (game, made, by) = subst (λ m. IsVerdictIn m aim id parts verdict) exports is in
-    (game, made, export_of_game aim verdict id game by)
+    (game, made, export_of_verdict aim.tags_first aim verdict id game made.0 by)
 export_of_piece (UnreadableRest bytes) aim exports id verdict (note, noted, names, is) =
     ap output_of is ∙ ap (λ m. faulty_text m aim.select bytes) exports
 export_of_piece TooLongBlock aim exports id verdict (note, noted, is) = ap output_of is

@@ -221,6 +221,7 @@ listing_aim aim = record {
   form = aim.form;
   style = aim.style;
   explain = aim.explain;
+  tags_first = aim.tags_first;
 }
 
 -- the plies that are listed are the same whatever the mode

@@ -14,7 +14,7 @@ use Rattle.pgn_extract.proofs.Common.{cause_text, IsReplayOf, IsFaultOf, Form, S
 use Rattle.pgn_extract.proofs.Common.{Line, Record, line_with, lines_in, written_lines, HasEntry}
 use Rattle.pgn_extract.proofs.Common.{IsTextOf, IsWritten, selected, unselected, as_it_stands}
 use Rattle.pgn_extract.proofs.Common.{faulty_text, Verdict, SoundGame, FaultyGame, IsOutput}
-use Rattle.pgn_extract.proofs.Common.{IsReplayed, AreEntryLines, IsVerdictIn, IsReportedBy}
+use Rattle.pgn_extract.proofs.Common.{IsReplayed, IsGameVerdict, AreEntryLines, IsVerdictIn, IsReportedBy}
 use Rattle.pgn_extract.proofs.Common.{AreVerdicts, replayed_lines, IsPieceVerdict}
 use Rattle.pgn_extract.proofs.Common.{IsUnreadableVerdict, Replay, Heading, heading_of, Aim, GameId}
 use Rattle.pgn_extract.proofs.Common.{IsMet, IsWanted, IsEntry, Mode}
@@ -32,6 +32,8 @@ use Rattle.pgn_extract.proofs.ExactEntries.{within_plies}
 use Rattle.pgn_extract.proofs.Exported.{selected_or_not}
 use Rattle.pgn_extract.proofs.FieldTexts.{some_fields}
 use Rattle.pgn_extract.proofs.NoteLines.{empty_note, some_stop_note}
+use Rattle.pgn_extract.proofs.TagsFirst.{ruled_out_or_not}
+use Rattle.pgn_extract.specs.Public.Verdicts.IsPlayedOrNot.{played, unplayed}
 use Rattle.pgn_extract.specs.declared.settings.Mode.TheVariants as modes
 
 -- the parts of a game make one that a reader can be handed
@@ -78,7 +80,7 @@ blocks_made limit max_depth offset (block ∷ more) marks h =
     subst AreMade (sym h.2) (made_append h.0 h.1 first others)
 
 -- so its FEN tag has the contents of a string, and its variations are paired
-answers : (lines : Lines) (game : GameText) → IsGameText game
+pub answers : (lines : Lines) (game : GameText) → IsGameText game
     → ((replay : Replay) × IsReplayOf lines game replay)
     ⊎ ((fault : Fault) × IsFaultOf lines game fault)
 answers lines game is =
@@ -227,15 +229,24 @@ module _ (aim : Aim) (decided : IsDecided aim) (id : GameId) (game : GameText)
     )
   ]
 
+  -- and where tags may come first
+  game_verdict : (tags_first : Bool) (mode : Mode)
+      → (verdict : Verdict) × IsGameVerdict tags_first mode aim id game verdict
+  game_verdict false mode = game_replayed mode
+  game_verdict true mode = elim (ruled_out_or_not aim (heading_of game)) [
+    | inl out ↦ (SoundGame [], unplayed out refl)
+    | inr not_out ↦ let own = game_replayed mode in (own.0, played not_out own.1)
+  ]
+
 game_reported : (aim : Aim) → IsDecided aim → (id : GameId) (parts : List Part)
     → IsMade (ReadableGame parts)
     → (mode : Mode) → (verdict : Verdict) × IsVerdictIn mode aim id parts verdict
 game_reported aim decided id parts made modes.Index = (SoundGame (mark_line aim.name id), refl)
 game_reported aim decided id parts made modes.List =
-    let own = game_replayed aim decided id made.0 made.1.0 modes.List in
+    let own = game_verdict aim decided id made.0 made.1.0 aim.tags_first modes.List in
     (own.0, (made.0, made.1, own.1))
 game_reported aim decided id parts made modes.Export =
-    let own = game_replayed aim decided id made.0 made.1.0 modes.Export in
+    let own = game_verdict aim decided id made.0 made.1.0 aim.tags_first modes.Export in
     (own.0, (made.0, made.1, own.1))
 
 by_line : (aim : Aim) (line : List ℕ) → (verdict : Verdict) × IsReportedBy aim [] line verdict

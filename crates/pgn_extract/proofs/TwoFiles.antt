@@ -34,7 +34,8 @@ all_known first second = λ i d within. two_known first second (get_or three_pat
 pub plain : (order : Order) (text output report : List ℕ) → order.summary ≡ false →
     (read : IsRead order text output report) → report ≡ read.faults
 plain order text output report off read =
-    read.is ∙ ap (λ asked. read.faults ++ own_summary asked order.job.aim.name read.summary) off ∙
+    read.is ∙ ap (λ asked. read.faults ++ own_summary asked order.job.aim.tags_first
+    order.job.aim.name read.summary) off ∙
     append-nil read.faults
 
 -- an empty writer that grew by some bytes has just those

@@ -10,3 +10,4 @@ pub mod PackTaken
 pub mod PartsReported
 pub mod Resumed
 pub mod ShownNames
+pub mod TaggedOutput

@@ -367,23 +367,25 @@ fn end_task<E: Write>(
             }
         }
     }
-    match end_runs(task.alloc, err, task.summary, total) {
+    let tags_first = task.settings.tags_first;
+    match end_runs(task.alloc, err, task.summary, tags_first, total) {
         SOUND if is_short => FAULTY,
         status => status,
     }
 }
 
 /// Ends runs that came to the ends of their inputs, with a summary where it is asked for: the
-/// status.
+/// status. Where tags came first, the summary says how many games were not played.
 pub(crate) fn end_runs<E: Write>(
     alloc: Global,
     err: &mut Tally<E>,
     asked: bool,
+    tags_first: bool,
     total: &Total,
 ) -> u8
     requires { err.old.faulted ≡ false }
 {
-    if asked && let Err(error) = put_summary(alloc, err, &None, &total.summary) {
+    if asked && let Err(error) = put_summary(alloc, err, &None, &total.summary, tags_first) {
         report_line(err, line_of(error));
         return FAILED;
     }

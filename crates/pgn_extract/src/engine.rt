@@ -64,6 +64,7 @@ fn run_blocks<R: Read, O: Write, E: Write>(
     let mut report = Report::new(alloc, first_line(settings));
     let mut games = 0;
     let mut faulty = 0;
+    let mut unplayed = 0u64;
     loop {
         match blocks.next(input) {
             Ok(Some(block)) => {
@@ -72,6 +73,7 @@ fn run_blocks<R: Read, O: Write, E: Write>(
                     Ok(own) => {
                         games += own.games;
                         faulty += own.faulty;
+                        unplayed = unplayed.saturating_add(own.unplayed);
                     }
                     Err(error) => return Err(error),
                 }
@@ -81,6 +83,7 @@ fn run_blocks<R: Read, O: Write, E: Write>(
                     return Ok(Summary {
                         games,
                         faulty,
+                        unplayed,
                         met: report.met,
                     });
                 }

@@ -5,7 +5,8 @@ ghost use Rattle.pgn_game.specs.Public.Faults.{IsFault};
 ghost use Rattle.pgn_game.specs.Public.Replays.{fault_of};
 ghost use Rattle.pgn_game.specs.Public.Starts.{fen_tag};
 ghost use Rattle.pgn_game.specs.declared.replays.replayer.Lines.TheVariants.{Main};
-ghost use Rattle.pgn_extract.specs.Public.Aims.{aim_of};
+ghost use Rattle.pgn_criteria.specs.Public.Meeting.{heading_of};
+ghost use Rattle.pgn_extract.specs.Public.Aims.{HasNoChance, IsRuledOut, aim_of};
 ghost use Rattle.pgn_extract.specs.Private.Finding.{AddsEntries, StopsAtFault, IsChosen};
 
 pub(crate) mod finding;
@@ -21,7 +22,8 @@ use crate::entries::kept::{Kept, has_kept};
 use crate::entries::played::{Anything, find_played};
 use crate::marks::GameId;
 use crate::output::texts::{MARK_ROOM, push_named_mark};
-use crate::settings::{Fields, Settings};
+use crate::settings::{Fields, Select, Settings};
+use pgn_criteria::Criteria;
 use pgn_game::{GameFault, count_plies};
 use pgn_text::RawGame;
 use std::alloc::Global;
@@ -80,6 +82,27 @@ fn is_within(settings: &Settings, plies: usize) -> bool
         × (ply ≤ settings.now.max_ply)) }
 {
     settings.min_ply <= settings.max_ply && settings.min_ply as usize <= plies
+}
+
+/// Whether by its tags and its result a game can have no entry: they meet those conditions of no
+/// alternative.
+fn has_no_chance<'a>(criteria: &'a Option<Criteria>, game: &RawGame<'a>) -> bool
+    ensures { IsTrue result ↔ HasNoChance criteria.now (heading_of game.now) }
+{
+    match criteria {
+        Some(criteria) => !criteria.may_be_of(game),
+        None => false,
+    }
+}
+
+/// Whether a game is not to be played: tags come first, and its tags and result keep it from having
+/// an entry, where only games with one are looked for.
+pub fn is_ruled_out<'a>(settings: &'a Settings, game: &RawGame<'a>) -> bool
+    ensures { IsTrue result ↔ IsRuledOut (aim_of settings.now) (heading_of game.now) }
+{
+    settings.tags_first
+        && settings.select == Select::Matching
+        && has_no_chance(&settings.criteria, game)
 }
 
 /// Whether a game has an entry, or the fault of its main line.

@@ -9,6 +9,7 @@ ghost use Rattle.pgn_extract.specs.Public.Laws.{PackIsListedAsItsText, NamesAreS
 ghost use Rattle.pgn_extract.specs.Public.Laws.{FirstChangesNoExport, PieceIsInOneExport};
 ghost use Rattle.pgn_extract.specs.Public.Laws.{NoteNamesTheStop, NoNotes};
 ghost use Rattle.pgn_extract.specs.Public.Laws.{PartsJoin, PartsAreReported};
+ghost use Rattle.pgn_extract.specs.Public.Laws.{TagsFirstChangesNoOutput};
 ghost use Rattle.pgn_extract.specs.Public.Laws.{RunIndexes, RunExports, RunResumes};
 
 /// The pieces of each text have entries, and these are one list: the plies of its sound games that
@@ -40,6 +41,11 @@ pub fn one_export()
 /// The exports are the same whether the first entry of each game is asked for or all.
 pub fn first_changes_no_export()
     ensures { FirstChangesNoExport }
+{}
+
+/// The same goes to the output whether tags come first or not.
+pub fn tags_first_change_no_output()
+    ensures { TagsFirstChangesNoOutput }
 {}
 
 /// Each piece is in just one of three exports, as it stands: of the games with an entry, of those

@@ -99,6 +99,9 @@ pub struct Settings {
     pub style: Style,
     /// Whether notes stand after the lines of faulty games: where a game is faulty, and why.
     pub explain: bool,
+    /// Whether a game whose tags and result keep it from having an entry is read, and not played.
+    /// It has an effect only where games with an entry are looked for.
+    pub tags_first: bool,
     /// The number of the first piece that the run meets.
     pub number: u64,
     /// How many bytes of the input are dropped first, and the offset of the first byte after them.

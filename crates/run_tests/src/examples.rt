@@ -94,6 +94,7 @@ fn plies(first: bool) -> Settings
         form: Form::Standard,
         style: WHOLE,
         explain: false,
+        tags_first: false,
         number: 1,
         offset: 0,
     }

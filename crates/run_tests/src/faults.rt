@@ -48,6 +48,7 @@ fn settings_of(mode: Mode, number: u64, offset: u64) -> Settings
         form: Form::Standard,
         style: PLAIN,
         explain: false,
+        tags_first: false,
         number,
         offset,
     }

@@ -102,8 +102,13 @@ impl Trial {
     /// Whether the run ended well, with these counts and everything flushed, and the writers hold
     /// these bytes.
     pub fn is_whole(&self, games: u64, faulty: u64, out: &[u8], err: &[u8]) -> bool {
-        let met = Met::NONE;
-        self.answer == Ok(Summary { games, faulty, met })
+        let summary = Summary {
+            games,
+            faulty,
+            unplayed: 0,
+            met: Met::NONE,
+        };
+        self.answer == Ok(summary)
             && self.faulted == [false, false, false]
             && self.flushed
             && self.holds(out, err)

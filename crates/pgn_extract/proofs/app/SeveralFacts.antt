@@ -113,7 +113,8 @@ unopened_path order path (FileOf text) kind line known refused other names = abs
 pub read_of : (order : Order) (text : List ℕ) (io : Io) (summary : Summary)
     → (done : Completes order.job io (take order.end text) summary)
     → IsRead order text (output_text done.verdicts)
-    (fault_lines done.verdicts ++ own_summary order.summary order.job.aim.name summary)
+    (fault_lines done.verdicts ++ own_summary order.summary order.job.aim.tags_first
+    order.job.aim.name summary)
 read_of order text io summary done = record {
   faults = fault_lines done.verdicts;
   summary = summary;
@@ -141,13 +142,15 @@ taken_to end left taken limit P at same is =
 read_out : (order : Order) (left : Option (List ℕ)) (io : Io) (summary : Summary)
     (err : Option (List ℕ))
     → IfSome (option_map (take order.end) left) (λ whole. Completes order.job io whole summary)
-    → Appends io.err.new.bytes err (own_summary order.summary order.job.aim.name summary)
+    → Appends io.err.new.bytes err (own_summary order.summary order.job.aim.tags_first
+    order.job.aim.name summary)
     → IfSome left (λ text. (output : List ℕ) × (report : List ℕ) × IsRead order text output report
     × Appends io.out.old.bytes io.out.new.bytes output × Appends io.err.old.bytes err report)
 read_out order None io summary err done after = tt
 read_out order (Some text) io summary err done after = (
   output_text done.verdicts,
-  fault_lines done.verdicts ++ own_summary order.summary order.job.aim.name summary,
+  fault_lines done.verdicts ++ own_summary order.summary order.job.aim.tags_first
+      order.job.aim.name summary,
   read_of order text io summary done,
   done.written.output,
   appends_join io.err.old.bytes io.err.new.bytes err (fault_lines done.verdicts) _
@@ -158,7 +161,8 @@ read_out order (Some text) io summary err done after = (
 pub read_to_end : (order : Order) (left taken : Option (List ℕ)) (limit : ℕ) (io : Io)
     (summary : Summary) (err : Option (List ℕ)) → limit ≡ order.end → taken ≡ left
     → IfSome (option_map (take limit) taken) (λ whole. Completes order.job io whole summary)
-    → Appends io.err.new.bytes err (own_summary order.summary order.job.aim.name summary)
+    → Appends io.err.new.bytes err (own_summary order.summary order.job.aim.tags_first
+    order.job.aim.name summary)
     → IfSome left (λ text. (output : List ℕ) × (report : List ℕ) × IsRead order text output report
     × Appends io.out.old.bytes io.out.new.bytes output × Appends io.err.old.bytes err report)
 read_to_end order left taken limit io summary err at same done after =

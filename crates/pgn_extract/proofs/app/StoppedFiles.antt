@@ -29,7 +29,8 @@ report_text order pieces verdicts =
       faulty = count_by is_faulty verdicts;
       met = none_met;
     } in
-    fault_lines verdicts ++ own_summary order.summary order.job.aim.name summary
+    fault_lines verdicts ++ own_summary order.summary order.job.aim.tags_first
+    order.job.aim.name summary
 
 read_by : (order : Order) (text : List ℕ) (pieces : List MarkedPiece) (verdicts : List Verdict)
     → ArePieces order.job (take order.end text) pieces
@@ -114,11 +115,13 @@ text_begun order path text io begun = record {
 -- its report is written, and a beginning of the line after it
 line_begun : (order : Order) (path text : List ℕ) (io : Io) (summary : Summary) (err : Stream)
     → Completes order.job io (take order.end text) summary
-    → AppendsFront io.err.new.bytes err.bytes (own_summary order.summary order.job.aim.name summary)
+    → AppendsFront io.err.new.bytes err.bytes (own_summary order.summary order.job.aim.tags_first
+    order.job.aim.name summary)
     → BeginsPath order path (FileOf text) io.out (record { old = io.err.old; new = err })
 line_begun order path text io summary err done line = record {
   output = output_text done.verdicts;
-  report = fault_lines done.verdicts ++ own_summary order.summary order.job.aim.name summary;
+  report = fault_lines done.verdicts ++ own_summary order.summary order.job.aim.tags_first
+      order.job.aim.name summary;
   is = read_of order text io summary done;
   outputs = front_all io.out.old.bytes io.out.new.bytes (output_text done.verdicts)
       done.written.output;
@@ -164,7 +167,8 @@ stops_to_end error order left taken limit io at same stops =
 line_of : (error : RunError) (order : Order) (left : Option (List ℕ)) (io : Io) (summary : Summary)
     (err : Stream) → (error ≡ Write) ⊎ (error ≡ OutOfMemory)
     → IfSome (option_map (take order.end) left) (λ whole. Completes order.job io whole summary)
-    → AppendsFront io.err.new.bytes err.bytes (own_summary order.summary order.job.aim.name summary)
+    → AppendsFront io.err.new.bytes err.bytes (own_summary order.summary order.job.aim.tags_first
+    order.job.aim.name summary)
     → IfSome left (λ text. (path : List ℕ) → StopsAtPath error order path (FileOf text) io.out
     (record { old = io.err.old; new = err }))
 line_of error order None io summary err late done line = tt
@@ -177,7 +181,8 @@ pub stops_at_line : (error : RunError) (order : Order) (left taken : Option (Lis
     (io : Io) (summary : Summary) (err : Stream)
     → (error ≡ Write) ⊎ (error ≡ OutOfMemory) → limit ≡ order.end → taken ≡ left
     → IfSome (option_map (take limit) taken) (λ whole. Completes order.job io whole summary)
-    → AppendsFront io.err.new.bytes err.bytes (own_summary order.summary order.job.aim.name summary)
+    → AppendsFront io.err.new.bytes err.bytes (own_summary order.summary order.job.aim.tags_first
+    order.job.aim.name summary)
     → IfSome left (λ text. (path : List ℕ) → StopsAtPath error order path (FileOf text) io.out
     (record { old = io.err.old; new = err }))
 stops_at_line error order left taken limit io summary err late at same done line =

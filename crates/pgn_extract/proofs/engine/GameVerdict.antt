@@ -9,12 +9,12 @@ use Rattle.pgn_extract.proofs.Common.{AddsMark, IsPieceOf, AddsPiece, by_itself,
 use Rattle.pgn_extract.proofs.Common.{IsMarkReport, NamesBlockStop, IsMarkVerdict, fault_text}
 use Rattle.pgn_extract.proofs.Common.{mark_line, IsGameOf, faulty_text, NamesByte, NamesStop}
 use Rattle.pgn_extract.proofs.Common.{Verdict, SoundGame, FaultyGame, output_of, fault_line_of}
-use Rattle.pgn_extract.proofs.Common.{is_faulty, IsReplayedGame, IsVerdictIn, IsUnreadableVerdict}
+use Rattle.pgn_extract.proofs.Common.{is_faulty, IsGameReported, IsVerdictIn, IsUnreadableVerdict}
 use Rattle.pgn_extract.proofs.Common.{Report, Aim, GameId, Mode}
 use Rattle.pgn_text.specs.Public.Left.{IsPiece}
 use Rattle.pgn_text.proofs.StopsThere.{stops_alone}
 use Rattle.pgn_text.specs.declared.game.pieces.Piece.{Piece}
-use Rattle.pgn_extract.specs.Private.Blockwise.{AddsGame, AddsReplayed, IsBlockVerdict}
+use Rattle.pgn_extract.specs.Private.Blockwise.{AddsGame, AddsSearched, IsBlockVerdict}
 use Rattle.pgn_extract.proofs.ChoiceFacts.{if_passed, if_taken}
 use Rattle.pgn_extract.proofs.engine.RestOfBlock.{rest_of_block}
 use Rattle.pgn_text.specs.Public.Pieces as spec
@@ -53,16 +53,16 @@ sound_added {old} output faults games faulty = record {
   faulty = faulty ∙ omega arith;
 }
 
--- but for the index a game is reported by its replay
+-- but for the index a game is reported by itself
 replayed_in : (mode : Mode) (aim : Aim) (id : GameId) (parts : List Part) (verdict : Verdict)
-    → (mode ≡ modes.Index → ⊥) → IsReplayedGame mode aim id parts verdict
+    → (mode ≡ modes.Index → ⊥) → IsGameReported mode aim id parts verdict
     → IsVerdictIn mode aim id parts verdict
 replayed_in modes.Index aim id parts verdict other is = absurd (other refl)
 replayed_in modes.List aim id parts verdict other is = is
 replayed_in modes.Export aim id parts verdict other is = is
 
 pub game_added : (aim : Aim) {old new : Report} (id : GameId) (game : GameText) → IsGameText game
-    → (aim.mode ≡ modes.Index → ⊥) → AddsReplayed aim.mode aim old new id game
+    → (aim.mode ≡ modes.Index → ⊥) → AddsSearched aim.mode aim old new id game
     → AddsGame aim old new id game
 game_added aim id game text other (verdict, is, adds) at parts shows = (
   verdict,

@@ -138,7 +138,8 @@ not_another_name names =
 -- ---- summaries
 
 -- one game, and several, of which the second number is that of the faulty ones
-one_game : summary_text None (record { games = 1; faulty = 0; met = none_met })
+one_game : summary_text false None
+    (record { games = 1; faulty = 0; unplayed = 0; met = none_met })
     ≡ codes "pgn-extract: 1 game, 0 of them faulty" ++ 10 ∷ []
 one_game =
     ap (λ d. codes "pgn-extract: " ++ d ++ codes " game, " ++ decimal 0 ++ codes " of them faulty"
@@ -147,7 +148,8 @@ one_game =
     ∙ ap (λ d. codes "pgn-extract: 1 game, " ++ d ++ codes " of them faulty" ++ 10 ∷ [])
     (decimal_digit 0 (omega arith))
 
-games_of_a_file : summary_text (Some (codes "a")) (record { games = 3; faulty = 2; met = none_met })
+games_of_a_file : summary_text false (Some (codes "a"))
+    (record { games = 3; faulty = 2; unplayed = 0; met = none_met })
     ≡ codes "pgn-extract: a: 3 games, 2 of them faulty" ++ 10 ∷ []
 games_of_a_file =
     ap (λ d. codes "pgn-extract: a: " ++ d ++ codes " games, " ++ decimal 2 ++ codes
@@ -156,11 +158,27 @@ games_of_a_file =
     ∙ ap (λ d. codes "pgn-extract: a: 3 games, " ++ d ++ codes " of them faulty" ++ 10 ∷ [])
     (decimal_digit 2 (omega arith))
 
+-- where tags come first, how many were not played stands at the end
+games_not_played : summary_text true None
+    (record { games = 3; faulty = 1; unplayed = 2; met = none_met })
+    ≡ codes "pgn-extract: 3 games, 1 of them faulty, 2 not played" ++ 10 ∷ []
+games_not_played =
+    ap (λ d. codes "pgn-extract: " ++ d ++ codes " games, " ++ decimal 1 ++ codes
+    " of them faulty" ++ (codes ", " ++ decimal 2 ++ codes " not played") ++ 10 ∷ [])
+    (decimal_digit 3 (omega arith))
+    ∙ ap (λ d. codes "pgn-extract: 3 games, " ++ d ++ codes " of them faulty"
+    ++ (codes ", " ++ decimal 2 ++ codes " not played") ++ 10 ∷ [])
+    (decimal_digit 1 (omega arith))
+    ∙ ap (λ d. codes "pgn-extract: 3 games, 1 of them faulty, " ++ d ++ codes " not played"
+    ++ 10 ∷ []) (decimal_digit 2 (omega arith))
+
 -- a file has a line where it is asked for and lines have names
-own_summaries : (name : List ℕ) (summary : Summary) → (own_summary false (Some name) summary ≡ [])
-    × (own_summary true None summary ≡ [])
-    × (own_summary true (Some name) summary ≡ summary_text (Some name) summary)
-own_summaries name summary = (refl, refl, refl)
+own_summaries : (tags_first : Bool) (name : List ℕ) (summary : Summary)
+    → (own_summary false tags_first (Some name) summary ≡ [])
+    × (own_summary true tags_first None summary ≡ [])
+    × (own_summary true tags_first (Some name) summary
+    ≡ summary_text tags_first (Some name) summary)
+own_summaries tags_first name summary = (refl, refl, refl)
 
 -- ---- where runs over files end early
 

@@ -168,16 +168,26 @@ just_the_report = plain
 -- with one and a name, the line after it counts the pieces of the report and the faulty ones
 summary_counts : (order : Order) (name text output report : List ℕ) → order.summary ≡ true
     → order.job.aim.name ≡ Some name → (read : IsRead order text output report)
-    → report ≡ read.faults ++ summary_text (Some name) (record {
+    → report ≡ read.faults ++ summary_text order.job.aim.tags_first (Some name) (record {
       games = length read.reported.pieces;
       faulty = count_by is_faulty read.reported.verdicts;
+      unplayed = read.summary.unplayed;
       met = read.summary.met;
     })
 summary_counts order name text output report asked named read =
-    read.is ∙ ap (λ asked. read.faults ++ own_summary asked order.job.aim.name read.summary) asked
-    ∙ ap (λ name. read.faults ++ own_summary true name read.summary) named
-    ∙ ap (λ games. read.faults ++ summary_text (Some name)
-    (record { games = games; faulty = read.summary.faulty; met = read.summary.met })) read.games
-    ∙ ap (λ faulty. read.faults ++ summary_text (Some name)
-    (record { games = length read.reported.pieces; faulty = faulty; met = read.summary.met }))
-    read.faulty
+    let tags_first = order.job.aim.tags_first in
+    let unplayed = read.summary.unplayed in
+    let met = read.summary.met in
+    read.is
+    ∙ ap (λ asked. read.faults ++ own_summary asked tags_first order.job.aim.name read.summary)
+    asked
+    ∙ ap (λ name. read.faults ++ own_summary true tags_first name read.summary) named
+    ∙ ap (λ games. read.faults ++ summary_text tags_first (Some name)
+    (record { games = games; faulty = read.summary.faulty; unplayed = unplayed; met = met }))
+    read.games
+    ∙ ap (λ faulty. read.faults ++ summary_text tags_first (Some name) (record {
+      games = length read.reported.pieces;
+      faulty = faulty;
+      unplayed = unplayed;
+      met = met;
+    })) read.faulty

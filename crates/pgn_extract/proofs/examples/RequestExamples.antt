@@ -49,6 +49,7 @@ plain request = record request {
   min_ply = 0;
   max_ply = 2 ^ 32 - 1;
   first = false;
+  tags_first = false;
   fen = false;
   next = false;
   others = false;
@@ -98,6 +99,13 @@ both_notations = codes "pgn-extract: --moves and --uci exclude each other\n"
 abbrev no_lines_of_moves : List ℕ
 no_lines_of_moves =
     codes "pgn-extract: --moves and --uci go with none of --list, --index, --faulty and --as-is\n"
+
+abbrev no_tags_to_meet : List ℕ
+no_tags_to_meet = codes "pgn-extract: --tags-first goes with --criteria or --where\n"
+
+abbrev tags_are_not_first : List ℕ
+tags_are_not_first =
+    codes "pgn-extract: --tags-first goes with none of --index, --packed, --others, --faulty and --pack\n"
 
 abbrev both_namings : List ℕ
 both_namings = codes "pgn-extract: --with-names and --no-names exclude each other\n"
@@ -209,6 +217,33 @@ several_files : (request : Request) → has_several_files request ≡ true → g
     × RefusedWith (record (marked request) { with_names = true; no_names = true }) both_namings
 several_files request several mark = (rw (mark, several) refl, refl)
 
+-- tags come first where criteria are given, and not where each game is looked at
+abbrev tagged : Request → Bor (List ℕ) → Request
+tagged request path = record (plain request) { tags_first = true; criteria = Some path }
+
+tags_come_first : (request : Request) (path : Bor (List ℕ))
+    → (first_line (option_refusals (tagged request path)) ≡ None)
+    × (first_line (option_refusals (record (tagged request path) { list = true })) ≡ None)
+    × RefusedWith (record (tagged request path) { index = true }) tags_are_not_first
+    × RefusedWith (record (tagged request path) { list = true; packed = true }) tags_are_not_first
+    × RefusedWith (record (tagged request path) { others = true }) tags_are_not_first
+    × RefusedWith (record (tagged request path) { faulty = true }) tags_are_not_first
+    × RefusedWith (record (tagged request path) { pack = true }) tags_are_not_first
+    × RefusedWith (record (tagged request path) { others = true; with_names = true; no_names = true })
+    tags_are_not_first
+tags_come_first request path = (refl, refl, refl, refl, refl, refl, refl, refl)
+
+tags_of_what : (request : Request) → request.conditions.items ≡ []
+    → RefusedWith (record (plain request) { tags_first = true; criteria = None }) no_tags_to_meet
+    × RefusedWith (record (plain request) { tags_first = true; criteria = None; index = true })
+    no_tags_to_meet
+tags_of_what request none = (rw none refl, rw none refl)
+
+tags_of_a_line : (request : Request) (line : Bor (List ℕ)) → request.conditions.items ≡ line ∷ []
+    → first_line (option_refusals (record (plain request) { tags_first = true; criteria = None }))
+    ≡ None
+tags_of_a_line request line only = rw only refl
+
 nothing_refused : (request : Request) → first_line (option_refusals (plain request)) ≡ None
 nothing_refused request = refl
 
@@ -313,13 +348,32 @@ each_asked : (request : Request)
     × ((asked false (record (plain request) { min_ply = 7 }) None None).min_ply ≡ 7)
     × ((asked false (record (plain request) { max_ply = 7 }) None None).max_ply ≡ 7)
     × ((asked false (record (plain request) { first = true }) None None).first ≡ true)
+    × ((asked false (record (plain request) { tags_first = true }) None None).tags_first ≡ true)
+    × ((asked false (plain request) None None).tags_first ≡ false)
     × ((asked false (record (plain request) { fen = true }) None None).fields
     ≡ record { fen = true; next = false })
     × ((asked false (record (plain request) { next = true }) None None).fields
     ≡ record { fen = false; next = true }) × ((asked true (plain request) None None).explain ≡ true)
     × ((asked false (plain request) None (Some [])).chosen ≡ Some [])
-each_asked request =
-    (refl, refl, refl, refl, refl, refl, refl, refl, refl, refl, refl, refl, refl, refl, refl)
+each_asked request = (
+  refl,
+  refl,
+  refl,
+  refl,
+  refl,
+  refl,
+  refl,
+  refl,
+  refl,
+  refl,
+  refl,
+  refl,
+  refl,
+  refl,
+  refl,
+  refl,
+  refl,
+)
 
 criteria_are_asked : (noted : Bool) (request : Request)
     (criteria : Option (List Conditions)) (chosen : Option (List GameId))

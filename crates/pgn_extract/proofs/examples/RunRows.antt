@@ -21,7 +21,7 @@ use Rattle.pgn_extract.proofs.Common.{IsIndexOfSoundGames, IsPackOf, IsRecordLis
 use Rattle.pgn_extract.proofs.Common.{ListsWhatWasPacked, of_all, AtPath, FileOf, IsOfPath}
 use Rattle.pgn_extract.proofs.Common.{IsReport, NamesUnopened, NoFile, Order, Unknown, IsRead}
 use Rattle.pgn_extract.proofs.Common.{WritesPaths, SearchesPath, SearchesPaths, AreVerdicts}
-use Rattle.pgn_extract.proofs.Common.{IsReplayedGame, Verdict, fault_lines, output_text}
+use Rattle.pgn_extract.proofs.Common.{IsGameReported, Verdict, fault_lines, output_text}
 use Rattle.pgn_extract.proofs.Common.{StopsAmongPacks, StopsAtPack, Request, PackFailure, RunError}
 use Rattle.pgn_extract.proofs.Common.{Summary, SearchError, BadPack, Record, Standard}
 use Rattle.pgn_text.specs.Public.Complete.{AreCompleteBlocks}
@@ -89,7 +89,7 @@ no_export_of_another_game aim id parts text none is = none is.0 is.1
 
 no_verdict_on_another_game : (aim : Aim) (id : GameId) (parts : List Part) (verdict : Verdict)
     → ((game : GameText) → IsGameOf parts game → ⊥)
-    → IsReplayedGame modes.List aim id parts verdict → ⊥
+    → IsGameReported modes.List aim id parts verdict → ⊥
 no_verdict_on_another_game aim id parts verdict none is = none is.0 is.1
 
 -- Runs.

@@ -7,7 +7,9 @@ use Rattle.pgn_extract.proofs.Common.{Replay, fen_tag, heading_of, Form, Standar
 use Rattle.pgn_extract.proofs.Common.{Record, line_with, IsTextOf, IsWritten, selected, unselected}
 use Rattle.pgn_extract.proofs.Common.{faulty_text, fault_text, AreFields, listing, plies_of}
 use Rattle.pgn_extract.proofs.Common.{cause_text, IsNote, Verdict, SoundGame, FaultyGame}
-use Rattle.pgn_extract.proofs.Common.{AreEntryLines, IsOutput, IsReplayed, IsReplayedGame}
+use Rattle.pgn_extract.proofs.Common.{AreEntryLines, IsOutput, IsGameReported, IsGameVerdict}
+use Rattle.pgn_extract.proofs.Common.{Bool, true, IsReplayed}
+use Rattle.pgn_extract.specs.Public.Verdicts.IsPlayedOrNot.{played, unplayed}
 use Rattle.pgn_extract.proofs.Common.{replayed_lines, IsVerdictIn, IsReportedBy, IsPieceVerdict}
 use Rattle.pgn_extract.proofs.Common.{AreVerdicts, without_note, IsUnreadableVerdict, Aim, GameId}
 use Rattle.pgn_extract.proofs.Common.{IsEntry, id_of, is_chosen, Mode}
@@ -73,7 +75,7 @@ reported_by : (aim : Aim) (offset : ℕ) (bytes line : List ℕ) (v : Verdict)
 reported_by aim offset bytes line v (note, noted, names, is) = (note, noted, is)
 
 -- a game by its replay
-one_replayed : (mode : Mode) (aim : Aim) (id : GameId) (game : GameText) (a b : Verdict)
+pub one_replayed : (mode : Mode) (aim : Aim) (id : GameId) (game : GameText) (a b : Verdict)
     → IsReplayed mode aim id game a → IsReplayed mode aim id game b
     → without_note a ≡ without_note b
 one_replayed mode aim id game (SoundGame x) (SoundGame y) (first, is, text) (second, also, other) =
@@ -99,12 +101,25 @@ one_replayed mode aim id game (FaultyGame w x u) (FaultyGame z y v)
     (one_fault (replayed_lines mode aim) (tag_in fen_tag game.tags) game.elements first second
     is also) ∙ sym other)
 
+-- and where tags may come first
+one_of_game : (tags_first : Bool) (mode : Mode) (aim : Aim) (id : GameId) (game : GameText)
+    (a b : Verdict) → IsGameVerdict tags_first mode aim id game a
+    → IsGameVerdict tags_first mode aim id game b → without_note a ≡ without_note b
+one_of_game false mode aim id game a b x y = one_replayed mode aim id game a b x y
+one_of_game true mode aim id game a b (unplayed out x) (unplayed also y) =
+    ap without_note (x ∙ sym y)
+one_of_game true mode aim id game a b (unplayed out x) (played none y) = absurd (none out)
+one_of_game true mode aim id game a b (played none x) (unplayed out y) = absurd (none out)
+one_of_game true mode aim id game a b (played none x) (played also y) =
+    one_replayed mode aim id game a b x y
+
 one_of_parts : (mode : Mode) (aim : Aim) (id : GameId) (parts : List Part) (a b : Verdict)
-    → IsReplayedGame mode aim id parts a → IsReplayedGame mode aim id parts b
+    → IsGameReported mode aim id parts a → IsGameReported mode aim id parts b
     → without_note a ≡ without_note b
 one_of_parts mode aim id parts a b (game, is, x) (other, also, y) =
-    one_replayed mode aim id game a b x
-    (subst (λ g. IsReplayed mode aim id g b) (one_game parts other game also is) y)
+    one_of_game aim.tags_first mode aim id game a b x
+    (subst (λ g. IsGameVerdict aim.tags_first mode aim id g b) (one_game parts other game also is)
+    y)
 
 -- a game in a mode
 one_in : (mode : Mode) (aim : Aim) (id : GameId) (parts : List Part) (a b : Verdict)
@@ -150,6 +165,12 @@ module _ (aim : Aim) (plain : aim.explain ≡ false) where
   bare_replayed mode id game (FaultyGame text line note) (fault, is, here, noted, out) =
       ap (FaultyGame text line) (sym (no_note note noted))
 
+  bare_game : (tags_first : Bool) (mode : Mode) (id : GameId) (game : GameText) (v : Verdict)
+      → IsGameVerdict tags_first mode aim id game v → without_note v ≡ v
+  bare_game false mode id game v is = bare_replayed mode id game v is
+  bare_game true mode id game v (unplayed out none) = ap without_note none ∙ sym none
+  bare_game true mode id game v (played none is) = bare_replayed mode id game v is
+
   bare_line : (v : Verdict) (text line : List ℕ) → IsReportedBy aim text line v → without_note v ≡ v
   bare_line v text line (note, noted, is) =
       ap without_note is ∙ ap (FaultyGame text line) (sym (no_note note noted)) ∙ sym is
@@ -157,8 +178,8 @@ module _ (aim : Aim) (plain : aim.explain ≡ false) where
   bare_in : (mode : Mode) (id : GameId) (parts : List Part) (v : Verdict)
       → IsVerdictIn mode aim id parts v → without_note v ≡ v
   bare_in modes.Index id parts v is = ap without_note is ∙ sym is
-  bare_in modes.List id parts v is = bare_replayed modes.List id is.0 v is.2
-  bare_in modes.Export id parts v is = bare_replayed modes.Export id is.0 v is.2
+  bare_in modes.List id parts v is = bare_game aim.tags_first modes.List id is.0 v is.2
+  bare_in modes.Export id parts v is = bare_game aim.tags_first modes.Export id is.0 v is.2
 
   bare_piece : (kind : PieceKind) (id : GameId) (v : Verdict) → IsPieceVerdict kind aim id v
       → without_note v ≡ v

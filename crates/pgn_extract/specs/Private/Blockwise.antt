@@ -28,7 +28,8 @@ use Rattle.pgn_extract.specs.Public.Notes.{IsNote, NamesByte}
 use Rattle.pgn_extract.specs.Public.Outcomes.{AppendsFront, Writes, WritesComplete}
 use Rattle.pgn_extract.specs.Public.Index.{fault_text, mark_line}
 use Rattle.pgn_extract.specs.Public.Verdicts.{Verdict, SoundGame, FaultyGame, replayed_lines}
-use Rattle.pgn_extract.specs.Public.Verdicts.{IsOutput, IsReplayed, IsVerdictIn, IsVerdict}
+use Rattle.pgn_extract.specs.Public.Verdicts.{IsGameVerdict, IsOutput, IsReplayed, IsVerdictIn}
+use Rattle.pgn_extract.specs.Public.Verdicts.{IsVerdict}
 use Rattle.pgn_extract.specs.Public.Verdicts.{AreVerdicts, output_of, fault_line_of, output_text}
 use Rattle.pgn_extract.specs.Public.Verdicts.{fault_lines, is_faulty}
 use Rattle.pgn_extract.specs.declared.engine.report.Report.{Report}
@@ -138,6 +139,12 @@ pub record TakesAll (aim : Aim) : Type 0 where
 abbrev pub AddsReplayed : Mode → Aim → Report → Report → GameId → GameText → Type 0
 AddsReplayed mode aim old new id game = (verdict : Verdict)
     × IsReplayed mode aim id (by_itself game) verdict × AddsVerdict old new verdict 0
+
+-- what the mode reports of the game is, where tags may come first
+abbrev pub AddsSearched : Mode → Aim → Report → Report → GameId → GameText → Type 0
+AddsSearched mode aim old new id game = (verdict : Verdict)
+    × IsGameVerdict aim.tags_first mode aim id (by_itself game) verdict
+    × AddsVerdict old new verdict 0
 
 -- the same of what the mode reports of whatever parts make the game
 abbrev pub AddsGame : Aim → Report → Report → GameId → GameText → Type 0

@@ -4,10 +4,12 @@ use Rattle.pgn_game.specs.Public.Replays.{Replay}
 use Rattle.pgn_game.specs.declared.exports.style.Style.{Style}
 use Rattle.pgn_criteria.specs.Public.Meeting.{Heading, Meets}
 use Rattle.pgn_criteria.specs.Public.Conditions.{Conditions}
+use Rattle.pgn_criteria.specs.Public.Headings.{MayMeet}
 use Rattle.pgn_extract.specs.declared.settings.Fields.{Fields}
 use Rattle.pgn_extract.specs.declared.settings.Form.{Form}
 use Rattle.pgn_extract.specs.declared.settings.Mode.{Mode}
 use Rattle.pgn_extract.specs.declared.settings.Select.{Select}
+use Rattle.pgn_extract.specs.declared.settings.Select.TheVariants.{Matching}
 use Rattle.pgn_extract.specs.declared.settings.Settings.{Settings}
 pub use Rattle.pgn_extract.specs.declared.marks.GameId.{GameId}
 
@@ -27,6 +29,7 @@ pub record Aim : Type 0 where
   pub form : Form
   pub style : Style
   pub explain : Bool
+  pub tags_first : Bool
 
 -- the aim of settings
 abbrev pub aim_of : Settings → Aim
@@ -43,6 +46,7 @@ aim_of settings = record {
   form = settings.form;
   style = settings.style;
   explain = settings.explain;
+  tags_first = settings.tags_first;
 }
 
 -- the position after so many plies of a main line meets the criteria; without criteria every one
@@ -50,6 +54,19 @@ aim_of settings = record {
 abbrev pub IsMet : Option (List Conditions) → Heading → Replay → ℕ → Type 0
 IsMet None tags replay ply = Unit {0}
 IsMet (Some criteria) tags replay ply = Meets tags replay ply criteria
+
+-- by its heading a game can have no entry: it meets the conditions on tags and on the result of no
+-- alternative
+abbrev pub HasNoChance : Option (List Conditions) → Heading → Type 0
+HasNoChance None heading = ⊥
+HasNoChance (Some criteria) heading = MayMeet heading criteria → ⊥
+
+-- the game is read and not played: tags come first, games with an entry are looked for, and by its
+-- heading it can have none
+pub record IsRuledOut (aim : Aim) (heading : Heading) : Type 0 where
+  pub asked : aim.tags_first ≡ true
+  pub select : aim.select ≡ Matching
+  pub no_chance : HasNoChance aim.criteria heading
 
 -- the ply is within the bounds, both included, and its position meets the criteria
 abbrev pub IsWanted : Aim → Heading → Replay → ℕ → Type 0

@@ -128,6 +128,7 @@ with_first first aim = record {
   form = aim.form;
   style = aim.style;
   explain = aim.explain;
+  tags_first = aim.tags_first;
 }
 
 -- the exports are the same whether the first entry of each game is asked for or all
@@ -136,6 +137,19 @@ FirstChangesNoExport =
     (aim : Aim) (number : ℕ) (pieces : List MarkedPiece) (text : List ℕ)
     → (AreExports (with_first true aim) number pieces text
     ↔ AreExports (with_first false aim) number pieces text)
+
+-- the aim by which tags come first, or do not
+abbrev pub with_tags_first : Bool → Aim → Aim
+with_tags_first tags_first aim = record aim { tags_first = tags_first }
+
+-- the same goes to the output whether tags come first or not: the same entries are listed, and the
+-- same games exported
+abbrev pub TagsFirstChangesNoOutput : Type 0
+TagsFirstChangesNoOutput =
+    (aim : Aim) (number : ℕ) (pieces : List MarkedPiece) (reported others : List Verdict)
+    → AreVerdicts (with_tags_first true aim) number pieces reported
+    → AreVerdicts (with_tags_first false aim) number pieces others
+    → output_text reported ≡ output_text others
 
 -- the aim that selects these games, each to be written as it stands
 abbrev pub as_they_stand : Select → Aim → Aim
@@ -152,6 +166,7 @@ as_they_stand select aim = record {
   form = AsItStands;
   style = aim.style;
   explain = aim.explain;
+  tags_first = aim.tags_first;
 }
 
 -- a piece as it stands in an export: of a block over the limit nothing is kept

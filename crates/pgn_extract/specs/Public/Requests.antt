@@ -65,6 +65,7 @@ asked noted request criteria chosen = record {
   form = asked_form request;
   style = asked_style request;
   explain = noted;
+  tags_first = request.tags_first;
 }
 
 -- two FILEs or more are given
@@ -114,6 +115,15 @@ abbrev pub has_style : Request → Bool
 has_style request = request.no_comments || request.no_glyphs || request.no_variations
     || request.keep_commands || request.roster || is_some request.width
 
+-- criteria are given, in a file or in lines
+abbrev pub gives_criteria : Request → Bool
+gives_criteria request = is_some request.criteria || nat_lt 0 (length request.conditions.items)
+
+-- what is asked for is of games whatever their tags are, or of packs
+abbrev pub needs_each_game : Request → Bool
+needs_each_game request = request.index || request.others || request.faulty || request.packed
+    || request.pack
+
 -- the run ends after it begins
 abbrev pub is_stretch : Option GameId → Option ℕ → Bool
 is_stretch None end = false
@@ -148,7 +158,21 @@ file_refusals request =
     }
     ∷ []
 
--- the refusals of options that exclude each other, and those of files
+-- the refusals of tags that come first, and those of files
+abbrev pub search_refusals : Request → List Refusal
+search_refusals request =
+    record {
+      applies = request.tags_first && not (gives_criteria request);
+      line = codes "pgn-extract: --tags-first goes with --criteria or --where\n";
+    }
+    ∷ record {
+      applies = request.tags_first && needs_each_game request;
+      line = codes
+          "pgn-extract: --tags-first goes with none of --index, --packed, --others, --faulty and --pack\n";
+    }
+    ∷ file_refusals request
+
+-- the refusals of options that exclude each other, and those of searches and of files
 abbrev pub option_refusals : Request → List Refusal
 option_refusals request =
     record {
@@ -194,7 +218,7 @@ option_refusals request =
       line = codes
           "pgn-extract: --moves and --uci go with none of --list, --index, --faulty and --as-is\n";
     }
-    ∷ file_refusals request
+    ∷ search_refusals request
 
 -- the refusals of marks and of lines of criteria
 abbrev pub text_refusals : Bool → Request → List Refusal

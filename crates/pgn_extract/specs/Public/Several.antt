@@ -103,16 +103,23 @@ pub record NamesUnopened (path line : List ℕ) : Type 0 where
 abbrev pub games_word : ℕ → List ℕ
 games_word games = if games == 1 then codes " game, " else codes " games, "
 
--- the line that says how many games were read, and how many of them were faulty
-abbrev pub summary_text : Option (List ℕ) → Summary → List ℕ
-summary_text name summary =
+-- what a summary says of the games that were not played, where tags come first
+abbrev pub unplayed_text : Bool → ℕ → List ℕ
+unplayed_text false unplayed = []
+unplayed_text true unplayed = codes ", " ++ decimal unplayed ++ codes " not played"
+
+-- the line that says how many games were read, how many of them were faulty, and where tags come
+-- first, how many were not played
+abbrev pub summary_text : Bool → Option (List ℕ) → Summary → List ℕ
+summary_text tags_first name summary =
     codes "pgn-extract: " ++ titled (codes ": ") name ++ decimal summary.games
-    ++ games_word summary.games ++ decimal summary.faulty ++ codes " of them faulty" ++ 10 ∷ []
+    ++ games_word summary.games ++ decimal summary.faulty ++ codes " of them faulty"
+    ++ unplayed_text tags_first summary.unplayed ++ 10 ∷ []
 
 -- that of one file, which stands where it is asked for and lines have names
-abbrev pub own_summary : Bool → Option (List ℕ) → Summary → List ℕ
-own_summary asked name summary =
-    if asked && is_some name then summary_text name summary else []
+abbrev pub own_summary : Bool → Bool → Option (List ℕ) → Summary → List ℕ
+own_summary asked tags_first name summary =
+    if asked && is_some name then summary_text tags_first name summary else []
 
 -- of a file: its report up to the end, and then the line with its summary
 pub record IsRead (order : Order) (text output report : List ℕ) : Type 0 where
@@ -121,7 +128,8 @@ pub record IsRead (order : Order) (text output report : List ℕ) : Type 0 where
   pub reported : IsReport order.job (take order.end text) output faults
   pub games : summary.games ≡ length reported.pieces
   pub faulty : summary.faulty ≡ count_by is_faulty reported.verdicts
-  pub is : report ≡ faults ++ own_summary order.summary order.job.aim.name summary
+  pub is : report ≡ faults ++ own_summary order.summary order.job.aim.tags_first
+      order.job.aim.name summary
 
 -- of what stands at a path: of a file as above; where there is none, just the line that names it
 abbrev pub IsOfPath : Order → List ℕ → AtPath → List ℕ → List ℕ → Type 0

@@ -12,7 +12,7 @@ use Rattle.pgn_criteria.specs.Public.Meeting.{heading_of}
 use Rattle.pgn_extract.specs.Public.Index.{fault_text, mark_line}
 use Rattle.pgn_extract.specs.Public.Listing.{Entry, IsGameOf, listing}
 use Rattle.pgn_extract.specs.Public.GameReports.{AreListed, IsReplayOf, IsFaultOf, cause_text}
-use Rattle.pgn_extract.specs.Public.Aims.{Aim, GameId}
+use Rattle.pgn_extract.specs.Public.Aims.{Aim, GameId, IsRuledOut}
 use Rattle.pgn_extract.specs.Public.Choices.{id_of, IfChosen, is_chosen}
 use Rattle.pgn_extract.specs.Public.Exports.{written_lines, IsWritten, faulty_text}
 use Rattle.pgn_extract.specs.Public.Notes.{IsNote, NamesStop}
@@ -88,16 +88,32 @@ IsReplayed mode aim id game (FaultyGame text line note) =
     × (line ≡ fault_text aim.name id (cause_text fault)) × IsNote aim.explain note
     × (text ≡ faulty_text mode aim.select game.text)
 
--- the game of these parts is reported by its replay
-abbrev pub IsReplayedGame : Mode → Aim → GameId → List Part → Verdict → Type 0
-IsReplayedGame mode aim id parts verdict =
-    (game : GameText) × IsGameOf parts game × IsReplayed mode aim id game verdict
+-- where tags come first: a game that its heading rules out is one without entries, so that nothing
+-- goes anywhere, and no fault of a move or of its FEN tag is reported; each other is reported by
+-- its replay
+pub data IsPlayedOrNot (mode : Mode) (aim : Aim) (id : GameId) (game : GameText)
+    (verdict : Verdict) : Type 0 where
+  unplayed : IsRuledOut aim (heading_of game) → verdict ≡ SoundGame []
+      → IsPlayedOrNot mode aim id game verdict
+  played : (IsRuledOut aim (heading_of game) → ⊥) → IsReplayed mode aim id game verdict
+      → IsPlayedOrNot mode aim id game verdict
 
--- a game that can be read is reported so in a mode: in the index by its mark, else by its replay
+-- the game is reported so where tags come first, and where they do not: by its replay
+abbrev pub IsGameVerdict : Bool → Mode → Aim → GameId → GameText → Verdict → Type 0
+IsGameVerdict false mode aim id game verdict = IsReplayed mode aim id game verdict
+IsGameVerdict true mode aim id game verdict = IsPlayedOrNot mode aim id game verdict
+
+-- the game of these parts is
+abbrev pub IsGameReported : Mode → Aim → GameId → List Part → Verdict → Type 0
+IsGameReported mode aim id parts verdict =
+    (game : GameText) × IsGameOf parts game × IsGameVerdict aim.tags_first mode aim id game verdict
+
+-- a game that can be read is reported so in a mode: in the index by its mark, else by its replay,
+-- but where tags come first and rule it out
 abbrev pub IsVerdictIn : Mode → Aim → GameId → List Part → Verdict → Type 0
 IsVerdictIn modes.Index aim id parts verdict = verdict ≡ SoundGame (mark_line aim.name id)
-IsVerdictIn modes.List aim id parts verdict = IsReplayedGame modes.List aim id parts verdict
-IsVerdictIn modes.Export aim id parts verdict = IsReplayedGame modes.Export aim id parts verdict
+IsVerdictIn modes.List aim id parts verdict = IsGameReported modes.List aim id parts verdict
+IsVerdictIn modes.Export aim id parts verdict = IsGameReported modes.Export aim id parts verdict
 
 -- the piece is faulty: these bytes go to the output, this line to standard error, and a note after
 -- it where explanations are asked for

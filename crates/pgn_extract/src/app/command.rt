@@ -39,6 +39,8 @@ pub struct Request<'a> {
     pub max_ply: u32,
     /// `--first` was given.
     pub first: bool,
+    /// `--tags-first` was given.
+    pub tags_first: bool,
     /// `--fen` was given.
     pub fen: bool,
     /// `--next` was given.
@@ -210,6 +212,12 @@ const SEARCHES: &[Choice] = &[
         "None after ply N [default: 4294967295]"
     ),
     choice!("first", "List only the first of each game"),
+    choice!(
+        "tags-first",
+        "Do not play games whose tags and result cannot meet\n\
+         the criteria: much sooner, and their bad moves are\n\
+         not reported",
+    ),
 ];
 
 /// Which games are written, and whether unchanged.
@@ -408,6 +416,7 @@ pub fn read_arguments<'a>(alloc: Global, arguments: &'a [String]) -> Result<Requ
         min_ply: matches.get_one("min-ply").unwrap_or(0),
         max_ply: matches.get_one("max-ply").unwrap_or(u32::MAX),
         first: matches.get_flag("first"),
+        tags_first: matches.get_flag("tags-first"),
         fen: matches.get_flag("fen"),
         next: matches.get_flag("next"),
         others: matches.get_flag("others"),

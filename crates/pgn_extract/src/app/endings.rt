@@ -87,13 +87,15 @@ fn word_after(games: u64) -> &'static [u8]
     if games == 1 { b" game, " } else { b" games, " }
 }
 
-/// The line that says how many games were read, and how many of them were faulty.
+/// The line that says how many games were read, and how many of them were faulty; where tags came
+/// first, also how many were not played.
 fn summary_line(
     alloc: Global,
     name: &Option<FileName>,
     summary: &Summary,
+    tags_first: bool,
 ) -> Result<Vec<u8>, AllocError>
-    ensures { IfOk result (λ line. line.items ≡ summary_text name.now summary.now) }
+    ensures { IfOk result (λ line. line.items ≡ summary_text tags_first name.now summary.now) }
 {
     let mut number = Buffer::new();
     let mut line = Vec::from_slice(alloc, messages::PROGRAM.as_bytes())?;
@@ -101,27 +103,35 @@ fn summary_line(
     line.extend_from_slice(number.format(summary.games).as_bytes())?;
     line.extend_from_slice(word_after(summary.games))?;
     line.extend_from_slice(number.format(summary.faulty).as_bytes())?;
-    line.extend_from_slice(b" of them faulty\n")?;
+    line.extend_from_slice(b" of them faulty")?;
+    if tags_first {
+        line.extend_from_slice(b", ")?;
+        line.extend_from_slice(number.format(summary.unplayed).as_bytes())?;
+        line.extend_from_slice(b" not played")?;
+    }
+    line.push(b'\n')?;
     Ok(line)
 }
 
-/// Writes how many games were read, and how many of them were faulty.
+/// Writes how many games were read, and how many of them were faulty; where tags came first, also
+/// how many were not played.
 pub fn put_summary<E: Write>(
     alloc: Global,
     err: &mut Tally<E>,
     name: &Option<FileName>,
     summary: &Summary,
+    tags_first: bool,
 ) -> Result<(), RunError>
     requires { err.old.faulted ≡ false }
     ensures line { OnOk result (Appends (E.contents err.old.inner) (E.contents err.new.inner)
-        (summary_text name.now summary.now)) }
+        (summary_text tags_first name.now summary.now)) }
     ensures left { OnErr result (AppendsFront (E.contents err.old.inner) (E.contents err.new.inner)
-        (summary_text name.now summary.now)) }
+        (summary_text tags_first name.now summary.now)) }
     ensures only { IfErr result (λ error. (error ≡ RunError.Write)
         ⊎ (error ≡ RunError.OutOfMemory)) }
     ensures fault { IsErrOf result RunError.Write ↔ (err.new.faulted ≡ true) }
 {
-    let line = summary_line(alloc, name, summary)?;
+    let line = summary_line(alloc, name, summary, tags_first)?;
     write_all(err, &line)?;
     finish(err)
 }

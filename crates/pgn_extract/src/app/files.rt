@@ -117,6 +117,7 @@ impl Total {
         summary: Summary {
             games: 0,
             faulty: 0,
+            unplayed: 0,
             met: Met::NONE,
         },
         unopened: false,
@@ -140,6 +141,7 @@ impl Total {
         };
         self.summary.games = self.summary.games.saturating_add(own.games);
         self.summary.faulty = self.summary.faulty.saturating_add(own.faulty);
+        self.summary.unplayed = self.summary.unplayed.saturating_add(own.unplayed);
     }
 }
 
@@ -164,15 +166,23 @@ fn put_own_summary<E: Write>(
 ) -> Result<(), RunError>
     requires { err.old.faulted ≡ false }
     ensures line { OnOk result (Adds (passage E.contents err.old err.new)
-        (own_summary task.now.summary task.now.settings.name own.now)) }
+        (own_summary task.now.summary task.now.settings.tags_first
+        task.now.settings.name own.now)) }
     ensures left { OnErr result (AppendsFront (E.contents err.old.inner) (E.contents err.new.inner)
-        (own_summary task.now.summary task.now.settings.name own.now)) }
+        (own_summary task.now.summary task.now.settings.tags_first
+        task.now.settings.name own.now)) }
     ensures only { IfErr result (λ error. (error ≡ RunError.Write)
         ⊎ (error ≡ RunError.OutOfMemory)) }
     ensures fault { IsErrOf result RunError.Write ↔ (err.new.faulted ≡ true) }
 {
     if task.summary && task.settings.name.is_some() {
-        return put_summary(task.alloc, err, &task.settings.name, own);
+        return put_summary(
+            task.alloc,
+            err,
+            &task.settings.name,
+            own,
+            task.settings.tags_first,
+        );
     }
     Ok(())
 }

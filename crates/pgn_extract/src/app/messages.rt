@@ -27,6 +27,13 @@ pub const NO_LINES_OF_MOVES: &str =
 pub const NO_PACK: &str =
     "pgn-extract: --pack goes with none of --list, --index, --moves, --uci, --faulty, --as-is, -C, -N, -V, --keep-commands, --roster and -w\n";
 
+/// Without criteria no game is ruled out by its tags.
+pub const NO_TAGS_TO_MEET: &str = "pgn-extract: --tags-first goes with --criteria or --where\n";
+
+/// What is written of all games, or of faulty ones, asks for each to be played; packs are not.
+pub const TAGS_ARE_NOT_FIRST: &str =
+    "pgn-extract: --tags-first goes with none of --index, --packed, --others, --faulty and --pack\n";
+
 /// Names are asked for, and refused.
 pub const BOTH_NAMINGS: &str = "pgn-extract: --with-names and --no-names exclude each other\n";
 

@@ -6,8 +6,9 @@ ghost use Rattle.pgn_extract.specs.Public.Listing.{is_plain};
 ghost use Rattle.pgn_extract.specs.Public.Requests.{asked, asked_form, asked_mode, asked_select};
 ghost use Rattle.pgn_extract.specs.Public.Requests.{asked_style, asks_names};
 ghost use Rattle.pgn_extract.specs.Public.Requests.{bad_mark, begin_of, end_of, file_refusals};
-ghost use Rattle.pgn_extract.specs.Public.Requests.{first_line, gives_mark, has_style};
-ghost use Rattle.pgn_extract.specs.Public.Requests.{option_refusals, refused};
+ghost use Rattle.pgn_extract.specs.Public.Requests.{first_line, gives_criteria, gives_mark};
+ghost use Rattle.pgn_extract.specs.Public.Requests.{has_style, needs_each_game, option_refusals};
+ghost use Rattle.pgn_extract.specs.Public.Requests.{refused, search_refusals};
 
 use crate::app::command::{DEFAULT_WIDTH, Request};
 use crate::app::conditions::are_lines;
@@ -102,6 +103,20 @@ fn refused_line(request: &Request<'_>) -> Option<&'static str>
     if has_moves & (has_mode | unstyled) {
         return Some(messages::NO_LINES_OF_MOVES);
     }
+    refused_searches(request)
+}
+
+/// The line that refuses tags that come first: without criteria, or where each game is looked at;
+/// or the options of files.
+fn refused_searches(request: &Request<'_>) -> Option<&'static str>
+    ensures { option_map (λ line. line.now) result ≡ first_line (search_refusals request.now) }
+{
+    if request.tags_first & !has_criteria(request) {
+        return Some(messages::NO_TAGS_TO_MEET);
+    }
+    if request.tags_first & needs_each_game(request) {
+        return Some(messages::TAGS_ARE_NOT_FIRST);
+    }
     refused_files(request)
 }
 
@@ -116,6 +131,21 @@ fn refused_files(request: &Request<'_>) -> Option<&'static str>
         return Some(messages::MARKS_TAKE_ONE_FILE);
     }
     None
+}
+
+/// Whether criteria are given.
+fn has_criteria(request: &Request<'_>) -> bool
+    ensures { result ≡ gives_criteria request.now }
+{
+    request.criteria.is_some() || !request.conditions.is_empty()
+}
+
+/// Whether something is asked for that no game can be left out of by its tags, or of packs.
+fn needs_each_game(request: &Request<'_>) -> bool
+    ensures { result ≡ needs_each_game request.now }
+{
+    let is_of_all = request.index || request.others || request.faulty;
+    is_of_all || request.packed || request.pack
 }
 
 /// Whether the run is to begin or to end at a mark, or to report the pieces with marks.
@@ -220,6 +250,7 @@ pub fn settings_of(order: &Order<'_>, criteria: Option<Criteria>, chosen: Option
         form: form_of(request),
         style: style_of(request),
         explain: order.noted,
+        tags_first: request.tags_first,
         number: order.mark.number,
         offset: order.mark.offset,
     }

@@ -78,6 +78,7 @@ where
         Ok(searched) => Ok(Summary {
             games: searched.records,
             faulty: 0,
+            unplayed: 0,
             met: Met::NONE,
         }),
         Err(error) => Err(PackFailure::Search(name, error)),
@@ -172,7 +173,7 @@ where
         search_paths(task, files, out, err)
     };
     match ended {
-        Ok(total) => end_runs(task.alloc, err, task.summary, &total),
+        Ok(total) => end_runs(task.alloc, err, task.summary, false, &total),
         Err(failure) => {
             flush_rest(out);
             report_pack(task, err, &failure);

@@ -273,6 +273,7 @@ pub fn put_block<'a, O: Write, E: Write>(
     Ok(Summary {
         games: report.games,
         faulty: report.faulty,
+        unplayed: report.unplayed,
         met: report.met,
     })
 }

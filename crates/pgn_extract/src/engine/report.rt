@@ -6,7 +6,8 @@ ghost use Rattle.pgn_text.specs.Public.LeftMarks.{mark_place};
 ghost use Rattle.pgn_extract.specs.Public.Aims.{aim_of};
 ghost use Rattle.pgn_extract.specs.Public.Choices.{is_chosen};
 ghost use Rattle.pgn_extract.specs.Private.Blockwise.{Reports, AddsVerdict, AddsGame, AddsOutput};
-ghost use Rattle.pgn_extract.specs.Private.Blockwise.{AddsPiece, AddsReplayed, IsBlockVerdict};
+ghost use Rattle.pgn_extract.specs.Private.Blockwise.{AddsPiece, AddsReplayed, AddsSearched};
+ghost use Rattle.pgn_extract.specs.Private.Blockwise.{IsBlockVerdict};
 ghost use Rattle.pgn_extract.specs.Private.Blockwise.{IsMarkReport, StopsIn, too_long_piece};
 ghost use Rattle.pgn_extract.specs.Private.Finding.{AddsEntries};
 ghost use Rattle.pgn_extract.specs.Public.Index.{fault_text};
@@ -20,7 +21,7 @@ ghost use Rattle.pgn_game.specs.Public.Replays.{fault_of};
 
 use crate::engine::exporting::{push_faulty, put_selected, written_lines};
 use crate::entries::listing::push_plies;
-use crate::entries::{GameContext, push_entries};
+use crate::entries::{GameContext, is_ruled_out, push_entries};
 use crate::explain::move_notes::{GamePlace, push_game_note};
 use crate::explain::notes::{Origin, Spot, push_stop_note, push_too_long_note};
 use crate::explain::players::push_players;
@@ -47,6 +48,8 @@ pub struct Report {
     pub games: u64,
     /// How many of them are faulty.
     pub faulty: u64,
+    /// How many of them were not played.
+    pub unplayed: u64,
     /// Which of the marks of the run's settings are met, in this block and those before it.
     pub met: Met,
     /// The line on which the pieces begin, counted from 1, where it is known.
@@ -67,6 +70,7 @@ impl Report {
             faults: Vec::new(alloc),
             games: 0,
             faulty: 0,
+            unplayed: 0,
             met: Met::NONE,
             line,
             spot: Spot::first(),
@@ -83,6 +87,7 @@ impl Report {
         self.faults.clear();
         self.games = 0;
         self.faulty = 0;
+        self.unplayed = 0;
         self.spot = Spot::first();
     }
 
@@ -270,6 +275,28 @@ impl Report {
         }
     }
 
+    /// Adds what is reported of a game in a mode that looks for entries: nothing where its tags and
+    /// result rule it out, else what its replay gives.
+    fn add_searched<'a>(
+        &mut self,
+        context: GameContext<'a>,
+        game_place: GamePlace<'a>,
+        game: &RawGame<'a>,
+    ) -> Result<(), AllocError>
+        requires faulty { self.old.faulty + 1 < 2 ^ 64 }
+        requires room { game_place.origin.offset + length game_place.block.now < 2 ^ 64 }
+        ensures { OnOk result
+            (AddsSearched context.entry.settings.now.mode (aim_of context.entry.settings.now)
+            self.old self.new
+            context.entry.own game.now) }
+    {
+        if is_ruled_out(context.settings, game) {
+            self.unplayed = self.unplayed.saturating_add(1);
+            return Ok(());
+        }
+        self.add_replayed(context, game_place, game)
+    }
+
     /// Adds what is reported of a game.
     fn add_game<'a>(
         &mut self,
@@ -287,8 +314,8 @@ impl Report {
         let GameContext { settings, own, .. } = context;
         match settings.mode {
             Mode::Index => push_mark_line(&mut self.output, &settings.name, own),
-            Mode::List => self.add_replayed(context, game_place, game),
-            Mode::Export => self.add_replayed(context, game_place, game),
+            Mode::List => self.add_searched(context, game_place, game),
+            Mode::Export => self.add_searched(context, game_place, game),
         }
     }
 

@@ -15,6 +15,8 @@ pub struct Summary {
     pub games: u64,
     /// The faulty ones among them.
     pub faulty: u64,
+    /// The games that were not played, since their tags and results left no entry to look for.
+    pub unplayed: u64,
     /// Which of the marks it met, where it reports only the pieces with marks.
     pub met: Met,
 }

@@ -12,13 +12,13 @@ returns-in-Index c =
 
 pub returns-in-List : goal.returns-in-List
 returns-in-List c =
-    on_ok_weaker c.add_replayed.result (λ adds.
+    on_ok_weaker c.add_searched.result (λ adds.
     game_added (aim_of c.args.context.settings.now) c.args.context.own c.args.game.now
-    c.invariant.ensures (λ index. let list = c.in-List.is in cc) adds) c.add_replayed.ensures
+    c.invariant.ensures (λ index. let list = c.in-List.is in cc) adds) c.add_searched.ensures
 
 pub returns-in-Export : goal.returns-in-Export
 returns-in-Export c =
-    on_ok_weaker c.add_replayed-in-Export.result (λ adds.
+    on_ok_weaker c.add_searched-in-Export.result (λ adds.
     game_added (aim_of c.args.context.settings.now) c.args.context.own c.args.game.now
     c.invariant.ensures (λ index. let export = c.in-Export.is in cc) adds)
-    c.add_replayed-in-Export.ensures
+    c.add_searched-in-Export.ensures
