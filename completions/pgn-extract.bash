@@ -25,9 +25,9 @@ _pgn_extract() {
 }
 # (written by tools/completions)
 _pgn_extract_options='--list --fen --next --packed --index --moves --uci --pack --criteria --where
-    --min-ply --max-ply --first --others --faulty --as-is -C --no-comments --keep-commands -N
-    --no-glyphs -V --no-variations --roster -w --width --explain --summary --progress --no-progress
-    --from --until --at --with-names --no-names -h --help --version'
+    --min-ply --max-ply --first --tags-first --others --faulty --as-is -C --no-comments
+    --keep-commands -N --no-glyphs -V --no-variations --roster -w --width --explain --summary
+    --progress --no-progress --from --until --at --with-names --no-names -h --help --version'
 # Takes out what the program refuses beside an option.
 _pgn_extract_excluded() {
     case $1 in
@@ -35,20 +35,21 @@ _pgn_extract_excluded() {
     --fen) _pgn_extract_without --packed --index --moves --uci --pack --others --faulty --as-is ;;
     --next) _pgn_extract_without --packed --index --moves --uci --pack --others --faulty \
         --as-is ;;
-    --packed) _pgn_extract_without --fen --next --moves --uci --pack --others --faulty --as-is \
-        --from --until --at --with-names --no-names ;;
-    --index) _pgn_extract_without --list --fen --next --moves --uci --pack --others --faulty \
-        --as-is ;;
+    --packed) _pgn_extract_without --fen --next --moves --uci --pack --tags-first --others \
+        --faulty --as-is --from --until --at --with-names --no-names ;;
+    --index) _pgn_extract_without --list --fen --next --moves --uci --pack --tags-first --others \
+        --faulty --as-is ;;
     --moves) _pgn_extract_without --list --fen --next --packed --index --uci --pack --faulty \
         --as-is ;;
     --uci) _pgn_extract_without --list --fen --next --packed --index --moves --pack --faulty \
         --as-is ;;
-    --pack) _pgn_extract_without --list --fen --next --packed --index --moves --uci --faulty \
-        --as-is -C --no-comments --keep-commands -N --no-glyphs -V --no-variations --roster -w \
-        --width ;;
-    --others) _pgn_extract_without --list --fen --next --packed --index --faulty ;;
+    --pack) _pgn_extract_without --list --fen --next --packed --index --moves --uci --tags-first \
+        --faulty --as-is -C --no-comments --keep-commands -N --no-glyphs -V --no-variations \
+        --roster -w --width ;;
+    --tags-first) _pgn_extract_without --packed --index --pack --others --faulty ;;
+    --others) _pgn_extract_without --list --fen --next --packed --index --tags-first --faulty ;;
     --faulty) _pgn_extract_without --list --fen --next --packed --index --moves --uci --pack \
-        --others ;;
+        --tags-first --others ;;
     --as-is) _pgn_extract_without --list --fen --next --packed --index --moves --uci --pack ;;
     -C | --no-comments) _pgn_extract_without --pack ;;
     --keep-commands) _pgn_extract_without --pack ;;
