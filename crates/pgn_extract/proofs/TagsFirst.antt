@@ -39,9 +39,9 @@ module _ (id : GameId) (P : ℕ → Type 0) (S : ℕ → List ℕ → Type 0) (f
 
 unselected_in : (select : Select) {P : Type 0} → select ≡ Matching → (P → ⊥)
     → IsSelected select P → ⊥
-unselected_in Matching is no selected = no selected
-unselected_in Others is no selected = absurd (cc)
-unselected_in Faulty is no selected = absurd (cc)
+unselected_in Matching is fails selected = fails selected
+unselected_in Others is fails selected = absurd (cc)
+unselected_in Faulty is fails selected = absurd (cc)
 
 pub not_selected : (aim : Aim) (heading : Heading) (replay : Replay) → IsRuledOut aim heading
     → IsSelected aim.select (HasEntry aim heading replay) → ⊥

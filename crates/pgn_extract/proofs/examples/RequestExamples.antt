@@ -229,7 +229,11 @@ tags_come_first : (request : Request) (path : Bor (List ℕ))
     × RefusedWith (record (tagged request path) { others = true }) tags_are_not_first
     × RefusedWith (record (tagged request path) { faulty = true }) tags_are_not_first
     × RefusedWith (record (tagged request path) { pack = true }) tags_are_not_first
-    × RefusedWith (record (tagged request path) { others = true; with_names = true; no_names = true })
+    × RefusedWith (record (tagged request path) {
+      others = true;
+      with_names = true;
+      no_names = true;
+    })
     tags_are_not_first
 tags_come_first request path = (refl, refl, refl, refl, refl, refl, refl, refl)
 

@@ -30,7 +30,7 @@ module _ (aim : Aim) (id : GameId) (game : GameText) (out : IsRuledOut aim (head
   not_written : (replay : Replay) (text : List ℕ) → IsWritten aim id game replay text → text ≡ []
   not_written replay text (selected is own) =
       absurd (not_selected aim (heading_of game) replay out is)
-  not_written replay text (unselected no is) = is
+  not_written replay text (unselected fails is) = is
 
   no_faulty_text : (mode : Mode) → faulty_text mode aim.select game.text ≡ []
   no_faulty_text modes.Index = refl
@@ -60,7 +60,7 @@ module _ (aim : Aim) (id : GameId) (game : GameText) where
       → IsWritten (with_tags_first false aim) id game replay text
       → IsWritten (with_tags_first true aim) id game replay text
   same_written replay text (selected is own) = selected is (same_text aim.form text own)
-  same_written replay text (unselected no is) = unselected no is
+  same_written replay text (unselected fails is) = unselected fails is
 
   same_replayed : (mode : Mode) (verdict : Verdict)
       → IsReplayed mode (with_tags_first false aim) id game verdict

@@ -4,7 +4,7 @@ ghost use Rattle.std.specs.Prelude.{OnErr, OnOk};
 ghost use Rattle.std.specs.Io.KnownBytes.{Appends};
 ghost use Rattle.pgn_extract.specs.Public.Index.{titled};
 ghost use Rattle.pgn_extract.specs.Public.Outcomes.{AppendsFront};
-ghost use Rattle.pgn_extract.specs.Public.Several.{games_word, summary_text};
+ghost use Rattle.pgn_extract.specs.Public.Several.{games_word, summary_text, unplayed_text};
 
 use crate::app::messages;
 use crate::output::file_name::FileName;
@@ -87,6 +87,19 @@ fn word_after(games: u64) -> &'static [u8]
     if games == 1 { b" game, " } else { b" games, " }
 }
 
+/// Appends what a summary says of the games that were not played, where tags came first.
+fn push_unplayed(line: &mut Vec<u8>, tags_first: bool, unplayed: u64) -> Result<(), AllocError>
+    ensures { OnOk result (line.new.items ≡ line.old.items ++ unplayed_text tags_first unplayed) }
+{
+    if tags_first {
+        let mut number = Buffer::new();
+        line.extend_from_slice(b", ")?;
+        line.extend_from_slice(number.format(unplayed).as_bytes())?;
+        return line.extend_from_slice(b" not played");
+    }
+    Ok(())
+}
+
 /// The line that says how many games were read, and how many of them were faulty; where tags came
 /// first, also how many were not played.
 fn summary_line(
@@ -104,12 +117,8 @@ fn summary_line(
     line.extend_from_slice(word_after(summary.games))?;
     line.extend_from_slice(number.format(summary.faulty).as_bytes())?;
     line.extend_from_slice(b" of them faulty")?;
-    if tags_first {
-        line.extend_from_slice(b", ")?;
-        line.extend_from_slice(number.format(summary.unplayed).as_bytes())?;
-        line.extend_from_slice(b" not played")?;
-    }
-    line.push(b'\n')?;
+    push_unplayed(&mut line, tags_first, summary.unplayed)?;
+    line.extend_from_slice(b"\n")?;
     Ok(line)
 }
 
