@@ -8,7 +8,8 @@ use Rattle.pgn_extract.proofs.Common.{index_line, Entry, entry_line, listing, Ar
 use Rattle.pgn_extract.proofs.Common.{ArePieceEntries, AreEntryRows, IsGameExport, IsPieceExport}
 use Rattle.pgn_extract.proofs.Common.{AreExports, faulty_text, Adds, Verdict, SoundGame, FaultyGame}
 use Rattle.pgn_extract.proofs.Common.{output_of, IsReplayed, IsGameVerdict, output_text}
-use Rattle.pgn_extract.proofs.Common.{inl, inr, IsGameText, IsEntry, AreFields, heading_of, plies_of, Main}
+use Rattle.pgn_extract.proofs.Common.{inl, inr, IsGameText, IsEntry, AreFields, heading_of}
+use Rattle.pgn_extract.proofs.Common.{plies_of, Main}
 use Rattle.pgn_extract.proofs.Common.{written_lines, unselected, IsVerdictIn}
 use Rattle.pgn_extract.proofs.Common.{IsPieceVerdict, AreVerdicts, Aim, GameId}
 use Rattle.pgn_extract.specs.Private.EntryRows.{sound, faulty}

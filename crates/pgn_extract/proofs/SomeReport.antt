@@ -14,7 +14,8 @@ use Rattle.pgn_extract.proofs.Common.{cause_text, IsReplayOf, IsFaultOf, Form, S
 use Rattle.pgn_extract.proofs.Common.{Line, Record, line_with, lines_in, written_lines, HasEntry}
 use Rattle.pgn_extract.proofs.Common.{IsTextOf, IsWritten, selected, unselected, as_it_stands}
 use Rattle.pgn_extract.proofs.Common.{faulty_text, Verdict, SoundGame, FaultyGame, IsOutput}
-use Rattle.pgn_extract.proofs.Common.{IsReplayed, IsGameVerdict, AreEntryLines, IsVerdictIn, IsReportedBy}
+use Rattle.pgn_extract.proofs.Common.{IsReplayed, IsGameVerdict, AreEntryLines, IsVerdictIn}
+use Rattle.pgn_extract.proofs.Common.{IsReportedBy}
 use Rattle.pgn_extract.proofs.Common.{AreVerdicts, replayed_lines, IsPieceVerdict}
 use Rattle.pgn_extract.proofs.Common.{IsUnreadableVerdict, Replay, Heading, heading_of, Aim, GameId}
 use Rattle.pgn_extract.proofs.Common.{IsMet, IsWanted, IsEntry, Mode}

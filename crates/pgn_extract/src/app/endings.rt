@@ -1,6 +1,6 @@
 //! What stands on standard error of a whole run: its summary, or why it failed.
 ghost use Rattle.std.specs.Prelude.{◌≡◌, ◌↔◌, ◌⊎◌, ◌++◌, false, true, codes, IfErr, IfOk, IsErrOf};
-ghost use Rattle.std.specs.Prelude.{OnErr, OnOk};
+ghost use Rattle.std.specs.Prelude.{OnErr, OnOk, decimal};
 ghost use Rattle.std.specs.Io.KnownBytes.{Appends};
 ghost use Rattle.pgn_extract.specs.Public.Index.{titled};
 ghost use Rattle.pgn_extract.specs.Public.Outcomes.{AppendsFront};
@@ -87,15 +87,24 @@ fn word_after(games: u64) -> &'static [u8]
     if games == 1 { b" game, " } else { b" games, " }
 }
 
+/// Appends how many games were not played.
+fn push_count_unplayed(line: &mut Vec<u8>, unplayed: u64) -> Result<(), AllocError>
+    ensures { OnOk result (line.new.items
+        ≡ line.old.items ++ codes ", " ++ decimal unplayed ++ codes " not played") }
+{
+    let mut number = Buffer::new();
+    line.extend_from_slice(b", ")?;
+    line.extend_from_slice(number.format(unplayed).as_bytes())?;
+    line.extend_from_slice(b" not played")?;
+    Ok(())
+}
+
 /// Appends what a summary says of the games that were not played, where tags came first.
 fn push_unplayed(line: &mut Vec<u8>, tags_first: bool, unplayed: u64) -> Result<(), AllocError>
     ensures { OnOk result (line.new.items ≡ line.old.items ++ unplayed_text tags_first unplayed) }
 {
     if tags_first {
-        let mut number = Buffer::new();
-        line.extend_from_slice(b", ")?;
-        line.extend_from_slice(number.format(unplayed).as_bytes())?;
-        return line.extend_from_slice(b" not played");
+        push_count_unplayed(line, unplayed)?;
     }
     Ok(())
 }
