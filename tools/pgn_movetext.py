@@ -34,6 +34,9 @@ COMMENT = rb"\{[^}]*+(?:\}|\Z)|;[^\n]*+|(?<=\n)%[^\n]*+"
 TAG = rb'\[%b*+[A-Za-z0-9_]++%b*+"(?:[^"\\\n]++|\\.)*+"%b*+\]' % (WHITE, WHITE, WHITE)
 # Where a game ends: at the end of the text, or before a tag.
 GAME_ENDS = rb"(?=(?>(?:%b++|\{[^}]*+\}|;[^\n]*+)*)(?:\[|\Z))" % WHITE
+# (these stand in no word that is read, so they may stand directly after a move)
+LONG_DASH = rb"(?:\xe2\x88\x92|\xe2\x80\x93)"
+LONG_SIGN = rb"\+/?%b|%b/?\+" % (LONG_DASH, LONG_DASH)
 SIGN = rb"\+/?%b|%b/?\+|\+/?=|=/?\+" % (DASH, DASH)
 # A lone sign of equality is no offer of a draw in parentheses, and no part of a promotion.
 EQUAL = rb"(?:(?<!\()=|=(?!\)))(?!%b*+[QRBNqrbn](?![a-h1-8x:-]))" % WHITE
@@ -44,8 +47,8 @@ PROMOTED = rb"(?:(?<=[a-h][18]=)|(?<=[a-h][18]))"
 TAKEN = rb"(?:(?<=[a-hx:][a-h][36])|(?<=[a-hx:][a-h][36][+#]))"
 # How each kind is found, by its name. A text that can be read and not played has the last ones too.
 FOUND = {
-    "signs": rb"%b(?:%b|%b)%b|(?<![/=])(?:\xc2\xb1|\xe2\x88[\x93\x9e]|\xe2\xa9[\xb1\xb2])(?!/)|(?<![\x80-\xff])\xb1(?![\x80-\xff])"
-    % (NO_WORD_BEFORE, SIGN, EQUAL, NO_WORD_AFTER),
+    "signs": rb"%b(?:%b|%b)%b|(?<=[a-h][1-8])(?:%b)%b|(?<![/=])(?:\xc2\xb1|\xe2\x88[\x93\x9e]|\xe2\xa9[\xb1\xb2])(?!/)|(?<![\x80-\xff])\xb1(?![\x80-\xff])"
+    % (NO_WORD_BEFORE, SIGN, EQUAL, NO_WORD_AFTER, LONG_SIGN, NO_WORD_AFTER),
     "results": rb"%b(?:%b(?:[ \t]*+[:]?%b?[ \t]*+%b)?|1[ \t]*+(?::|%b)[ \t]*+0|0[ \t]*+(?::|%b)[ \t]*+1)%b%b"
     % (NO_WORD_BEFORE, HALF, DASH, HALF, DASH, DASH, NO_WORD_AFTER, GAME_ENDS),
     "en-passant": rb"%b%b*+(?:\(e\.?[ ]?p\.?\)|/?e\.[ ]?p\.?|/?ep\.?)%b" % (TAKEN, WHITE, NO_LETTER_AFTER),
