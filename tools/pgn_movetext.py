@@ -4,6 +4,7 @@ has in their place.
 pgn-mend has this module beside itself, or in ../share/pgn-extract where it is installed.
 """
 import bisect
+import io
 import re
 from array import array
 from collections import Counter
@@ -146,19 +147,20 @@ class Made(NamedTuple):
     counts: Counter
 
 
-def with_edits(text, edits):
-    """A text with edits, which is made without a list of them."""
-    made, last, stretches, counts = bytearray(), 0, Stretches(), Counter()
+def with_edits(text, edits, has_stretches=True):
+    """A text with edits, which is made without a list of them, and without a copy."""
+    made, last, size, stretches, counts = io.BytesIO(), 0, 0, Stretches(), Counter()
     for begin, end, new, kind in edits:
-        made += text[last:begin]
-        made += new
-        stretches.add(len(made), end)
+        made.write(text[last:begin])
+        size += made.write(new) + begin - last
+        if has_stretches:
+            stretches.add(size, end)
         counts[kind] += 1
         last = end
     if not counts:
         return Made(text, stretches, counts)
-    made += text[last:]
-    return Made(bytes(made), stretches, counts)
+    made.write(text[last:])
+    return Made(made.getvalue(), stretches, counts)
 
 
 def done_in(counts):
@@ -242,9 +244,11 @@ class Movetext:
         return with_edits(text, self.edits(text, self.pattern, self.kinds, None))
 
     def playable(self, text, letters=None):
-        """A text with edits that can make it playable, perhaps from the letters of a language."""
+        """A text with edits that can make it playable, perhaps from the letters of a language;
+        where its bytes stood is not kept."""
         key = letters is not None
-        return with_edits(text, self.edits(text, self.patterns[key], self.played[key], letters))
+        edits = self.edits(text, self.patterns[key], self.played[key], letters)
+        return with_edits(text, edits, has_stretches=False)
 
     @staticmethod
     def edits(text, pattern, kinds, letters):
