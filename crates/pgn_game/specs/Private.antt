@@ -8,6 +8,7 @@ pub mod Steps
 pub mod RefusalWalks
 pub mod LineWrappers
 pub mod CommentWords
+pub mod EvenComments
 pub mod MovetextWalks
 pub mod PackWords
 pub mod PackSteps

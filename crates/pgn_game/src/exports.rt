@@ -7,5 +7,6 @@ mod line_wrapper;
 mod movetext;
 pub(crate) mod notation;
 pub(crate) mod style;
+mod sweep;
 mod tag_lines;
 mod tokens;

@@ -32,7 +32,8 @@ abbrev pub cut_after : List ℕ → List (List ℕ)
 cut_after [] = []
 cut_after (b ∷ text) = cut_at_white text
 
-cut_by_front : (text : List ℕ) → cut_at_white text ≡ word_front text ∷ cut_after (after_front text)
+pub cut_by_front : (text : List ℕ)
+    → cut_at_white text ≡ word_front text ∷ cut_after (after_front text)
 cut_by_front [] = refl
 cut_by_front (b ∷ text) =
     elim (is_white b) as (λ t.
@@ -77,7 +78,7 @@ shorter_after b text other =
     omega arith
 
 -- white space before the first word changes nothing
-words_after_white : (text : List ℕ) → words_in text ≡ words_in (after_white text)
+pub words_after_white : (text : List ℕ) → words_in text ≡ words_in (after_white text)
 words_after_white [] = refl
 words_after_white (b ∷ text) =
     elim (is_white b) as (λ t. is_white b ≡ t

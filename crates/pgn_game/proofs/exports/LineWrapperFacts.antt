@@ -1,5 +1,5 @@
 -- Tokens that a wrapper wrote one after another.
-use Rattle.std.specs.Prelude.{nat_le}
+use Rattle.std.specs.Prelude.{nat_le, false, ◌<◌}
 use Rattle.pgn_game.proofs.Common.{◌≡◌, ◌+◌, ◌≤◌, ℕ, true, List, [], ◌∷◌, ◌++◌, length, sym, ap}
 use Rattle.pgn_game.proofs.Common.{subst, ◌∙◌, arith, append_assoc, length-append, nat_tests}
 use Rattle.pgn_game.proofs.Common.{HasPut, added, parted, column_after, after_tokens, joined}
@@ -65,3 +65,84 @@ put_at_once old new before after (first ∷ rest) b text is begun fits put =
     put_joined old new before after first rest begun
     (subst (λ x. old.column + 1 + length x ≤ old.width) (sym is) fits)
     (subst (λ x. HasPut old new before after (x ∷ [])) (sym is) put)
+
+beyond : (a b : ℕ) → b < a → nat_le a b ≡ false
+beyond a b high = grind (arith, nat_tests)
+
+-- tokens that stand together in the next line, since the first is not within the width, are laid as
+-- one
+in_next_line : (width column : ℕ) (first : List ℕ) (rest more : List (List ℕ))
+    → width < column + 1 + length first → length (joined (first ∷ rest)) ≤ width
+    → added width column (first ∷ (rest ++ more))
+    ≡ 10 ∷ (joined (first ∷ rest) ++ added width (length (joined (first ∷ rest))) more)
+in_next_line width column first [] more over fits =
+    ap (λ t. parted t first ++ added width (column_after t column (length first)) more)
+    (beyond (column + 1 + length first) width over)
+in_next_line width column first (next ∷ rest) more over fits =
+    let after = joined (next ∷ rest) in
+    let size = length-append first (32 ∷ after) in
+    let one_more : length (32 ∷ after) ≡ length after + 1 = omega arith in
+    let fits_rest : length first + 1 + length after ≤ width = omega arith in
+    let end : length first + 1 + length after ≡ length (first ++ (32 ∷ after)) = omega arith in
+    ap (λ t. parted t first
+    ++ added width (column_after t column (length first)) (next ∷ (rest ++ more)))
+    (beyond (column + 1 + length first) width over) ∙ ap (λ x. 10 ∷ (first ++ x))
+    (in_one_line width (length first) next rest more fits_rest)
+    ∙ ap (λ x. 10 ∷ x)
+    (sym (append_assoc first (32 ∷ after) (added width (length first + 1 + length after) more)))
+    ∙ ap (λ n. 10 ∷ ((first ++ (32 ∷ after)) ++ added width n more)) end
+
+from_added : (old new : LineWrapper) (before after : List ℕ) (tokens : List (List ℕ))
+    → old.begun ≡ true → new.begun ≡ old.begun → new.width ≡ old.width
+    → ((more : List (List ℕ)) → after ++ added old.width new.column more
+    ≡ before ++ added old.width old.column (tokens ++ more))
+    → HasPut old new before after tokens
+from_added old new before after tokens begun same width each more =
+    ap (λ b. after ++ after_tokens new.width b new.column more) (same ∙ begun)
+    ∙ ap (λ n. after ++ added n new.column more) width ∙ each more
+    ∙ sym (ap (λ b. before ++ after_tokens old.width b old.column (tokens ++ more)) begun)
+
+pub put_line : (old new : LineWrapper) (before after : List ℕ) (tokens : List (List ℕ))
+    (first : List ℕ) (rest : List (List ℕ)) → tokens ≡ first ∷ rest → old.begun ≡ true
+    → new.begun ≡ old.begun → new.width ≡ old.width
+    → new.column ≡ length (joined (first ∷ rest)) → old.width < old.column + 1 + length first
+    → length (joined (first ∷ rest)) ≤ old.width → after ≡ before ++ 10 ∷ joined (first ∷ rest)
+    → HasPut old new before after tokens
+put_line old new before after tokens first rest are begun same width column over fits is =
+    let line = joined (first ∷ rest) in
+    from_added old new before after tokens begun same width
+    (λ more.
+    ap (λ x. x ++ added old.width new.column more) is
+    ∙ ap (λ n. (before ++ 10 ∷ line) ++ added old.width n more) column
+    ∙ append_assoc before (10 ∷ line) (added old.width (length line) more)
+    ∙ ap (λ x. before ++ x)
+    (sym (in_next_line old.width old.column first rest more over fits))
+    ∙ sym (ap (λ ts. before ++ added old.width old.column (ts ++ more)) are))
+
+pub put_two_lines : (old new : LineWrapper) (before after : List ℕ) (tokens : List (List ℕ))
+    (first : List ℕ) (rest : List (List ℕ)) (next : List ℕ) (last : List (List ℕ))
+    → tokens ≡ (first ∷ rest) ++ (next ∷ last) → old.begun ≡ true → new.begun ≡ old.begun
+    → new.width ≡ old.width → new.column ≡ length (joined (next ∷ last))
+    → old.column + 1 + length (joined (first ∷ rest)) ≤ old.width
+    → old.width < old.column + 1 + length (joined (first ∷ rest)) + 1 + length next
+    → length (joined (next ∷ last)) ≤ old.width
+    → after ≡ before ++ 32 ∷ (joined (first ∷ rest) ++ 10 ∷ joined (next ∷ last))
+    → HasPut old new before after tokens
+put_two_lines old new before after tokens first rest next last are begun same width column fits over
+    within is =
+    let front = joined (first ∷ rest) in
+    let back = joined (next ∷ last) in
+    from_added old new before after tokens begun same width
+    (λ more.
+    ap (λ x. x ++ added old.width new.column more) is
+    ∙ ap (λ n. (before ++ 32 ∷ (front ++ 10 ∷ back)) ++ added old.width n more) column
+    ∙ append_assoc before (32 ∷ (front ++ 10 ∷ back)) (added old.width (length back) more)
+    ∙ ap (λ x. before ++ 32 ∷ x)
+    (append_assoc front (10 ∷ back) (added old.width (length back) more)
+    ∙ ap (λ x. front ++ x)
+    (sym (in_next_line old.width (old.column + 1 + length front) next last more over within)))
+    ∙ ap (λ x. before ++ x)
+    (sym (in_one_line old.width old.column first rest ((next ∷ last) ++ more) fits))
+    ∙ ap (λ ts. before ++ added old.width old.column ts)
+    (sym (append_assoc (first ∷ rest) (next ∷ last) more))
+    ∙ sym (ap (λ ts. before ++ added old.width old.column (ts ++ more)) are))

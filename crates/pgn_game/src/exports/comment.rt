@@ -1,6 +1,6 @@
 //! Comments as tokens.
 ghost use Rattle.std.specs.Prelude.{◌≡◌, ◌+◌, ◌++◌, ◌∷◌, ◌<◌, ◌≤◌, ℕ, Bool, List, [], length, map};
-ghost use Rattle.std.specs.Prelude.{OnOk, IfOk, IfSome, IsTrue, true, false};
+ghost use Rattle.std.specs.Prelude.{OnOk, IfOk, IfSome, IsTrue, true, false, Some, None, ◌-◌};
 ghost use Rattle.pgn_text.specs.Public.Bytes.{is_white};
 ghost use Rattle.pgn_game.specs.Public.Comments.{words_in, unbraced, later_word, closed};
 ghost use Rattle.pgn_game.specs.Public.Comments.{begins_command, closes, leaves_open, in_command};
@@ -10,9 +10,11 @@ ghost use Rattle.pgn_game.specs.Private.CommentWords.{word_front, after_front, a
 ghost use Rattle.pgn_game.specs.Private.CommentWords.{found_words, closing, found_size, tied_words};
 ghost use Rattle.pgn_game.specs.Private.CommentWords.{IsBare, IsFoundBare, IsAfterBare};
 ghost use Rattle.pgn_game.specs.Private.CommentWords.{IsAfterKept, IsSpaced, HasTied, PutsTied};
+ghost use Rattle.pgn_game.specs.Private.EvenComments.{is_even, IsLastBlank};
 ghost use Rattle.pgn_game.specs.Private.LineWrappers.{HasPut};
 
 use crate::exports::line_wrapper::LineWrapper;
+use crate::exports::sweep::{blanks_of, last_bit};
 use std::alloc::AllocError;
 
 /// The first word of a text, whether it is known to have no closing brace, and what follows it.
@@ -270,6 +272,95 @@ fn put_spaced(wrapper: &mut LineWrapper, out: &mut Vec<u8>, text: &[u8]) -> Resu
     Ok(())
 }
 
+/// The text without the white space around it.
+#[inline(always)]
+fn trimmed(text: &[u8]) -> &[u8]
+    ensures { words_in result.now ≡ words_in text.now }
+{
+    let mut rest = after_white(text);
+    while let [before @ .., last] = rest
+        && is_white(*last)
+    {
+        rest = before;
+    }
+    rest
+}
+
+/// Writes a comment of even words at the beginning of the next line.
+fn put_in_line(wrapper: &mut LineWrapper, out: &mut Vec<u8>, text: &[u8]) -> Result<(), AllocError>
+    requires even { is_even text.now ≡ true }
+    requires begun { wrapper.old.begun ≡ true }
+    requires blank { IsLastBlank text.now (wrapper.old.width - (wrapper.old.column + 1)) None }
+    requires over { wrapper.old.width < wrapper.old.column + 1 + (length text.now + 2) }
+    requires within { length text.now + 2 ≤ wrapper.old.width }
+    ensures text { OnOk result
+        (HasPut wrapper.old wrapper.new out.old.items out.new.items
+        (comment_tokens false text.now)) }
+    ensures kept { (some : List ℕ) × (out.new.items ≡ out.old.items ++ some) }
+    ensures width { wrapper.new.width ≡ wrapper.old.width }
+{
+    wrapper.start_line(out, text.len() + 2)?;
+    out.push(b'{')?;
+    out.extend_from_slice(text)?;
+    out.push(b'}')?;
+    Ok(())
+}
+
+/// Writes a comment of even words: those before the blank in the line that is begun, and those
+/// after it in the next.
+fn put_in_two_lines(
+    wrapper: &mut LineWrapper,
+    out: &mut Vec<u8>,
+    text: &[u8],
+    blank: usize,
+) -> Result<(), AllocError>
+    requires even { is_even text.now ≡ true }
+    requires begun { wrapper.old.begun ≡ true }
+    requires blank { IsLastBlank text.now (wrapper.old.width - (wrapper.old.column + 1))
+        (Some blank) }
+    requires inside { blank < length text.now }
+    requires over { wrapper.old.width < wrapper.old.column + 1 + (length text.now + 2) }
+    requires within { length text.now + 2 ≤ wrapper.old.width }
+    ensures text { OnOk result
+        (HasPut wrapper.old wrapper.new out.old.items out.new.items
+        (comment_tokens false text.now)) }
+    ensures kept { (some : List ℕ) × (out.new.items ≡ out.old.items ++ some) }
+    ensures width { wrapper.new.width ≡ wrapper.old.width }
+{
+    wrapper.start_within(out, blank + 1)?;
+    out.push(b'{')?;
+    out.extend_from_slice(&text[..blank])?;
+    let rest = &text[blank + 1..];
+    wrapper.start_line(out, rest.len() + 1)?;
+    out.extend_from_slice(rest)?;
+    out.push(b'}')?;
+    Ok(())
+}
+
+/// Writes a comment of even words that is not within the line which is begun.
+fn put_broken(
+    wrapper: &mut LineWrapper,
+    out: &mut Vec<u8>,
+    text: &[u8],
+    blank: Option<usize>,
+) -> Result<(), AllocError>
+    requires even { is_even text.now ≡ true }
+    requires begun { wrapper.old.begun ≡ true }
+    requires blank { IsLastBlank text.now (wrapper.old.width - (wrapper.old.column + 1)) blank }
+    requires over { wrapper.old.width < wrapper.old.column + 1 + (length text.now + 2) }
+    requires within { length text.now + 2 ≤ wrapper.old.width }
+    ensures text { OnOk result
+        (HasPut wrapper.old wrapper.new out.old.items out.new.items
+        (comment_tokens false text.now)) }
+    ensures kept { (some : List ℕ) × (out.new.items ≡ out.old.items ++ some) }
+    ensures width { wrapper.new.width ≡ wrapper.old.width }
+{
+    match blank {
+        Some(blank) => put_in_two_lines(wrapper, out, text, blank),
+        None => put_in_line(wrapper, out, text),
+    }
+}
+
 /// Writes a comment in braces, word by word.
 fn put_words(wrapper: &mut LineWrapper, out: &mut Vec<u8>, text: &[u8]) -> Result<(), AllocError>
     ensures text { OnOk result
@@ -428,7 +519,7 @@ fn put_whole(wrapper: &mut LineWrapper, out: &mut Vec<u8>, text: &[u8]) -> Resul
 }
 
 /// Writes a comment in braces: each of its words is a token, or each command with its words, where
-/// commands are kept whole. Where it stands in one line as it is, it is written at once.
+/// commands are kept whole. Where it stands in one line as it is, or in two, it is written at once.
 pub(crate) fn put_comment(
     wrapper: &mut LineWrapper,
     out: &mut Vec<u8>,
@@ -441,11 +532,23 @@ pub(crate) fn put_comment(
     ensures kept { (some : List ℕ) × (out.new.items ≡ out.old.items ++ some) }
     ensures width { wrapper.new.width ≡ wrapper.old.width }
 {
-    if wrapper.takes(text.len() + 2) && is_spaced(text) {
-        return put_spaced(wrapper, out, text);
+    let words = trimmed(text);
+    if words.len() >= 64 {
+        if wrapper.takes(words.len() + 2) && is_spaced(words) {
+            return put_spaced(wrapper, out, words);
+        }
+    } else if let Some(blanks) = blanks_of(words)
+        && let Some(room) = wrapper.room()
+    {
+        if words.len() + 1 < room {
+            return put_spaced(wrapper, out, words);
+        }
+        if !commands && wrapper.holds(words.len() + 2) {
+            return put_broken(wrapper, out, words, last_bit(blanks, room));
+        }
     }
     if commands {
-        return put_whole(wrapper, out, text);
+        return put_whole(wrapper, out, words);
     }
-    put_words(wrapper, out, text)
+    put_words(wrapper, out, words)
 }

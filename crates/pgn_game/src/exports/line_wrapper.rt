@@ -1,6 +1,6 @@
 //! Tokens in lines.
 ghost use Rattle.std.specs.Prelude.{◌≡◌, ◌+◌, ◌≤◌, ◌++◌, ◌∷◌, ℕ, List, [], length, nat_le, false};
-ghost use Rattle.std.specs.Prelude.{true, OnOk, IsTrue};
+ghost use Rattle.std.specs.Prelude.{true, OnOk, IsTrue, IfSome, ◌-◌};
 ghost use Rattle.pgn_game.specs.Private.LineWrappers.{HasPut, after_tokens};
 
 use std::alloc::AllocError;
@@ -43,6 +43,55 @@ impl LineWrapper {
             × (self.now.column + 1 + size ≤ self.now.width) }
     {
         self.begun && self.column < self.width && size < self.width - self.column
+    }
+
+    /// How many bytes the line that is begun, if one is, has within the width after a space.
+    #[inline(always)]
+    pub(crate) fn room(&self) -> Option<usize>
+        ensures { IfSome result (λ room. (self.now.begun ≡ true)
+            × (room ≡ self.now.width - (self.now.column + 1))) }
+    {
+        if !self.begun {
+            return None;
+        }
+        Some(self.width.saturating_sub(self.column).saturating_sub(1))
+    }
+
+    /// Whether so many bytes are within the width.
+    #[inline(always)]
+    pub(crate) fn holds(&self, size: usize) -> bool
+        ensures { IsTrue result → size ≤ self.now.width }
+    {
+        size <= self.width
+    }
+
+    /// Begins a token of so many bytes in the line that is begun, whose width it is within: they
+    /// are to follow.
+    #[inline(always)]
+    pub(crate) fn start_within(&mut self, out: &mut Vec<u8>, size: usize) -> Result<(), AllocError>
+        requires { self.old.column + 1 + size ≤ self.old.width }
+        ensures text { OnOk result (out.new.items ≡ out.old.items ++ 32 ∷ []) }
+        ensures kept { (some : List ℕ) × (out.new.items ≡ out.old.items ++ some) }
+        ensures line { (self.new.begun ≡ self.old.begun)
+            × (self.new.column ≡ self.old.column + 1 + size)
+            × (self.new.width ≡ self.old.width) }
+    {
+        self.column += 1 + size;
+        out.push(b' ')?;
+        Ok(())
+    }
+
+    /// Begins a token of so many bytes in the next line: they are to follow.
+    #[inline(always)]
+    pub(crate) fn start_line(&mut self, out: &mut Vec<u8>, size: usize) -> Result<(), AllocError>
+        ensures text { OnOk result (out.new.items ≡ out.old.items ++ 10 ∷ []) }
+        ensures kept { (some : List ℕ) × (out.new.items ≡ out.old.items ++ some) }
+        ensures line { (self.new.begun ≡ self.old.begun) × (self.new.column ≡ size)
+            × (self.new.width ≡ self.old.width) }
+    {
+        self.column = size;
+        out.push(b'\n')?;
+        Ok(())
     }
 
     /// Begins a token of so many bytes after the others: they are to follow.
