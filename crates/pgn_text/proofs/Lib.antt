@@ -1,3 +1,4 @@
+pub mod Bits
 pub mod Braces
 pub mod ByteFronts
 pub mod Common
@@ -7,6 +8,7 @@ pub mod EachStops
 pub mod FoundLemmas
 pub mod GameFronts
 pub mod KeptLemmas
+pub mod Lanes
 pub mod LastResult
 pub mod Located
 pub mod PartsAt

@@ -9,7 +9,7 @@ use Rattle.pgn_text.proofs.Common.{KeptDot, items_of_kept, RunTo, PartAt, KeptAt
 use Rattle.pgn_text.specs.Private.Masks.{HaveEnds, IsNextMove, NoneFrom}
 use Rattle.pgn_text.specs.Private.Movetext.{one_more as then_part}
 use Rattle.pgn_text.proofs.laws.Classes.{is_digit-word, is_letter-word, is_white-word}
-use Rattle.pgn_text.proofs.lex.Bits.{both_true, clash}
+use Rattle.pgn_text.proofs.Bits.{both_true, clash}
 use Rattle.pgn_text.proofs.PartsAt.{kept_letters, kept_digits, kept_dot, kept_white}
 use Rattle.pgn_text.proofs.lex.RunsTo.{AllPass, none_yet, one_more, passed_to}
 

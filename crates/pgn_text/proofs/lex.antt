@@ -1,6 +1,4 @@
-pub mod Bits
 pub mod Contents
-pub mod Lanes
 pub mod RunsTo
 pub mod SweepLemmas
 pub mod Tables

@@ -6,7 +6,7 @@ use Rattle.pgn_text.proofs.Common.{not, ◌||◌, List, length, get_or, refl, sy
 use Rattle.pgn_text.proofs.Common.{inl, inr, cases_lt, is_white, is_digit, is_letter, is_word_byte}
 use Rattle.pgn_text.specs.Private.Masks.{is_word_sign, AreBegins, word_begins}
 use Rattle.pgn_text.specs.Shared.Lanes.{has_bit}
-use Rattle.pgn_text.proofs.lex.Bits.{bit-shr, bit-above, clash}
+use Rattle.pgn_text.proofs.Bits.{bit-shr, bit-above, clash}
 
 -- where the words begin
 pub begins_are : (block : List ℕ) (at words begins : ℕ) → AreBegins words begins

@@ -1,4 +1,4 @@
-use Rattle.pgn_text.proofs.lex.Bits.{bit-begins_first, bit-begins_next}
+use Rattle.pgn_text.proofs.Bits.{bit-begins_first, bit-begins_next}
 use Rattle.pgn_text.proofs.lex.movetext.begins.Goals as goal
 
 pub returns : goal.returns

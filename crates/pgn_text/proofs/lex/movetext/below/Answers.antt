@@ -1,4 +1,4 @@
-use Rattle.pgn_text.proofs.lex.Bits.{bit-below_low, bit-below_high}
+use Rattle.pgn_text.proofs.Bits.{bit-below_low, bit-below_high}
 use Rattle.pgn_text.proofs.lex.movetext.below.Goals as goal
 
 pub returns-clause-low : goal.returns-clause-low

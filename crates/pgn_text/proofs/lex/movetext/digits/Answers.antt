@@ -1,5 +1,5 @@
 use Rattle.pgn_text.proofs.Common.{zip2_splat, arith, is_digit}
-use Rattle.pgn_text.proofs.lex.Lanes.{below, less, then_splat, classified}
+use Rattle.pgn_text.proofs.Lanes.{below, less, then_splat, classified}
 use Rattle.pgn_text.proofs.lex.movetext.digits.Goals as goal
 
 pub returns : goal.returns

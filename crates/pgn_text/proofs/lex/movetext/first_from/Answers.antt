@@ -1,6 +1,6 @@
 use Rattle.std.proofs.Common.{arith}
 use Rattle.std.proofs.lemmas.Nat.{trailing_le}
-use Rattle.pgn_text.proofs.lex.Bits.{found_from, before_from}
+use Rattle.pgn_text.proofs.Bits.{found_from, before_from}
 use Rattle.pgn_text.proofs.lex.movetext.first_from.Goals as goal
 
 pub returns-clause-within : goal.returns-clause-within

@@ -1,5 +1,5 @@
 use Rattle.pgn_text.proofs.Common.{bit_or, zip2_splat, arith, is_letter}
-use Rattle.pgn_text.proofs.lex.Lanes.{below, less, then_splat, classified}
+use Rattle.pgn_text.proofs.Lanes.{below, less, then_splat, classified}
 use Rattle.pgn_text.proofs.lex.movetext.letters.Goals as goal
 
 pub returns : goal.returns

@@ -1,5 +1,5 @@
 use Rattle.pgn_text.proofs.Common.{◌<◌, ◌≤◌, not, sym, ap, ◌∙◌, arith, inl, inr, cases_lt}
-use Rattle.pgn_text.proofs.lex.Bits.{bit-flip, clash, not_false, not_true}
+use Rattle.pgn_text.proofs.Bits.{bit-flip, clash, not_false, not_true}
 use Rattle.pgn_text.proofs.lex.movetext.next_move.Goals as goal
 
 pub first_from-requires : goal.first_from-requires

@@ -1,5 +1,5 @@
 use Rattle.std.proofs.Common.{sym, ◌∙◌}
-use Rattle.pgn_text.proofs.lex.Bits.{bit-and, both_true}
+use Rattle.pgn_text.proofs.Bits.{bit-and, both_true}
 use Rattle.pgn_text.proofs.lex.movetext.numbers.Goals as goal
 
 pub returns : goal.returns

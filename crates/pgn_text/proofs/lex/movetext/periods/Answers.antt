@@ -1,6 +1,6 @@
 use Rattle.std.proofs.lemmas.Simd.{zip2_splat}
 use Rattle.std.proofs.Common.{◌==◌, ℕ, arith}
-use Rattle.pgn_text.proofs.lex.Lanes.{hit, classified}
+use Rattle.pgn_text.proofs.Lanes.{hit, classified}
 use Rattle.pgn_text.proofs.lex.movetext.periods.Goals as goal
 
 pub returns : goal.returns

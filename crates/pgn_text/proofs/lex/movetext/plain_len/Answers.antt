@@ -1,5 +1,5 @@
 use Rattle.std.proofs.Common.{arith}
-use Rattle.pgn_text.proofs.lex.Bits.{plain_length, some_stop}
+use Rattle.pgn_text.proofs.Bits.{plain_length, some_stop}
 use Rattle.pgn_text.proofs.lex.movetext.plain_len.Goals as goal
 
 pub overflow_sub-ends : goal.overflow_sub-ends

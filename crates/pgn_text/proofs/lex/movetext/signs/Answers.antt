@@ -1,5 +1,5 @@
 use Rattle.pgn_text.proofs.Common.{arith, zip2_splat, bit_or, is_word_sign}
-use Rattle.pgn_text.proofs.lex.Lanes.{hit, then_splat, either, classified}
+use Rattle.pgn_text.proofs.Lanes.{hit, then_splat, either, classified}
 use Rattle.pgn_text.proofs.lex.movetext.signs.Goals as goal
 
 pub returns : goal.returns

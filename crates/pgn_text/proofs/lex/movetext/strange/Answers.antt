@@ -1,5 +1,5 @@
 use Rattle.std.proofs.Common.{arith}
-use Rattle.pgn_text.proofs.lex.Bits.{not_strange_each, not_strange_begins, not_strange_goes_on}
+use Rattle.pgn_text.proofs.Bits.{not_strange_each, not_strange_begins, not_strange_goes_on}
 use Rattle.pgn_text.proofs.lex.movetext.strange.Goals as goal
 
 pub returns-clause-each : goal.returns-clause-each

@@ -1,7 +1,7 @@
 use Rattle.std.proofs.Common.{◌≡◌, ℕ, suc, ◌+◌, ◌-◌, ◌/◌, ◌^◌, ◌<◌, ◌&&◌, ◌||◌, ◌==◌, get_or}
 use Rattle.std.proofs.Common.{bit_or, refl, sym, ap, ap₂, ◌∙◌, arith}
 use Rattle.pgn_text.proofs.Common.{is_white, is_digit, is_letter, is_word_sign, has_bit}
-use Rattle.pgn_text.proofs.lex.Bits.{bit-and, bit-or}
+use Rattle.pgn_text.proofs.Bits.{bit-and, bit-or}
 use Rattle.pgn_text.proofs.lex.SweepLemmas.{word_parts, begins_are, moved_bits, within_block}
 use Rattle.pgn_text.proofs.lex.movetext.sweep.Goals as goal
 

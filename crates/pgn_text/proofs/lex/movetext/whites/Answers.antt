@@ -1,5 +1,5 @@
 use Rattle.pgn_text.proofs.Common.{zip2_splat, arith, is_white}
-use Rattle.pgn_text.proofs.lex.Lanes.{hit, below, less, then_splat, either, classified}
+use Rattle.pgn_text.proofs.Lanes.{hit, below, less, then_splat, either, classified}
 use Rattle.pgn_text.proofs.lex.movetext.whites.Goals as goal
 
 pub returns : goal.returns

@@ -1,5 +1,5 @@
 use Rattle.pgn_text.proofs.Common.{◌+◌, ◌<◌, sym, ap, ◌∙◌, arith, is_single}
-use Rattle.pgn_text.proofs.lex.Bits.{not_false, not_true}
+use Rattle.pgn_text.proofs.Bits.{not_false, not_true}
 use Rattle.pgn_text.proofs.lex.RunsTo.{AllPass, run_to, runs_on}
 use Rattle.pgn_text.proofs.lex.quoted.singles_end.Goals as goal
 

@@ -1,5 +1,5 @@
 use Rattle.pgn_text.proofs.Common.{ℕ, not, arith, zip2_splat, is_single}
-use Rattle.pgn_text.proofs.lex.Lanes.{hit, below, less, then_splat, either, classified}
+use Rattle.pgn_text.proofs.Lanes.{hit, below, less, then_splat, either, classified}
 use Rattle.pgn_text.proofs.lex.quoted.stops.Goals as goal
 
 pub returns : goal.returns

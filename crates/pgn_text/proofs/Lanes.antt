@@ -6,7 +6,7 @@ use Rattle.std.proofs.lemmas.List.{get_or-map}
 use lib.Bits.{bit_or}
 use lib.Lanes.{zip2, mask_l, top, Each1}
 use Rattle.pgn_text.specs.Shared.Lanes.{AreLanes}
-use Rattle.pgn_text.proofs.lex.Bits.{bit-mod, bit-mask_l, upto, upto_sound, same, same_is}
+use Rattle.pgn_text.proofs.Bits.{bit-mod, bit-mask_l, upto, upto_sound, same, same_is}
 
 -- what `simd_eq`, `simd_lt` and `-` do at a lane
 abbrev pub hit : ℕ → ℕ → ℕ
