@@ -46,7 +46,12 @@ module _ {aim : Aim} {report : Report} {limit max_depth : ℕ} {id : GameId} {bl
   pub writes_rest : {out'' err'' : Option (List ℕ)} → Appends out' out'' report.output.items
       → Appends err' err'' report.faults.items
       → WritesBlock aim limit max_depth id block out out'' err err''
-      (record { games = report.games; faulty = report.faulty; met = report.met })
+      (record {
+        games = report.games;
+        faulty = report.faulty;
+        unplayed = report.unplayed;
+        met = report.met;
+      })
   writes_rest {out''} {err''} output faults = record {
     own = of.own;
     each = of.each;

@@ -27,6 +27,7 @@ report_text order pieces verdicts =
     let summary : Summary = record {
       games = length pieces;
       faulty = count_by is_faulty verdicts;
+      unplayed = 0;
       met = none_met;
     } in
     fault_lines verdicts ++ own_summary order.summary order.job.aim.tags_first
@@ -38,7 +39,12 @@ read_by : (order : Order) (text : List ℕ) (pieces : List MarkedPiece) (verdict
     → IsRead order text (output_text verdicts) (report_text order pieces verdicts)
 read_by order text pieces verdicts each reported = record {
   faults = fault_lines verdicts;
-  summary = record { games = length pieces; faulty = count_by is_faulty verdicts; met = none_met };
+  summary = record {
+    games = length pieces;
+    faulty = count_by is_faulty verdicts;
+    unplayed = 0;
+    met = none_met;
+  };
   reported = record {
     pieces = pieces;
     each = each;

@@ -5,6 +5,7 @@ use Rattle.std.proofs.lemmas.Str.{chars-IsAscii, encodes-IsAscii}
 use Rattle.std.proofs.lemmas.Str.Ascii.{IsAscii-from_all}
 use Rattle.std.specs.Str.{IsAscii}
 use Rattle.pgn_extract.proofs.Common.{◌≡◌, ◌+◌, ◌<◌, ◌==◌, ◌∙◌, ℕ, true, false, List, [], ◌∷◌, ◌++◌}
+use Rattle.pgn_extract.proofs.Common.{Bool}
 use Rattle.pgn_extract.proofs.Common.{length, decimal, drop, map, take, zero, suc, Option, Some}
 use Rattle.pgn_extract.proofs.Common.{None, codes, encode_utf8_all, get_or, ap, sym, subst, refl}
 use Rattle.pgn_extract.proofs.Common.{arith, decimal_digit, Appends, GameText, IsGameText, tag_in}
@@ -143,9 +144,9 @@ one_game : summary_text false None
     ≡ codes "pgn-extract: 1 game, 0 of them faulty" ++ 10 ∷ []
 one_game =
     ap (λ d. codes "pgn-extract: " ++ d ++ codes " game, " ++ decimal 0 ++ codes " of them faulty"
-    ++ 10 ∷ [])
+    ++ [] ++ 10 ∷ [])
     (decimal_digit 1 (omega arith))
-    ∙ ap (λ d. codes "pgn-extract: 1 game, " ++ d ++ codes " of them faulty" ++ 10 ∷ [])
+    ∙ ap (λ d. codes "pgn-extract: 1 game, " ++ d ++ codes " of them faulty" ++ [] ++ 10 ∷ [])
     (decimal_digit 0 (omega arith))
 
 games_of_a_file : summary_text false (Some (codes "a"))
@@ -153,9 +154,9 @@ games_of_a_file : summary_text false (Some (codes "a"))
     ≡ codes "pgn-extract: a: 3 games, 2 of them faulty" ++ 10 ∷ []
 games_of_a_file =
     ap (λ d. codes "pgn-extract: a: " ++ d ++ codes " games, " ++ decimal 2 ++ codes
-    " of them faulty" ++ 10 ∷ [])
+    " of them faulty" ++ [] ++ 10 ∷ [])
     (decimal_digit 3 (omega arith))
-    ∙ ap (λ d. codes "pgn-extract: a: 3 games, " ++ d ++ codes " of them faulty" ++ 10 ∷ [])
+    ∙ ap (λ d. codes "pgn-extract: a: 3 games, " ++ d ++ codes " of them faulty" ++ [] ++ 10 ∷ [])
     (decimal_digit 2 (omega arith))
 
 -- where tags come first, how many were not played stands at the end
