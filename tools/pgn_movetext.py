@@ -48,18 +48,25 @@ PROMOTED = rb"(?:(?<=[a-h][18]=)|(?<=[a-h][18]))"
 TAKEN = rb"(?:(?<=[a-hx:][a-h][36])|(?<=[a-hx:][a-h][36][+#]))"
 # How each kind is found, by its name. A text that can be read and not played has the last ones too.
 FOUND = {
-    "signs": rb"%b(?:%b|%b)%b|(?<=[a-h][1-8])(?:%b)%b|(?<![/=])(?:\xc2\xb1|\xe2\x88[\x93\x9e]|\xe2\xa9[\xb1\xb2])(?!/)|(?<![\x80-\xff])\xb1(?![\x80-\xff])"
+    "signs": rb"%b(?:%b|%b)%b|(?<=[a-h][1-8])(?:%b)%b"
+    rb"|(?<![/=])(?:\xc2\xb1|\xe2\x88[\x93\x9e]|\xe2\xa9[\xb1\xb2])(?!/)"
+    rb"|(?<![\x80-\xff])\xb1(?![\x80-\xff])"
     % (NO_WORD_BEFORE, SIGN, EQUAL, NO_WORD_AFTER, LONG_SIGN, NO_WORD_AFTER),
-    "results": rb"%b(?:%b(?:[ \t]*+[:]?%b?[ \t]*+%b)?|1[ \t]*+(?::|%b)[ \t]*+0|0[ \t]*+(?::|%b)[ \t]*+1)%b%b"
+    "results": rb"%b(?:%b(?:[ \t]*+[:]?%b?[ \t]*+%b)?"
+    rb"|1[ \t]*+(?::|%b)[ \t]*+0|0[ \t]*+(?::|%b)[ \t]*+1)%b%b"
     % (NO_WORD_BEFORE, HALF, DASH, HALF, DASH, DASH, NO_WORD_AFTER, GAME_ENDS),
-    "en-passant": rb"%b%b*+(?:\(e\.?[ ]?p\.?\)|/?e\.[ ]?p\.?|/?ep\.?)%b" % (TAKEN, WHITE, NO_LETTER_AFTER),
-    "castling": rb"%b(?:%b(?:%b%b){1,2}|[Oo]{2,3})(?![A-Za-z0-9_=:/\x80-\xff-])" % (NO_WORD_BEFORE, ROOK_STEP, DASH, ROOK_STEP),
+    "en-passant": rb"%b%b*+(?:\(e\.?[ ]?p\.?\)|/?e\.[ ]?p\.?|/?ep\.?)%b"
+    % (TAKEN, WHITE, NO_LETTER_AFTER),
+    "castling": rb"%b(?:%b(?:%b%b){1,2}|[Oo]{2,3})(?![A-Za-z0-9_=:/\x80-\xff-])"
+    % (NO_WORD_BEFORE, ROOK_STEP, DASH, ROOK_STEP),
     "figurines": rb"\xe2\x99[\x94-\x9f](?:\xef\xb8[\x8e\x8f])?+",
 }  # fmt: skip
 PLAYED = {
-    "signs": rb"(?<=[a-h][1-8])(?:\+/?-|-/?\+|\+/=|=/?\+|=)%b|(?:(?<=[a-h][1-8][+#])|(?<=[a-h][18]=[QRBN]))(?:\+/?-|-/?\+)%b"
+    "signs": rb"(?<=[a-h][1-8])(?:\+/?-|-/?\+|\+/=|=/?\+|=)%b"
+    rb"|(?:(?<=[a-h][1-8][+#])|(?<=[a-h][18]=[QRBN]))(?:\+/?-|-/?\+)%b"
     % (NO_WORD_AFTER, NO_WORD_AFTER),
-    "lower-case": rb"%b[nrqk](?=%b)|%b[nrqb]%b" % (NO_WORD_BEFORE, SQUARES, PROMOTED, NO_LETTER_AFTER),
+    "lower-case": rb"%b[nrqk](?=%b)|%b[nrqb]%b"
+    % (NO_WORD_BEFORE, SQUARES, PROMOTED, NO_LETTER_AFTER),
     "languages": rb"%b[A-Z](?=%b)|%b[A-Z]%b" % (NO_WORD_BEFORE, SQUARES, PROMOTED, NO_LETTER_AFTER),
 }  # fmt: skip
 # What is reported of an edit of a kind.
@@ -96,7 +103,7 @@ class Done(NamedTuple):
 
 
 class Stretches:
-    """Where the bytes of an edited text stood before: its stretches, and where each of them began."""
+    """Where the bytes of an edited text stood before: its stretches, and where each began."""
 
     __slots__ = ("places", "sources")
 
@@ -125,7 +132,9 @@ class Stretches:
                 number += 1
             rows.add(place, before.source_of(source))
             end = self.places[count + 1] if count + 1 < len(self.places) else None
-            while number < len(before.places) and (end is None or place + before.places[number] - source < end):
+            while number < len(before.places) and (
+                end is None or place + before.places[number] - source < end
+            ):
                 rows.add(place + before.places[number] - source, before.sources[number])
                 number += 1
         return rows
@@ -201,8 +210,10 @@ def figurine(found):
     text, begin, end = found.string, found.start(), found.end()
     number = (found[0][2] - 0x94) % 6
     if number == 5:
-        return b"" if text[end : end + 1] in (b"a", b"b", b"c", b"d", b"e", b"f", b"g", b"h") else found[0]
-    is_move = re.compile(rb"[a-h1-8x:-]").match(text, end) or text[begin - 1 : begin] in (b"=", b"1", b"8")
+        is_file = text[end : end + 1] in (b"a", b"b", b"c", b"d", b"e", b"f", b"g", b"h")
+        return b"" if is_file else found[0]
+    is_promoted = text[begin - 1 : begin] in (b"=", b"1", b"8")
+    is_move = re.compile(rb"[a-h1-8x:-]").match(text, end) or is_promoted
     return ENGLISH[number : number + 1] if is_move else found[0]
 
 
