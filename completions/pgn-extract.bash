@@ -24,33 +24,49 @@ _pgn_extract() {
     return 0
 }
 # (written by tools/completions)
-_pgn_extract_options='--list --fen --next --packed --index --moves --uci --pack --criteria --where
-    --min-ply --max-ply --first --tags-first --others --faulty --as-is -C --no-comments
-    --keep-commands -N --no-glyphs -V --no-variations --roster -w --width --explain --summary
-    --progress --no-progress --from --until --at --with-names --no-names -h --help --version'
+_pgn_extract_options='--list --fen --next --rows --csv --tsv --jsonl --no-header --packed --index
+    --moves --uci --pack --criteria --where --min-ply --max-ply --first --tags-first --others
+    --faulty --as-is -C --no-comments --keep-commands -N --no-glyphs -V --no-variations --roster -w
+    --width --explain --summary --progress --no-progress --from --until --at --with-names --no-names
+    -h --help --version'
 # Takes out what the program refuses beside an option.
 _pgn_extract_excluded() {
     case $1 in
-    --list) _pgn_extract_without --index --moves --uci --pack --others --faulty --as-is ;;
-    --fen) _pgn_extract_without --packed --index --moves --uci --pack --others --faulty --as-is ;;
-    --next) _pgn_extract_without --packed --index --moves --uci --pack --others --faulty \
-        --as-is ;;
-    --packed) _pgn_extract_without --fen --next --moves --uci --pack --tags-first --others \
-        --faulty --as-is --from --until --at --with-names --no-names ;;
-    --index) _pgn_extract_without --list --fen --next --moves --uci --pack --tags-first --others \
-        --faulty --as-is ;;
-    --moves) _pgn_extract_without --list --fen --next --packed --index --uci --pack --faulty \
-        --as-is ;;
-    --uci) _pgn_extract_without --list --fen --next --packed --index --moves --pack --faulty \
-        --as-is ;;
-    --pack) _pgn_extract_without --list --fen --next --packed --index --moves --uci --tags-first \
-        --faulty --as-is -C --no-comments --keep-commands -N --no-glyphs -V --no-variations \
-        --roster -w --width ;;
+    --list) _pgn_extract_without --rows --csv --tsv --jsonl --no-header --index --moves --uci \
+        --pack --others --faulty --as-is ;;
+    --fen) _pgn_extract_without --rows --csv --tsv --jsonl --no-header --packed --index --moves \
+        --uci --pack --others --faulty --as-is ;;
+    --next) _pgn_extract_without --rows --csv --tsv --jsonl --no-header --packed --index --moves \
+        --uci --pack --others --faulty --as-is ;;
+    --rows) _pgn_extract_without --list --fen --next --packed --index --moves --uci --pack \
+        --others --faulty --as-is ;;
+    --csv) _pgn_extract_without --list --fen --next --tsv --jsonl --packed --index --moves --uci \
+        --pack --others --faulty --as-is ;;
+    --tsv) _pgn_extract_without --list --fen --next --csv --jsonl --packed --index --moves --uci \
+        --pack --others --faulty --as-is ;;
+    --jsonl) _pgn_extract_without --list --fen --next --csv --tsv --packed --index --moves --uci \
+        --pack --others --faulty --as-is ;;
+    --no-header) _pgn_extract_without --list --fen --next --packed --index --moves --uci --pack \
+        --others --faulty --as-is ;;
+    --packed) _pgn_extract_without --fen --next --rows --csv --tsv --jsonl --no-header --moves \
+        --uci --pack --tags-first --others --faulty --as-is --from --until --at --with-names \
+        --no-names ;;
+    --index) _pgn_extract_without --list --fen --next --rows --csv --tsv --jsonl --no-header \
+        --moves --uci --pack --tags-first --others --faulty --as-is ;;
+    --moves) _pgn_extract_without --list --fen --next --rows --csv --tsv --jsonl --no-header \
+        --packed --index --uci --pack --faulty --as-is ;;
+    --uci) _pgn_extract_without --list --fen --next --rows --csv --tsv --jsonl --no-header \
+        --packed --index --moves --pack --faulty --as-is ;;
+    --pack) _pgn_extract_without --list --fen --next --rows --csv --tsv --jsonl --no-header \
+        --packed --index --moves --uci --tags-first --faulty --as-is -C --no-comments \
+        --keep-commands -N --no-glyphs -V --no-variations --roster -w --width ;;
     --tags-first) _pgn_extract_without --packed --index --pack --others --faulty ;;
-    --others) _pgn_extract_without --list --fen --next --packed --index --tags-first --faulty ;;
-    --faulty) _pgn_extract_without --list --fen --next --packed --index --moves --uci --pack \
-        --tags-first --others ;;
-    --as-is) _pgn_extract_without --list --fen --next --packed --index --moves --uci --pack ;;
+    --others) _pgn_extract_without --list --fen --next --rows --csv --tsv --jsonl --no-header \
+        --packed --index --tags-first --faulty ;;
+    --faulty) _pgn_extract_without --list --fen --next --rows --csv --tsv --jsonl --no-header \
+        --packed --index --moves --uci --pack --tags-first --others ;;
+    --as-is) _pgn_extract_without --list --fen --next --rows --csv --tsv --jsonl --no-header \
+        --packed --index --moves --uci --pack ;;
     -C | --no-comments) _pgn_extract_without --pack ;;
     --keep-commands) _pgn_extract_without --pack ;;
     -N | --no-glyphs) _pgn_extract_without --pack ;;

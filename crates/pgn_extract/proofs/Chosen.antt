@@ -2,10 +2,11 @@
 use Rattle.pgn_extract.proofs.Common.{◌≡◌, ◌<◌, ℕ, zero, suc, List, [], ◌∷◌, refl, sym, ap, ◌∙◌}
 use Rattle.pgn_extract.proofs.Common.{subst, arith, inl, inr, ◌⊎◌, Contains, Contains-append_right}
 use Rattle.pgn_extract.proofs.Common.{Entry, Ascend, AreChosen, none, keep, leave}
+use Rattle.pgn_extract.specs.Public.Listing.{Shown}
 use Rattle.pgn_extract.specs.declared.marks.GameId.{GameId}
 
 -- the entry of a game at a ply
-abbrev pub entry_at : GameId → ℕ → List ℕ → Entry
+abbrev pub entry_at : GameId → ℕ → Shown → Entry
 entry_at id ply shown = record { id = id; ply = ply; shown = shown }
 
 -- nothing is among none
@@ -24,14 +25,14 @@ Rise [] = Unit {0}
 Rise (ply ∷ more) = ((later : ℕ) → Contains more later → ply < later) × Rise more
 
 -- what an entry that is chosen is
-pub record IsPicked (id : GameId) (P : ℕ → Type 0) (S : ℕ → List ℕ
+pub record IsPicked (id : GameId) (P : ℕ → Type 0) (S : ℕ → Shown
     → Type 0) (all : List ℕ) (entry : Entry) : Type 0 where
   pub is : entry ≡ entry_at id entry.ply entry.shown
   pub among : Contains all entry.ply
   pub fact : P entry.ply
   pub shows : S entry.ply entry.shown
 
-module _ (id : GameId) (P : ℕ → Type 0) (S : ℕ → List ℕ → Type 0) where
+module _ (id : GameId) (P : ℕ → Type 0) (S : ℕ → Shown → Type 0) where
   -- among others too
   picked_after : (first : ℕ) (all : List ℕ) (entry : Entry) → IsPicked id P S all entry
       → IsPicked id P S (first ∷ all) entry
@@ -70,7 +71,7 @@ module _ (id : GameId) (P : ℕ → Type 0) (S : ℕ → List ℕ → Type 0) wh
 
   -- where each is decided, and something is shown of each, some are chosen
   pub some_chosen : (all : List ℕ) → ((ply : ℕ) → Contains all ply → P ply ⊎ (P ply → ⊥))
-      → ((ply : ℕ) → Contains all ply → (shown : List ℕ) × S ply shown)
+      → ((ply : ℕ) → Contains all ply → (shown : Shown) × S ply shown)
       → (chosen : List Entry) × AreChosen id P S all chosen
   some_chosen [] decides shows = ([], none)
   some_chosen (first ∷ all) decides shows =
@@ -85,7 +86,7 @@ module _ (id : GameId) (P : ℕ → Type 0) (S : ℕ → List ℕ → Type 0) wh
       ]
 
   -- where one text is shown of each ply
-  module _ (one : (ply : ℕ) (x y : List ℕ) → S ply x → S ply y → x ≡ y) where
+  module _ (one : (ply : ℕ) (x y : Shown) → S ply x → S ply y → x ≡ y) where
     -- the entry of each ply that is among all and has the fact is chosen
     pub chosen_all : (all : List ℕ) (chosen : List Entry) → AreChosen id P S all chosen
         → (entry : Entry) → IsPicked id P S all entry → Contains chosen entry
@@ -116,7 +117,7 @@ module _ (id : GameId) (P : ℕ → Type 0) (S : ℕ → List ℕ → Type 0) wh
     one_chosen _ _ _ none none = refl
     one_chosen _ _ _ (keep first shown all xs held shows more)
         (keep _ other _ ys also showing others) =
-        ap (λ (t : List ℕ). entry_at id first t ∷ xs) (one first shown other shows showing)
+        ap (λ (t : Shown). entry_at id first t ∷ xs) (one first shown other shows showing)
         ∙ ap (λ (t : List Entry). entry_at id first other ∷ t) (one_chosen all xs ys more others)
     one_chosen _ _ _ (keep first shown all xs held shows more) (leave _ _ ys fails others) =
         absurd (fails held)
@@ -124,3 +125,13 @@ module _ (id : GameId) (P : ℕ → Type 0) (S : ℕ → List ℕ → Type 0) wh
         absurd (fails held)
     one_chosen _ _ _ (leave first all xs fails more) (leave _ _ ys also others) =
         one_chosen all xs ys more others
+
+-- where more is known of what is shown
+pub shown_so : (id : GameId) (P : ℕ → Type 0) (S T : ℕ → Shown → Type 0)
+    → ((ply : ℕ) (shown : Shown) → S ply shown → T ply shown) → (all : List ℕ)
+    → (chosen : List Entry) → AreChosen id P S all chosen → AreChosen id P T all chosen
+shown_so id P S T so _ _ none = none
+shown_so id P S T so _ _ (keep ply shown all chosen holds shows more) =
+    keep ply shown all chosen holds (so ply shown shows) (shown_so id P S T so all chosen more)
+shown_so id P S T so _ _ (leave ply all chosen fails more) =
+    leave ply all chosen fails (shown_so id P S T so all chosen more)

@@ -7,14 +7,16 @@ use Rattle.pgn_extract.proofs.Common.{Contains-append_right, State, PieceKind, R
 use Rattle.pgn_extract.proofs.Common.{UnreadableRest, TooLongBlock, MarkedPiece, Part, Item}
 use Rattle.pgn_extract.proofs.Common.{GameText, tag_in, one_replay, no_fault, Replay, IsReplay}
 use Rattle.pgn_extract.proofs.Common.{Main, fen_tag, Aim, GameId, IsEntry, id_of, is_chosen}
-use Rattle.pgn_extract.proofs.Common.{IfChosen, heading_of, Entry, AreFields, IsGameOf, IsPlyOfGame}
+use Rattle.pgn_extract.proofs.Common.{IfChosen, heading_of, Entry, IsGameOf, IsPlyOfGame}
 use Rattle.pgn_extract.proofs.Common.{IsEarlier, Ascend, AreEntries, plies_of, IsReplayOf}
 use Rattle.pgn_extract.proofs.Common.{AreGameEntries, ArePieceEntries, AreEntryRows, game_id}
 use Rattle.pgn_game.specs.Public.Replays.{IsMainReplay}
 use Rattle.pgn_extract.proofs.ChoiceFacts.{by_choice, when_taken}
 use Rattle.pgn_extract.proofs.Chosen.{entry_at, none_in, in_front, Rise, IsPicked, chosen_from}
 use Rattle.pgn_extract.proofs.Chosen.{chosen_all, chosen_ascend}
-use Rattle.pgn_extract.proofs.FieldTexts.{one_text}
+use Rattle.pgn_extract.specs.Public.Listing.{IsShownOf}
+use Rattle.pgn_extract.specs.Public.Rows.{place_of}
+use Rattle.pgn_extract.proofs.ShownTexts.{one_shown}
 use Rattle.pgn_extract.proofs.GameExport.{one_game}
 use Rattle.pgn_extract.specs.Private.EntryRows.{sound, faulty}
 
@@ -56,7 +58,7 @@ has_ply ply (position ∷ more) at low high =
 -- what an entry of a game with a replay is
 abbrev pub IsOfGame : Aim → GameId → GameText → Replay → Entry → Type 0
 IsOfGame aim id game replay entry =
-    IsPicked id (IsEntry aim (heading_of game) replay) (AreFields aim.fields replay)
+    IsPicked id (IsEntry aim (heading_of game) replay) (IsShownOf aim id game replay)
     (plies_of 0 replay.positions) entry
 
 -- the entries of a piece are those of one game
@@ -65,7 +67,7 @@ own_ply : (aim : Aim) (kind : PieceKind) (id : GameId) (own : List Entry)
     → (parts : List Part) × (game : GameText) × (replay : Replay) × (kind ≡ ReadableGame parts)
     × IsGameOf parts game × IsReplayOf Main game replay × IsOfGame aim id game replay entry
 own_ply aim (ReadableGame parts) id own (game, made, sound replay is these) entry has =
-    let of = chosen_from id (IsEntry aim (heading_of game) replay) (AreFields aim.fields replay)
+    let of = chosen_from id (IsEntry aim (heading_of game) replay) (IsShownOf aim id game replay)
     (plies_of 0 replay.positions) own these entry has in
     (parts, game, replay, refl, made, is, of)
 own_ply aim (ReadableGame parts) id own (game, made, faulty fault is none) entry has =
@@ -81,19 +83,20 @@ own_has : (aim : Aim) (id : GameId) (game : GameText) (own : List Entry)
     → (replay : Replay) → IsReplayOf Main game replay → (entry : Entry)
     → entry ≡ entry_at id entry.ply entry.shown
     → entry.ply < length replay.positions → IsEntry aim (heading_of game) replay entry.ply
-    → AreFields aim.fields replay entry.ply entry.shown → Contains own entry
+    → IsShownOf aim id game replay entry.ply entry.shown → Contains own entry
 own_has aim id game own (sound first is these) replay also entry marked less listed shows =
     let same : replay ≡ first =
     sym (one_replay Main (tag_in fen_tag game.tags) game.elements first replay is also) in
     let here : entry.ply < length first.positions =
     subst (λ (r : Replay). entry.ply < length r.positions) same less in
-    chosen_all id (IsEntry aim (heading_of game) first) (AreFields aim.fields first)
-    (one_text aim.fields first) (plies_of 0 first.positions) own these entry
+    chosen_all id (IsEntry aim (heading_of game) first) (IsShownOf aim id game first)
+    (λ ply. one_shown aim.line (place_of aim.name id game first ply)) (plies_of 0 first.positions)
+    own these entry
     (record {
       is = marked;
       among = has_ply 0 first.positions entry.ply (omega arith) (omega arith);
       fact = subst (λ (r : Replay). IsEntry aim (heading_of game) r entry.ply) same listed;
-      shows = subst (λ (r : Replay). AreFields aim.fields r entry.ply entry.shown) same shows;
+      shows = subst (λ (r : Replay). IsShownOf aim id game r entry.ply entry.shown) same shows;
     })
 own_has aim id game own (faulty fault is none) replay also entry marked less listed shows =
     absurd (no_fault Main (tag_in fen_tag game.tags) game.elements fault (replay, also) is)
@@ -134,7 +137,8 @@ to_ply aim number (piece ∷ more) entries (own, rest, parted, here, others) ent
             is_replay = main_of of.5;
             within = within_plies of.2.positions entry.ply place.among;
             listed = place.fact;
-            shows = place.shows;
+            shows = subst (λ (i : GameId). IsShownOf aim i of.1 of.2 entry.ply entry.shown)
+                (sym same) place.shows;
           }
       | inr later ↦
           let of = to_ply aim (number + 1) more rest others entry later in
@@ -181,7 +185,9 @@ from_ply aim number pieces entries are entry of =
         (subst (λ g. AreGameEntries aim (id_of number piece) g own)
         (one_game of.parts game of.game made of.is_game) entered)
         of.replay (replay_of of.is_replay) entry (ap (λ i. entry_at i entry.ply entry.shown) same)
-        of.within of.listed of.shows in
+        of.within of.listed
+        (subst (λ (i : GameId). IsShownOf aim i of.game of.replay entry.ply entry.shown) same
+        of.shows) in
         subst (λ e. Contains e entry) (sym parted) (Contains-append_left own rest entry has)
     by_place number (piece ∷ more) entries
         (own, rest, parted, here, others) (suc place) game numbered =
@@ -214,7 +220,7 @@ ascend-append (x ∷ xs) ys before after cross = (
 ascend_own : (aim : Aim) (kind : PieceKind) (id : GameId) (own : List Entry)
     → ArePieceEntries aim kind id own → Ascend own
 ascend_own aim (ReadableGame parts) id own (game, made, sound replay is these) =
-    chosen_ascend id (IsEntry aim (heading_of game) replay) (AreFields aim.fields replay)
+    chosen_ascend id (IsEntry aim (heading_of game) replay) (IsShownOf aim id game replay)
     (plies_of 0 replay.positions) own these (plies_rise 0 replay.positions)
 ascend_own aim (ReadableGame parts) id own (game, made, faulty fault is none) =
     subst Ascend (sym none) tt

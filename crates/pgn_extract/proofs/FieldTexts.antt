@@ -89,6 +89,31 @@ some_next now (word ∷ words) positions played stands
           own.1),
     )
 
+-- so its column has a value
+some_value : (now : State) (words : List (List ℕ)) (positions : List State) (played : List Move)
+    → AreOnBoard now.men → IsMainLine now words positions played
+    → (ply : ℕ) → (text : List ℕ) × MatchOption (slice_get played ply) (text ≡ [])
+    (λ m. (position : State) × (slice_get positions ply ≡ Some position) × IsSan position m text)
+some_value now words positions played stands line ply =
+    let text = some_next now words positions played stands line ply in
+    value_of (slice_get played ply) text.0 text.1
+  where
+    value_of : (move : Option Move) (text : List ℕ)
+        → MatchOption move (text ≡ codes "-") (IsTextAt positions ply text)
+        → (own : List ℕ) × MatchOption move (own ≡ []) (IsTextAt positions ply own)
+    value_of None text is = ([], refl)
+    value_of (Some m) text is = (text, is)
+
+pub some_move_text : (lines : Lines) (fen : Option (List ℕ)) (items : List Item)
+    (replay : Replay) → IsReplay lines fen items replay
+    → (ply : ℕ) → (text : List ℕ) × MatchOption (slice_get replay.played ply) (text ≡ [])
+    (λ m. (position : State) × (slice_get replay.positions ply ≡ Some position)
+    × IsSan position m text)
+some_move_text lines fen items replay is ply =
+    let kept = start_read_back fen is.start is.is_start in
+    some_value is.start (main_words items 0) replay.positions replay.played kept.sound.on_board
+    is.line ply
+
 some_next_field : (next : Bool) (lines : Lines) (fen : Option (List ℕ)) (items : List Item)
     (replay : Replay) → IsReplay lines fen items replay
     → (ply : ℕ) → (shown : List ℕ) × IsNextField next replay ply shown

@@ -9,11 +9,12 @@ use Rattle.pgn_extract.proofs.Common.{cases_lt, both_ways, false≢true, slice_g
 use Rattle.pgn_extract.proofs.Common.{MatchResult, State, GameText, tag_in, Fault, IsFault, fen_tag}
 use Rattle.pgn_extract.proofs.Common.{Replay, Main, Conditions, Heading, SomeHold, heading_of}
 use Rattle.pgn_extract.proofs.Common.{meets_at, Aim, GameId, IsWanted, IsEntry, plies_of, AreChosen}
-use Rattle.pgn_extract.proofs.Common.{AreListed, none, keep, leave, Entry, AreFields, entry_line}
+use Rattle.pgn_extract.proofs.Common.{AreListed, none, keep, leave, Entry, entry_line}
 use Rattle.pgn_extract.proofs.Common.{listing, IsOfGame, AsksFor, named_mark, AddsEntries}
 use Rattle.pgn_extract.proofs.Common.{StopsAtFault, MeetsHere, GoesTo, IsNeverMet, HandsOn}
 use Rattle.pgn_extract.proofs.Common.{NoneBefore, Stands, marked_lines, or_some}
 use Rattle.pgn_extract.specs.Private.Lines.{EachReplay, Finds}
+use Rattle.pgn_extract.specs.Public.Listing.{Shown, IsShownOf}
 use Rattle.pgn_extract.proofs.Chosen.{entry_at}
 use Rattle.pgn_extract.proofs.Picks.{leaves, leaves_all}
 
@@ -43,14 +44,14 @@ finds_none aim id game Got before P on got off stands unwanted = record {
   found = [];
   got = got;
   completes = λ replay own rest is later chosen.
-      leaves id (IsEntry aim (heading_of game) replay) (AreFields aim.fields replay) 0
+      leaves id (IsEntry aim (heading_of game) replay) (IsShownOf aim id game replay) 0
       (length before) replay.positions later
       (λ n low high entry. unwanted replay own n (omega (arith, high)) entry.0)
       (subst (λ n. AreChosen id (IsEntry aim (heading_of game) replay)
-      (AreFields aim.fields replay) (plies_of n (drop (length before) replay.positions)) later)
+      (IsShownOf aim id game replay) (plies_of n (drop (length before) replay.positions)) later)
       here
       (subst (λ ps. AreChosen id (IsEntry aim (heading_of game) replay)
-      (AreFields aim.fields replay) (plies_of (length before) ps) later)
+      (IsShownOf aim id game replay) (plies_of (length before) ps) later)
       (sym (ap (drop (length before)) is ∙ drop-append_seam before rest)) chosen));
   quiet = λ is first replay own rest at. unwanted replay own;
   shut = λ is replay own rest at n low within entry.
@@ -103,7 +104,7 @@ module _ {aim : Aim} {id : GameId} {game : GameText} {Got : List Entry → Type 
         (leave (length before) (plies_of (length before + 1) rest) later
         (fails replay own rest (joined replay rest is))
         (subst (λ n. AreChosen id (IsEntry aim (heading_of game) replay)
-        (AreFields aim.fields replay) (plies_of n rest) later) grown chosen));
+        (IsShownOf aim id game replay) (plies_of n rest) later) grown chosen));
     quiet = λ is first replay own rest at n less.
         quiet is first replay own rest (joined replay rest at) n (subst (λ k. n < k) grown less);
     shut = λ is replay own rest at n low within.
@@ -145,23 +146,23 @@ module _ {aim : Aim} {id : GameId} {game : GameText} {Got : List Entry → Type 
       (λ is. absurd (cc))
 
   -- it is an entry, and is handed on
-  pub keeps_one : {New : List Entry → Type 0} (shown : List ℕ) → on ≡ true
+  pub keeps_one : {New : List Entry → Type 0} (shown : Shown) → on ≡ true
       → Here (λ replay. IsWanted aim (heading_of game) replay (length before))
-      → Here (λ replay. AreFields aim.fields replay (length before) shown)
+      → Here (λ replay. IsShownOf aim id game replay (length before) shown)
       → New (so_far.found ++ entry_at id (length before) shown ∷ [])
       → Finds aim id game New (before ++ P ∷ []) (not aim.first)
   keeps_one {New} shown still wanted shows added = record {
     found = so_far.found ++ entry ∷ [];
     got = added;
     completes = λ replay own rest is later chosen.
-        subst (AreListed aim id (heading_of game) replay)
+        subst (AreListed aim id game replay)
         (sym (append_assoc so_far.found (entry ∷ []) later))
         (so_far.completes replay own (P ∷ rest) (joined replay rest is) (entry ∷ later)
         (keep (length before) shown (plies_of (length before + 1) rest) later
         (listed replay own rest (joined replay rest is))
         (shows replay own rest (joined replay rest is))
         (subst (λ n. AreChosen id (IsEntry aim (heading_of game) replay)
-        (AreFields aim.fields replay) (plies_of n rest) later) grown chosen)));
+        (IsShownOf aim id game replay) (plies_of n rest) later) grown chosen)));
     quiet = λ is first replay own rest at n less.
         let no : not aim.first ≡ false = ap not first in
         absurd (both_ways (not aim.first) no is);
@@ -272,9 +273,9 @@ ends_at {aim} {id} {game} {Got} {on} At before P stands (sound, unwanted) finds 
       replay,
       is,
       finds.found,
-      subst (AreListed aim id (heading_of game) replay) (append-nil finds.found)
+      subst (AreListed aim id game replay) (append-nil finds.found)
           (finds.completes replay (Main, is) rest all []
-          (leaves_all id (IsEntry aim (heading_of game) replay) (AreFields aim.fields replay)
+          (leaves_all id (IsEntry aim (heading_of game) replay) (IsShownOf aim id game replay)
           (length (before ++ P ∷ [])) rest left)),
       finds.got,
     )
@@ -298,7 +299,7 @@ pub one_line : (start mark digits shown : List ℕ)
 one_line start mark digits shown = simp append_assoc refl
 
 -- the lines of entries of one game are those of the listing, where they begin with its mark
-pub listed_lines : (name : Option (List ℕ)) (id : GameId) (P : ℕ → Type 0) (S : ℕ → List ℕ → Type 0)
+pub listed_lines : (name : Option (List ℕ)) (id : GameId) (P : ℕ → Type 0) (S : ℕ → Shown → Type 0)
     (plies : List ℕ) (entries : List Entry) → AreChosen id P S plies entries
     → marked_lines (named_mark name id) entries ≡ listing name entries
 listed_lines name id P S plies entries none = refl
@@ -321,12 +322,12 @@ adds_lines aim id game mark old new marked (replay, is, entries, listed, added) 
   added ∙ ap (λ m. old ++ marked_lines m entries) marked
       ∙ ap (λ t. old
       ++ t) (listed_lines aim.name id (IsEntry aim (heading_of game) replay)
-      (AreFields aim.fields replay)
+      (IsShownOf aim id game replay)
       (plies_of 0 replay.positions) entries listed),
 )
 
 -- and what is handed on tells whether there is one
-pub some_chosen : (id : GameId) (P : ℕ → Type 0) (S : ℕ → List ℕ
+pub some_chosen : (id : GameId) (P : ℕ → Type 0) (S : ℕ → Shown
     → Type 0) (ply : ℕ) (positions : List State) (entries : List Entry)
     → AreChosen id P S (plies_of ply positions) entries
     → IsTrue (or_some false entries) ↔ ((n : ℕ) × (ply ≤ n) × (n < ply + length positions) × P n)

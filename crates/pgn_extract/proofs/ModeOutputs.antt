@@ -8,12 +8,13 @@ use Rattle.pgn_extract.proofs.Common.{index_line, Entry, entry_line, listing, Ar
 use Rattle.pgn_extract.proofs.Common.{ArePieceEntries, AreEntryRows, IsGameExport, IsPieceExport}
 use Rattle.pgn_extract.proofs.Common.{AreExports, faulty_text, Adds, Verdict, SoundGame, FaultyGame}
 use Rattle.pgn_extract.proofs.Common.{output_of, IsReplayed, IsGameVerdict, output_text}
-use Rattle.pgn_extract.proofs.Common.{inl, inr, IsGameText, IsEntry, AreFields, heading_of}
+use Rattle.pgn_extract.proofs.Common.{inl, inr, IsGameText, IsEntry, heading_of}
 use Rattle.pgn_extract.proofs.Common.{plies_of, Main}
 use Rattle.pgn_extract.proofs.Common.{written_lines, unselected, IsVerdictIn}
 use Rattle.pgn_extract.proofs.Common.{IsPieceVerdict, AreVerdicts, Aim, GameId}
 use Rattle.pgn_extract.specs.Private.EntryRows.{sound, faulty}
 use Rattle.pgn_extract.specs.Public.Exports.{sound as exported, faulty as unexported}
+use Rattle.pgn_extract.specs.Public.Listing.{IsShownOf}
 use Rattle.pgn_extract.specs.Public.Laws.{RunIndexes, RunExports}
 use Rattle.pgn_extract.proofs.ChoiceFacts.{choice_of}
 use Rattle.pgn_extract.proofs.SomeReport.{answers}
@@ -50,7 +51,7 @@ of_game_verdict tags_first aim verdict id game text is =
         | inl (replay, is) ↦ (
           [],
           sound replay is
-              (none_chosen id (IsEntry aim (heading_of game) replay) (AreFields aim.fields replay)
+              (none_chosen id (IsEntry aim (heading_of game) replay) (IsShownOf aim id game replay)
               (λ ply. no_entry aim (heading_of game) replay ply out)
               (plies_of 0 replay.positions)),
           ap output_of none,

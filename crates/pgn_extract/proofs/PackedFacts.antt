@@ -6,13 +6,15 @@ use Rattle.pgn_extract.proofs.Common.{same_Some, State, Move, GameText, tag_in, 
 use Rattle.pgn_extract.proofs.Common.{IsMainLine, RawRecord, raw_of, PackedGame, FitsRecord}
 use Rattle.pgn_extract.proofs.Common.{AreMarks, Replay, fen_tag, IsStart, Main, head_shows}
 use Rattle.pgn_extract.proofs.Common.{one_start, one_replay, line_length, same_rest, heading_of}
-use Rattle.pgn_extract.proofs.Common.{Sight, IsSightOf, Aim, IsEntry, AreListed, Entry, AreFields}
+use Rattle.pgn_extract.proofs.Common.{Sight, IsSightOf, Aim, IsEntry, AreListed, Entry}
 use Rattle.pgn_extract.proofs.Common.{listing, named_mark, HandsOn, marked_lines, raw_id}
 use Rattle.pgn_extract.proofs.Common.{IsOfRecord, HasNoText, EachOfRecord, NoneInRecord, record_aim}
-use Rattle.pgn_extract.proofs.Common.{AreRecordLines, IsOfNoGame, IsRecordListing, Mode}
+use Rattle.pgn_extract.proofs.Common.{true, AreRecordLines, IsOfNoGame, IsRecordListing, Mode}
 use Rattle.pgn_game.proofs.RecordFacts.{plies_size}
 use Rattle.pgn_game.proofs.RecordWriting.{codes_count}
 use Rattle.pgn_extract.specs.Private.Packed.{PutsRecord, HasItsMarks, Grows, ListsRecord}
+use Rattle.pgn_extract.specs.Public.Listing.{IsShownOf, is_bare}
+use Rattle.pgn_extract.proofs.ShownTexts.{listed_bare}
 use Rattle.pgn_extract.proofs.Finds.{adds_lines}
 use Rattle.pgn_extract.proofs.Picks.{leaves_all}
 use Rattle.pgn_extract.specs.declared.settings.Mode.TheVariants as modes
@@ -73,10 +75,11 @@ module _ {raw : RawRecord} {game : GameText} {replay : Replay} {packed : PackedG
 
 -- the entries that are handed on as lines are those of the record
 pub lists_record : (aim : Aim) (raw : RawRecord) (mark old new : List ℕ)
+    → is_bare aim.line ≡ true
     → mark ≡ named_mark raw.name (raw_id raw) → Grows old new
     → EachOfRecord raw (λ game replay packed. HandsOn (record_aim aim raw) (raw_id raw) game
     (λ got. new ≡ old ++ marked_lines mark got)) → ListsRecord aim raw old new
-lists_record aim raw mark old new marked grows hands = (
+lists_record aim raw mark old new bare marked grows hands = (
   grows,
   λ game replay packed own.
       let (other, is, entries, listed, added) =
@@ -85,7 +88,8 @@ lists_record aim raw mark old new marked grows hands = (
       let same : other ≡ replay =
       one_replay Main (tag_in fen_tag game.tags) game.elements other replay is own.is_replay in (
         entries,
-        subst (λ r. AreListed aim (raw_id raw) (heading_of game) r entries) same listed,
+        subst (λ r. AreListed aim (raw_id raw) game r entries) same
+            (listed_bare aim raw.name (raw_id raw) game other entries bare listed),
         added,
       ),
 )
@@ -97,7 +101,8 @@ lists_none aim raw text none = (
   ([], sym (append-nil text)),
   λ game replay packed own. (
     [],
-    leaves_all (raw_id raw) (IsEntry aim (heading_of game) replay) (AreFields aim.fields replay) 0
+    leaves_all (raw_id raw) (IsEntry aim (heading_of game) replay)
+        (IsShownOf aim (raw_id raw) game replay) 0
         replay.positions
         (λ n low high entry. none game replay packed own n (omega (arith, high)) entry.0),
     sym (append-nil text),
@@ -130,10 +135,10 @@ puts_record aim raw old new mode lists = (
       record { fits = fits; shows = shows; text = text; is_replay = is_replay; kept = kept } in
       let of = lists.1 game replay packed own in
       let there : (entries : List Entry)
-      × AreListed aim (raw_id (raw_of packed)) (heading_of game) replay entries
+      × AreListed aim (raw_id (raw_of packed)) game replay entries
       × (new ≡ old ++ listing (raw_of packed).name entries) =
       subst (λ (r : RawRecord). (entries : List Entry)
-      × AreListed aim (raw_id r) (heading_of game) replay entries
+      × AreListed aim (raw_id r) game replay entries
       × (new ≡ old ++ listing r.name entries)) (sym shows) of in (
         there.0,
         there.1,

@@ -5,9 +5,10 @@ use Rattle.pgn_extract.proofs.Common.{State, Replay, GameText, Heading, heading_
 use Rattle.pgn_extract.proofs.Common.{Conditions, Aim, GameId, IsMet, IsOfGame, AsksFor, Entry}
 use Rattle.pgn_extract.proofs.Common.{plies_of, AreChosen, none, leave}
 use Rattle.pgn_criteria.specs.Public.Conditions.{no_conditions}
+use Rattle.pgn_extract.specs.Public.Listing.{Shown}
 use Rattle.pgn_extract.proofs.FieldTexts.{some_position}
 
-module _ (id : GameId) (P : ℕ → Type 0) (S : ℕ → List ℕ → Type 0) where
+module _ (id : GameId) (P : ℕ → Type 0) (S : ℕ → Shown → Type 0) where
   -- of positions in a row the first are left
   pub leaves : (ply count : ℕ) (positions : List State) (chosen : List Entry)
       → ((n : ℕ) → ply ≤ n → n < ply + count → P n → ⊥)

@@ -9,7 +9,7 @@ use Rattle.pgn_extract.proofs.Common.{UnreadableRest, TooLongBlock, MarkedPiece,
 use Rattle.pgn_extract.proofs.Common.{over, within, AreOfBlocks, AreMarkedPieces, GameText}
 use Rattle.pgn_extract.proofs.Common.{IsGameText, ShowsGame, tag_in, Part, spelled, lines_with}
 use Rattle.pgn_extract.proofs.Common.{Fault, Lines, Main, fen_tag, id_of, IfChosen, is_chosen}
-use Rattle.pgn_extract.proofs.Common.{fault_text, mark_line, AreFields, IsGameOf, listing, plies_of}
+use Rattle.pgn_extract.proofs.Common.{fault_text, mark_line, IsGameOf, listing, plies_of}
 use Rattle.pgn_extract.proofs.Common.{cause_text, IsReplayOf, IsFaultOf, Form, Standard, AsItStands}
 use Rattle.pgn_extract.proofs.Common.{Line, Record, line_with, lines_in, written_lines, HasEntry}
 use Rattle.pgn_extract.proofs.Common.{IsTextOf, IsWritten, selected, unselected, as_it_stands}
@@ -31,7 +31,8 @@ use Rattle.pgn_extract.proofs.Chosen.{some_chosen}
 use Rattle.pgn_extract.proofs.Decided.{IsDecided, all_decided}
 use Rattle.pgn_extract.proofs.ExactEntries.{within_plies}
 use Rattle.pgn_extract.proofs.Exported.{selected_or_not}
-use Rattle.pgn_extract.proofs.FieldTexts.{some_fields}
+use Rattle.pgn_extract.specs.Public.Listing.{IsShownOf}
+use Rattle.pgn_extract.proofs.ShownTexts.{some_shown}
 use Rattle.pgn_extract.proofs.NoteLines.{empty_note, some_stop_note}
 use Rattle.pgn_extract.proofs.TagsFirst.{ruled_out_or_not}
 use Rattle.pgn_extract.specs.Public.Verdicts.IsPlayedOrNot.{played, unplayed}
@@ -205,11 +206,12 @@ module _ (aim : Aim) (decided : IsDecided aim) (id : GameId) (game : GameText)
   entries : (replay : Replay) → IsReplayOf Main game replay
       → (own : List ℕ) × AreEntryLines aim id game replay own
   entries replay is =
-      let some = some_chosen id (IsEntry aim (heading_of game) replay) (AreFields aim.fields replay)
+      let some = some_chosen id (IsEntry aim (heading_of game) replay)
+      (IsShownOf aim id game replay)
       (plies_of 0 replay.positions)
       (λ ply has. listed_or_not Main replay is ply (within_plies replay.positions ply has))
       (λ ply has.
-      some_fields aim.fields Main (tag_in fen_tag game.tags) game.elements replay is
+      some_shown aim.line aim.name id game text Main replay is
       ply (within_plies replay.positions ply has)) in
       (listing aim.name some.0, (some.0, some.1, refl))
 

@@ -7,6 +7,7 @@ use Rattle.pgn_extract.proofs.Common.{AreChosen, keep, leave, none, HasEntry, Is
 use Rattle.pgn_extract.proofs.Common.{SoundGame, IsGameVerdict, IsReplayed, Mode, Select, Faulty}
 use Rattle.pgn_extract.proofs.Common.{Matching, Others}
 use Rattle.pgn_criteria.proofs.HeadingFacts.{may_or_not, may_where_met}
+use Rattle.pgn_extract.specs.Public.Listing.{Shown}
 use Rattle.pgn_extract.specs.Public.Verdicts.IsPlayedOrNot.{played, unplayed}
 
 -- ---- entries
@@ -23,7 +24,7 @@ no_entry aim heading replay ply out entry =
     no_met aim.criteria heading replay ply out.no_chance entry.0.2
 
 -- of plies of which none has the fact, none is chosen
-module _ (id : GameId) (P : ℕ → Type 0) (S : ℕ → List ℕ → Type 0) (fails : (ply : ℕ)
+module _ (id : GameId) (P : ℕ → Type 0) (S : ℕ → Shown → Type 0) (fails : (ply : ℕ)
     → P ply → ⊥) where
   pub none_chosen : (all : List ℕ) → AreChosen id P S all []
   none_chosen [] = none

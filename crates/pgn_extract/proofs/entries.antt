@@ -2,3 +2,8 @@ pub mod EachPly
 pub mod KeptLines
 pub mod PlayedFacts
 pub mod TenLines
+pub mod PlainValues
+pub mod RowMaking
+pub mod RowTextFacts
+pub mod PlainTexts
+pub mod LineMaking

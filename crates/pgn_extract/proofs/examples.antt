@@ -5,3 +5,4 @@ pub mod ReportExamples
 pub mod ReportRows
 pub mod RequestExamples
 pub mod RunRows
+pub mod RowExamples

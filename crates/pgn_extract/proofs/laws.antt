@@ -11,3 +11,7 @@ pub mod PartsReported
 pub mod Resumed
 pub mod ShownNames
 pub mod TaggedOutput
+pub mod Codes
+pub mod CsvRows
+pub mod TsvRows
+pub mod JsonStrings

@@ -4,6 +4,11 @@ pub mod Choices
 pub mod Aims
 pub mod Requests
 pub mod Index
+pub mod Csv
+pub mod Tsv
+pub mod Json
+pub mod Columns
+pub mod Rows
 pub mod Listing
 pub mod GameReports
 pub mod Exports
@@ -14,4 +19,5 @@ pub mod Resuming
 pub mod Runs
 pub mod Several
 pub mod Searching
+pub mod RowLaws
 pub mod Laws

@@ -7,6 +7,7 @@ mod conditions;
 mod debians;
 mod endings;
 pub(crate) mod files;
+pub(crate) mod header;
 pub mod mark;
 mod mark_lines;
 pub mod messages;
@@ -24,6 +25,7 @@ use crate::app::endings::{
     flush_rest, line_of, put_summary, report_bytes, report_failure, report_line,
 };
 use crate::app::files::{Files, Task, Total, name_file, run_files, run_input};
+use crate::app::header::{RefusedColumns, put_header, read_row};
 use crate::app::order::{Order, accept, has_names, packed_settings, settings_of};
 use crate::app::outputs::refuse_outputs;
 use crate::app::packs::{PackTask, search_packs};
@@ -33,6 +35,7 @@ use crate::explain::refusal_notes::{doubt_notes, file_note, line_note};
 use crate::marks::Marks;
 use crate::output::file_name::shown_lines;
 use crate::output::write_all::write_all;
+use crate::rows::column::Row;
 use clap::Error;
 use clap::error::ErrorKind;
 use pgn_criteria::{Criteria, CriteriaError};
@@ -153,6 +156,16 @@ where
             let line = messages::CANNOT_READ_CRITERIA;
             Err(refused_file(alloc, &error, line, path, order.noted))
         }
+    }
+}
+
+/// The row that is asked for, if one is.
+fn row_of(alloc: Global, order: &Order<'_>) -> Result<Option<Row>, Refusal> {
+    match read_row(alloc, order) {
+        Ok(row) => Ok(row),
+        Err(RefusedColumns::Line(line)) => Err(Refusal::Line(line)),
+        Err(RefusedColumns::Named(line)) => Err(Refusal::Text(line)),
+        Err(RefusedColumns::OutOfMemory) => Err(Refusal::OutOfMemory),
     }
 }
 
@@ -294,6 +307,7 @@ where
 {
     let order = read_order(alloc, arguments, files.is_watched())?;
     let request = &order.request;
+    let row = row_of(alloc, &order)?;
     refuse_outputs(alloc, files, request)?;
     let criteria = read_criteria(alloc, files, &order)?;
     let (chosen, unmarked) = match read_chosen(alloc, files, &order)? {
@@ -322,7 +336,7 @@ where
     }
     let mut task = Task {
         alloc,
-        settings: settings_of(&order, criteria, chosen),
+        settings: settings_of(&order, row, criteria, chosen),
         paths: &request.files,
         with_names: has_names(request),
         summary: request.summary,
@@ -331,9 +345,15 @@ where
     let ended = if request.files.len() < 2 {
         let (name, input) = open_input(alloc, files, &order)?;
         name_file(&mut task, name)?;
-        run_input(&task, input, out, err).map(Total::of)
+        match put_header(alloc, out, &task.settings, request.no_header) {
+            Ok(()) => run_input(&task, input, out, err).map(Total::of),
+            Err(error) => Err(error),
+        }
     } else {
-        run_files(&mut task, files, out, err)
+        match put_header(alloc, out, &task.settings, request.no_header) {
+            Ok(()) => run_files(&mut task, files, out, err),
+            Err(error) => Err(error),
+        }
     };
     Ok(match ended {
         Ok(total) => end_task(&task, err, &total, &unmarked),

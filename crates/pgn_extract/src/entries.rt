@@ -12,13 +12,16 @@ ghost use Rattle.pgn_extract.specs.Private.Finding.{AddsEntries, StopsAtFault, I
 pub(crate) mod finding;
 pub(crate) mod kept;
 pub(crate) mod line;
+pub(crate) mod line_maker;
 pub(crate) mod listing;
 mod played;
+pub(crate) mod row_maker;
 mod sink;
 mod ten_lines;
 
 use crate::entries::finding::Finder;
 use crate::entries::kept::{Kept, has_kept};
+use crate::entries::line_maker::LineMaker;
 use crate::entries::played::{Anything, find_played};
 use crate::marks::GameId;
 use crate::output::texts::{MARK_ROOM, push_named_mark};
@@ -61,7 +64,7 @@ pub fn push_entries<'a>(
     let finder = Finder {
         settings,
         first: settings.first,
-        fields: settings.fields,
+        lines: LineMaker::of_game(context, game)?,
         mark,
     };
     let Some(criteria) = &settings.criteria else {
@@ -125,7 +128,7 @@ pub fn has_entry<'a>(
     let finder = Finder {
         settings,
         first: true,
-        fields: Fields::NONE,
+        lines: LineMaker::Fields(Fields::NONE),
         mark: Vec::new(alloc),
     };
     let mut found = false;

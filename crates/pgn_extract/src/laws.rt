@@ -1,6 +1,11 @@
 //! What holds of every text, whatever lists or reports it. Each law is the contract of a function
 //! that does nothing.
 
+ghost use Rattle.pgn_extract.specs.Public.RowLaws.{CsvIsReadBack, CsvHasOneReading, CsvIsReadOnce};
+ghost use Rattle.pgn_extract.specs.Public.RowLaws.{TsvIsReadBack, TsvHasOneReading, TsvIsReadOnce};
+ghost use Rattle.pgn_extract.specs.Public.RowLaws.{StringIsReadBack, StringHasOneReading};
+ghost use Rattle.pgn_extract.specs.Public.RowLaws.{StringIsReadOnce, TableIsReadBack};
+ghost use Rattle.pgn_extract.specs.Public.RowLaws.{TableIsReadOnce};
 ghost use Rattle.pgn_extract.specs.Public.Searching.{PackedTextIsAPack};
 ghost use Rattle.pgn_extract.specs.Public.Laws.{PiecesHaveOneListing, EachPieceHasAMark};
 ghost use Rattle.pgn_extract.specs.Public.Laws.{TextHasAReport, TextHasOneReport};
@@ -84,4 +89,21 @@ pub fn complete_runs()
     ensures indexes { RunIndexes }
     ensures exports { RunExports }
     ensures resumes { RunResumes }
+{}
+
+/// A row of values with commas or tabs between is read as it was written, whatever stands after it,
+/// and in no other way; a text begins with one row at most. So is a string of JSON, and so are rows
+/// one below another: no value of a tag makes a cell, a row or a number of its own.
+pub fn one_row()
+    ensures csv_read { CsvIsReadBack }
+    ensures csv_reading { CsvHasOneReading }
+    ensures csv_once { CsvIsReadOnce }
+    ensures tsv_read { TsvIsReadBack }
+    ensures tsv_reading { TsvHasOneReading }
+    ensures tsv_once { TsvIsReadOnce }
+    ensures string_read { StringIsReadBack }
+    ensures string_reading { StringHasOneReading }
+    ensures string_once { StringIsReadOnce }
+    ensures table_read { TableIsReadBack }
+    ensures table_once { TableIsReadOnce }
 {}

@@ -9,7 +9,7 @@ ghost use Rattle.pgn_game.specs.Public.PackReading.{IsRawOfGame};
 ghost use Rattle.pgn_extract.specs.Public.Aims.{Aim, aim_of};
 ghost use Rattle.pgn_extract.specs.Private.Finding.{named_mark};
 ghost use Rattle.pgn_extract.specs.Public.Index.{mark_line, titled};
-ghost use Rattle.pgn_extract.specs.Public.Listing.{is_plain};
+ghost use Rattle.pgn_extract.specs.Public.Listing.{is_bare};
 ghost use Rattle.pgn_criteria.specs.Public.Meeting.{heading_of};
 ghost use Rattle.pgn_criteria.specs.Public.Prefilters.{codes_in};
 ghost use Rattle.pgn_extract.specs.Private.Packed.{raw_id, PutsRecord, LeavesRecord, EachOfRecord};
@@ -25,13 +25,14 @@ mod walked;
 
 use crate::entries::finding::Finder;
 use crate::entries::line::Line;
+use crate::entries::line_maker::LineMaker;
 use crate::entries::listing::push_lines;
 use crate::marks::GameId;
 use crate::output::texts::{MARK_ROOM, push_mark};
 use crate::packed::kept_packed::push_kept_record;
 use crate::packed::marked::Marked;
 use crate::packed::walked::Walked;
-use crate::settings::{Mode, Settings};
+use crate::settings::{Fields, Mode, Settings};
 use chess::{Bits, Board, Side};
 use pgn_criteria::{Criteria, MarkSet, Seen, Walk};
 use pgn_game::pack::RawRecord;
@@ -146,6 +147,7 @@ fn push_found<L: Line + Drop>(
     start: L,
 ) -> Result<(), L::Fault>
     requires valid { L.Valid start }
+    requires plain { is_bare settings.now.line ≡ true }
     requires stands { StandsInRecord (L.At start) (aim_of settings.now) record.now }
     ensures { OnOk result
         (ListsRecord (aim_of settings.now) record.now text.old.items text.new.items) }
@@ -155,7 +157,7 @@ fn push_found<L: Line + Drop>(
     let finder = Finder {
         settings,
         first: settings.first,
-        fields: settings.fields,
+        lines: LineMaker::Fields(Fields::NONE),
         mark,
     };
     let mut line = start;
@@ -183,7 +185,7 @@ fn side_at_start(alloc: Global, record: &RawRecord<'_>) -> Result<Side, PackedFa
 #[inline(always)]
 fn first_marked<'p>(marks: MarkSet, turn: Side, record: &RawRecord<'p>) -> Option<Marked<'p>>
     requires starts { StartsWith record.now turn }
-    ensures { (aim : Aim) → is_plain aim.fields ≡ true
+    ensures { (aim : Aim) → is_bare aim.line ≡ true
         → EachOfRecord record.now (λ game replay packed.
         AreMetWith marks.flags (heading_of game) aim.criteria)
         → MatchOption result (NoneInRecord aim record.now)
@@ -223,7 +225,7 @@ fn push_marked(
     marks: MarkSet,
     record: &RawRecord<'_>,
 ) -> Result<(), PackedFault>
-    requires plain { is_plain settings.now.fields ≡ true }
+    requires plain { is_bare settings.now.line ≡ true }
     requires met { EachOfRecord record.now (λ game replay packed.
         AreMetWith marks.flags (heading_of game) settings.now.criteria) }
     ensures ok { OnOk result
@@ -251,7 +253,7 @@ fn push_walked<'a>(
     criteria: &'a Criteria,
     record: &RawRecord<'a>,
 ) -> Result<(), PackedFault>
-    requires plain { is_plain settings.now.fields ≡ true }
+    requires plain { is_bare settings.now.line ≡ true }
     requires criteria { settings.now.criteria ≡ Some criteria.now }
     requires shows { IsRawOfGame record.now }
     ensures ok { OnOk result
@@ -290,7 +292,7 @@ fn push_plain(
     settings: &Settings,
     record: &RawRecord<'_>,
 ) -> Result<(), PackedFault>
-    requires plain { is_plain settings.now.fields ≡ true }
+    requires plain { is_bare settings.now.line ≡ true }
     requires criteria { settings.now.criteria ≡ None }
     requires shows { IsRawOfGame record.now }
     ensures ok { OnOk result
@@ -311,7 +313,7 @@ fn push_entries<'a>(
     settings: &'a Settings,
     record: &RawRecord<'a>,
 ) -> Result<(), PackedFault>
-    requires plain { is_plain settings.now.fields ≡ true }
+    requires plain { is_bare settings.now.line ≡ true }
     requires shows { IsRawOfGame record.now }
     ensures ok { OnOk result
         (ListsRecord (aim_of settings.now) record.now text.old.items text.new.items) }
@@ -342,7 +344,7 @@ pub fn push_packed<'a>(
     settings: &'a Settings,
     record: &RawRecord<'a>,
 ) -> Result<(), PackedFault>
-    requires plain { is_plain settings.now.fields ≡ true }
+    requires plain { is_bare settings.now.line ≡ true }
     requires shows { IsRawOfGame record.now }
     ensures ok { OnOk result
         (PutsRecord (aim_of settings.now) record.now text.old.items text.new.items) }

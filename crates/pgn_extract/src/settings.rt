@@ -1,9 +1,10 @@
 //! What a run is to do.
 ghost use Rattle.std.specs.Prelude.{◌≡◌};
-ghost use Rattle.pgn_extract.specs.Public.Listing.{is_plain};
+ghost use Rattle.pgn_extract.specs.Public.Listing.{is_plain, is_bare};
 
 use crate::marks::Marks;
 use crate::output::file_name::FileName;
+use crate::rows::column::Row;
 use pgn_criteria::Criteria;
 use pgn_game::{Notation, Style};
 
@@ -54,6 +55,27 @@ impl Fields {
     }
 }
 
+/// What the line of an entry is.
+#[derive(Debug, Drop)]
+pub enum EntryLine {
+    /// The mark of its game and its ply, and what is shown after them.
+    Marked(Fields),
+    /// A row.
+    InColumns(Row),
+}
+
+impl EntryLine {
+    /// Whether it is the mark and the ply alone.
+    pub(crate) fn is_bare(&self) -> bool
+        ensures { result ≡ is_bare self.now }
+    {
+        match self {
+            EntryLine::Marked(fields) => fields.is_empty(),
+            EntryLine::InColumns(_) => false,
+        }
+    }
+}
+
 /// How a game that the export selects is written.
 #[derive(Clone, Copy, Debug, PartialEq, Eq)]
 pub enum Form {
@@ -87,8 +109,8 @@ pub struct Settings {
     pub max_ply: u32,
     /// Whether of each game only the first entry is listed.
     pub first: bool,
-    /// What the line of an entry shows after the ply.
-    pub fields: Fields,
+    /// What the line of an entry is.
+    pub line: EntryLine,
     /// Which games the export writes.
     pub select: Select,
     /// How each game that the export selects is written.

@@ -4,7 +4,7 @@ ghost use Rattle.std.specs.Prelude.{◌≡◌, ◌≤◌, ◌^◌};
 use chess::{Bits, Position, resolve};
 use pgn_criteria::Criteria;
 use pgn_extract::memory::{TwoFiles, Written, list_files, list_text};
-use pgn_extract::{Fields, Form, Mode, RunError, Select, Settings};
+use pgn_extract::{EntryLine, Fields, Form, Mode, RunError, Select, Settings};
 use pgn_game::{GameFault, Lines, Style, export, replay};
 use pgn_text::{Piece, RawGame, games};
 use std::alloc::{AllocError, Global};
@@ -86,10 +86,7 @@ fn plies(first: bool) -> Settings
         min_ply: 1,
         max_ply: u32::MAX,
         first,
-        fields: Fields {
-            fen: false,
-            next: false,
-        },
+        line: EntryLine::Marked(Fields::NONE),
         select: Select::Matching,
         form: Form::Standard,
         style: WHOLE,

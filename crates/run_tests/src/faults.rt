@@ -3,7 +3,7 @@ ghost use Rattle.std.specs.Prelude.{◌≤◌, ◌^◌, IfOk};
 
 use crate::trials::Trial;
 use pgn_criteria::Criteria;
-use pgn_extract::{Fields, Form, Mode, Select, Settings};
+use pgn_extract::{EntryLine, Fields, Form, Mode, Select, Settings};
 use pgn_game::Style;
 use std::alloc::Global;
 use std::test::Fail;
@@ -40,10 +40,7 @@ fn settings_of(mode: Mode, number: u64, offset: u64) -> Settings
         min_ply: 0,
         max_ply: u32::MAX,
         first: false,
-        fields: Fields {
-            fen: false,
-            next: false,
-        },
+        line: EntryLine::Marked(Fields::NONE),
         select: Select::Matching,
         form: Form::Standard,
         style: PLAIN,

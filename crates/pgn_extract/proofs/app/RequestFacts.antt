@@ -5,6 +5,7 @@ use Rattle.pgn_extract.proofs.Common.{◌++◌, Option, None, Some, codes, cond,
 use Rattle.pgn_extract.proofs.Common.{nat_tests, list_all, Refusal, first_line, option_refusals}
 use Rattle.pgn_extract.proofs.Common.{text_refusals, refused, begin_of, end_of, is_one_line}
 use Rattle.pgn_extract.proofs.Common.{bad_mark, Request}
+use Rattle.pgn_extract.specs.Public.Requests.{row_refusals, other_refusals}
 use Rattle.pgn_extract.specs.declared.marks.GameId.{GameId}
 
 first_of_two : (first second : List Refusal)
@@ -17,6 +18,19 @@ first_of_two (refusal ∷ more) second =
       | true ↦ refl
       | false ↦ first_of_two more second
     ]
+
+-- that of rows, and without one that of the others
+pub by_rows : (request : Request) (line : List ℕ) → first_line (row_refusals request) ≡ Some line
+    → first_line (option_refusals request) ≡ Some line
+by_rows request line is =
+    first_of_two (row_refusals request) (other_refusals request)
+    ∙ ap (λ found. option_or found (first_line (other_refusals request))) is
+
+pub by_others : (request : Request) → first_line (row_refusals request) ≡ None
+    → first_line (option_refusals request) ≡ first_line (other_refusals request)
+by_others request none =
+    first_of_two (row_refusals request) (other_refusals request)
+    ∙ ap (λ found. option_or found (first_line (other_refusals request))) none
 
 -- that of the options
 pub by_options : (noted : Bool) (request : Request) (line : List ℕ)

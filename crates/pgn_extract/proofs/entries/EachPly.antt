@@ -2,20 +2,22 @@
 use Rattle.std.proofs.Common.{◌≡◌, zero, List, ◌++◌, length, drop, Option, None, true, subst, arith}
 use Rattle.std.proofs.Common.{◌↔◌, ℕ, suc, ◌+◌, ◌-◌, ◌<◌, ◌≤◌, [], ◌∷◌, sym, refl, ap, inl, inr}
 use Rattle.pgn_extract.proofs.Common.{cases_lt, State, Replay, Heading, Conditions, Aim, GameId}
-use Rattle.pgn_extract.proofs.Common.{IsMet, IsEntry, named_mark, Entry, AreFields, is_plain}
+use Rattle.pgn_extract.proofs.Common.{IsMet, IsEntry, named_mark, Entry, GameText, heading_of}
 use Rattle.pgn_extract.proofs.Common.{entry_line, listing, plies_of, AreListed, AreChosen, keep}
 use Rattle.pgn_extract.specs.Private.Blockwise.{IsPlainEntry, lines_from}
 use Rattle.pgn_extract.proofs.Chosen.{entry_at}
-use Rattle.pgn_extract.proofs.FieldTexts.{no_fields}
+use Rattle.pgn_extract.proofs.ShownTexts.{nothing_shown}
+use Rattle.pgn_extract.specs.Public.Listing.{Shown, AfterPly, IsShownOf, is_bare}
+use Rattle.pgn_extract.specs.Public.Rows.{place_of}
 use Rattle.pgn_extract.proofs.Picks.{leaves, leaves_all, dropped}
 
 -- the entries of a game at so many plies in a row
 pub plies_from : GameId → ℕ → ℕ → List Entry
 plies_from id ply zero = []
-plies_from id ply (suc count) = entry_at id ply [] ∷ plies_from id (ply + 1) count
+plies_from id ply (suc count) = entry_at id ply (AfterPly []) ∷ plies_from id (ply + 1) count
 
-module _ (id : GameId) (P : ℕ → Type 0) (S : ℕ → List ℕ → Type 0) (bare : (ply : ℕ)
-    → S ply []) where
+module _ (id : GameId) (P : ℕ → Type 0) (S : ℕ → Shown → Type 0) (bare : (ply : ℕ)
+    → S ply (AfterPly [])) where
   -- of positions in a row the first so many are chosen
   keeps : (ply count : ℕ) (positions : List State) → count ≤ length positions
       → ((n : ℕ) → ply ≤ n → n < ply + count → P n)
@@ -26,7 +28,7 @@ module _ (id : GameId) (P : ℕ → Type 0) (S : ℕ → List ℕ → Type 0) (b
       leaves_all id P S ply positions (λ n low high. fails n (omega arith) high)
   keeps ply (suc count) [] fits holds fails = absurd (omega arith)
   keeps ply (suc count) (position ∷ more) fits holds fails =
-      keep ply [] (plies_of (ply + 1) more) (plies_from id (ply + 1) count)
+      keep ply (AfterPly []) (plies_of (ply + 1) more) (plies_from id (ply + 1) count)
       (holds ply (omega arith) (omega arith)) (bare ply)
       (keeps (ply + 1) count more (omega arith) (λ n low high.
       holds n (omega arith) (omega arith)) (λ n low high. fails n (omega arith) (omega arith)))
@@ -86,15 +88,17 @@ plain_entry aim no_criteria tags replay plies n within = (to, from)
 
 -- so the entries are the plies from the least one on
 pub listed_plies : (aim : Aim) (id : GameId) (plies end : ℕ) → aim.criteria ≡ None
-    → is_plain aim.fields ≡ true
+    → is_bare aim.line ≡ true
     → ((ply : ℕ) → IsPlainEntry aim plies ply ↔ (aim.min_ply ≤ ply) × (ply < end))
-    → (tags : Heading) (replay : Replay) → length replay.positions ≡ plies + 1
-    → AreListed aim id tags replay (plies_from id aim.min_ply (end - aim.min_ply))
-listed_plies aim id plies end no_criteria plain range tags replay size =
-    between id (IsEntry aim tags replay) (AreFields aim.fields replay)
-    (no_fields aim.fields plain replay) aim.min_ply end replay.positions
+    → (game : GameText) (replay : Replay) → length replay.positions ≡ plies + 1
+    → AreListed aim id game replay (plies_from id aim.min_ply (end - aim.min_ply))
+listed_plies aim id plies end no_criteria plain range game replay size =
+    between id (IsEntry aim (heading_of game) replay) (IsShownOf aim id game replay)
+    (λ ply. nothing_shown aim.line plain (place_of aim.name id game replay ply)) aim.min_ply end
+    replay.positions
     (λ n entry. entry.0.0)
-    (λ n less. let plain = plain_entry aim no_criteria tags replay plies n (omega arith) in
+    (λ n less. let plain = plain_entry aim no_criteria (heading_of game) replay plies n
+    (omega arith) in
     (λ entry. (range n).0 (plain.0 entry), λ bounds. plain.1 ((range n).1 bounds)))
     (λ some. let last = (range (end - 1)).1 (omega arith, omega arith) in let within = last.0 in
     omega arith)
@@ -105,4 +109,5 @@ pub lines_listed : (name : Option (List ℕ)) (id : GameId) (ply count : ℕ)
 unfolding lines_from plies_from
 lines_listed name id ply zero = refl
 lines_listed name id ply (suc count) =
-    ap (λ t. entry_line name (entry_at id ply []) ++ t) (lines_listed name id (ply + 1) count)
+    ap (λ t. entry_line name (entry_at id ply (AfterPly [])) ++ t)
+    (lines_listed name id (ply + 1) count)

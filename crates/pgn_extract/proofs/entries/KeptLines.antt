@@ -20,6 +20,11 @@ use Rattle.pgn_extract.proofs.PackedFacts.{line_begins}
 use Rattle.pgn_extract.proofs.OneMain.{one_main, stands_main}
 use Rattle.pgn_criteria.proofs.OpeningFacts.{met_alike}
 use Rattle.pgn_extract.proofs.FieldTexts.{IsTextAt}
+use Rattle.pgn_extract.specs.Private.Lines.{ShowsValue, Where}
+use Rattle.pgn_extract.specs.Public.Listing.{IsShownOf}
+use Rattle.pgn_extract.specs.Public.Rows.{IsPlyCell, IsMoveCell, IsAt}
+use Rattle.pgn_extract.specs.declared.rows.column.PlyColumn.{PlyColumn}
+use Rattle.pgn_extract.specs.declared.rows.column.PlyColumn.TheVariants.{Ply, OfPosition, Next}
 
 -- replays with the same positions and moves meet the same criteria
 pub met_there : (criteria : Option (List Conditions)) (heading : Heading) (kept other : Replay)
@@ -72,6 +77,15 @@ pub next_played : (replay : Replay) (ply : ℕ) (P : State) (m : Move) (text : L
 next_played replay ply P m text here played san =
     subst (λ (o : Option Move).
     MatchOption o (text ≡ codes "-") (IsTextAt replay.positions ply text)) (sym played)
+    (P, here, san)
+
+-- the value of the column of the move that is played there
+pub cell_played : (replay : Replay) (ply : ℕ) (P : State) (m : Move) (value : List ℕ)
+    → slice_get replay.positions ply ≡ Some P
+    → slice_get replay.played ply ≡ Some m → IsSan P m value → IsMoveCell replay ply value
+cell_played replay ply P m value here played san =
+    subst (λ (o : Option Move).
+    MatchOption o (value ≡ []) (λ n. IsAt replay ply (λ Q. IsSan Q n value))) (sym played)
     (P, here, san)
 
 pub none_played : (replay : Replay) (ply : ℕ) → length replay.played ≤ ply
@@ -152,9 +166,30 @@ pub shows_kept : (kept : Replay) (met : List Bool) (ply : ℕ) (fields : Fields)
     → AreFields fields kept ply shown → ShowsFields fields shown aim game before P
 shows_kept kept met ply fields shown aim game before P at of same replay own rest is =
     let alike = one_main game kept replay (Main, at.is_replay) own in
-    subst (λ f. AreFields f replay (length before) shown) same
-    (fields_there fields kept replay alike.0 alike.1 (length before) shown
-    (subst (λ n. AreFields fields kept n shown) (sym at.count) of))
+    fields_there fields kept replay alike.0 alike.1 (length before) shown
+    (subst (λ n. AreFields fields kept n shown) (sym at.count) of)
+
+-- and the value of a column
+value_alike : (own : PlyColumn) (kept other : Replay) → kept.positions ≡ other.positions
+    → kept.played ≡ other.played → (ply : ℕ) (value : List ℕ) → IsPlyCell own kept ply value
+    → IsPlyCell own other ply value
+value_alike Ply kept other positions played ply value is = is
+value_alike (OfPosition own) kept other positions played ply value (P, here, is) =
+    (P, ap (λ ps. slice_get ps ply) (sym positions) ∙ here, is)
+value_alike Next kept other positions played ply value is =
+    subst (λ ms. MatchOption (slice_get ms ply) (value ≡ [])
+    (λ m. (P : State) × (slice_get other.positions ply ≡ Some P) × IsSan P m value)) played
+    (subst (λ ps. MatchOption (slice_get kept.played ply) (value ≡ [])
+    (λ m. (P : State) × (slice_get ps ply ≡ Some P) × IsSan P m value)) positions is)
+
+pub shows_kept_value : (kept : Replay) (met : List Bool) (ply : ℕ) (own : PlyColumn)
+    (value : List ℕ) → IsPlyCell own kept ply value
+    → Where (λ aim game before P. IsKeptWith kept met ply aim game before P)
+    (ShowsValue own value)
+shows_kept_value kept met ply own value is aim game before P at rows replay of rest parts =
+    let alike = one_main game kept replay (Main, at.is_replay) of in
+    value_alike own kept replay alike.0 alike.1 (length before) value
+    (subst (λ n. IsPlyCell own kept n value) (sym at.count) is)
 
 module _ (kept : Replay) (met : List Bool) (ply : ℕ) (aim : Aim) (game : GameText)
     (before : List State) (P : State)
@@ -266,7 +301,7 @@ tells_some aim id game found (replay, is, entries, listed, told) = (
         × IsEntry (record aim { first = true }) (heading_of game) replay n)
     some =
         some_chosen id (IsEntry (record aim { first = true }) (heading_of game) replay)
-        (AreFields aim.fields replay) 0 replay.positions entries listed
+        (IsShownOf aim id game replay) 0 replay.positions entries listed
 
 -- the first ply that meets the criteria is an entry, and where none does the game has none
 pub first_entry : (aim : Aim) (game : GameText) (kept other : Replay) → IsOfGame game kept

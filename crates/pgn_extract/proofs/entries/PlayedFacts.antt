@@ -1,5 +1,5 @@
 -- A line that is played stands at a position of the game, and goes on by a move.
-use Rattle.std.specs.Prelude.{codes}
+use Rattle.std.specs.Prelude.{codes, decimal}
 use Rattle.pgn_extract.proofs.Common.{◌≡◌, ◌+◌, ℕ, List, [], ◌∷◌, ◌++◌, length, Option, None, true}
 use Rattle.pgn_extract.proofs.Common.{false, Bool, refl, sym, ap, ◌∙◌, subst, append_assoc}
 use Rattle.pgn_extract.proofs.Common.{append-nil, length-append, inr, arith, Some, State, Move}
@@ -17,6 +17,13 @@ use Rattle.pgn_extract.specs.Private.Finding.{IsPlayedTo, ShowsHere, StopsInLine
 use Rattle.pgn_extract.specs.declared.entries.finding.Finder.{Finder}
 use Rattle.pgn_extract.specs.Private.PlayedLines.{IsPlayedWith}
 use Rattle.pgn_extract.proofs.Finds.{at_seam}
+use Rattle.pgn_extract.proofs.entries.PlainTexts.{move_value}
+use Rattle.pgn_extract.specs.Private.Finding.{IsNextValue}
+use Rattle.pgn_extract.specs.Private.Lines.{ShowsValue}
+use Rattle.pgn_extract.specs.Public.Rows.{IsPositionCell}
+use Rattle.pgn_extract.specs.declared.rows.column.PlyColumn.{PlyColumn}
+use Rattle.pgn_extract.specs.declared.rows.column.PlyColumn.TheVariants.{Ply, OfPosition, Next}
+use Rattle.pgn_extract.specs.declared.rows.column.PositionColumn.{PositionColumn}
 use Rattle.pgn_extract.proofs.PackedFacts.{line_begins}
 use Rattle.pgn_game.proofs.OneReplay.{one_move}
 
@@ -163,23 +170,27 @@ left_of {fen} {items} to replay (lines, is) =
     (subst (λ s. IsMainLine s (main_words items 0) replay.positions replay.played)
     (one_start fen is.start to.start is.is_start to.is_start) is.line)
 
+next_text_there : {fen : Option (List ℕ)} {items : List Item} {line : PlayedLine}
+    {before : List State} {played : List Move}
+    → IsPlayedTo fen items line before played → (replay : Replay) → IsSomeReplay fen items replay
+    → (text : List ℕ) → IsNextText line.position line.words text
+    → IsNextMove replay.positions replay.played (length before) text
+next_text_there {line = line} {before = before} {played = played} to replay own text of =
+    let left = left_of to replay own in
+    let here : IsNextMove (before ++ left.0) (played ++ left.1) (length before) text =
+    next_after before left.0 played left.1 text (to.moves
+    ∙ sym to.count) (next_left line.position line.words left.0 left.1 text left.2 of) in
+    subst (λ (ms : List Move). IsNextMove replay.positions ms (length before) text) (sym left.4)
+    (subst (λ (ps : List State). IsNextMove ps (played ++ left.1) (length before) text)
+    (sym left.3) here)
+
 next_there : (next : Bool) {fen : Option (List ℕ)} {items : List Item} {line : PlayedLine}
     {before : List State} {played : List Move}
     → IsPlayedTo fen items line before played → (replay : Replay) → IsSomeReplay fen items replay
     → (shown : List ℕ) → ShowsNext next line shown → IsNextField next replay (length before) shown
 next_there false to replay own shown bare = bare
-next_there true {line = line} {before = before} {played =
-    played} to replay own shown (text, of, whole) =
-    let left = left_of to replay own in
-    let here : IsNextMove (before ++ left.0) (played ++ left.1) (length before) text =
-    next_after before left.0 played left.1 text (to.moves
-    ∙ sym to.count) (next_left line.position line.words left.0 left.1 text left.2 of) in (
-      text,
-      subst (λ (ms : List Move). IsNextMove replay.positions ms (length before) text) (sym left.4)
-          (subst (λ (ps : List State). IsNextMove ps (played ++ left.1) (length before) text)
-          (sym left.3) here),
-      whole,
-    )
+next_there true to replay own shown (text, of, whole) =
+    (text, next_text_there to replay own text of, whole)
 
 -- what is shown where the line stands is what its ply shows
 pub shows_there : (fields : Fields) {fen : Option (List ℕ)} {items : List Item} {line : PlayedLine}
@@ -276,9 +287,34 @@ pub shows_fields : (fields : Fields) (line : PlayedLine) (asked : List Condition
     → Where (λ aim game before P.
     IsPlayedWith line asked aim game before P) (ShowsFields fields shown)
 shows_fields fields line asked shown here aim game before P at same replay own rest is =
-    subst (λ f. AreFields f replay (length before) shown) same
-    (shows_there fields at.to replay own rest (is
-    ∙ ap (λ (Q : State). before ++ Q ∷ rest) at.here) shown here)
+    shows_there fields at.to replay own rest (is
+    ∙ ap (λ (Q : State). before ++ Q ∷ rest) at.here) shown here
+
+-- and so is the value of a column
+abbrev ShowsThere : PlayedLine → List Conditions → PlyColumn → List ℕ → Type 0
+ShowsThere line asked column value =
+    Where (λ aim game before P. IsPlayedWith line asked aim game before P)
+    (ShowsValue column value)
+
+pub shows_ply : (line : PlayedLine) (asked : List Conditions) (value : List ℕ)
+    → value ≡ decimal line.plies → ShowsThere line asked Ply value
+shows_ply line asked value is aim game before P at rows replay own rest parts =
+    is ∙ ap decimal (sym at.to.count)
+
+pub shows_position : (line : PlayedLine) (asked : List Conditions) (own : PositionColumn)
+    (value : List ℕ) → IsPositionCell own line.position value
+    → ShowsThere line asked (OfPosition own) value
+shows_position line asked own value is aim game before P at rows replay of rest parts = (
+  P,
+  ap (λ ps. slice_get ps (length before)) parts ∙ at_seam before P rest,
+  subst (λ Q. IsPositionCell own Q value) (sym at.here) is,
+)
+
+pub shows_next : (line : PlayedLine) (asked : List Conditions) (value : List ℕ)
+    → IsNextValue line value → ShowsThere line asked Next value
+shows_next line asked value (text, is, left) aim game before P at rows replay own rest parts =
+    move_value replay (length before) text value
+    (next_text_there at.to replay own text is) left
 
 -- so is the fault of its next move, where something is added already
 pub fails_at : (line : PlayedLine) (asked : List Conditions) (old some mid new : List ℕ)

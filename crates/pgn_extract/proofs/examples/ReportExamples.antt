@@ -118,7 +118,7 @@ lines_that_are_replayed aim = refl
 
 -- where no entry is listed, nothing goes to the output
 no_line_of_no_entry : (aim : Aim) (id : GameId) (game : GameText) (replay : Replay)
-    → ((entries : List Entry) → AreListed aim id (heading_of game) replay entries
+    → ((entries : List Entry) → AreListed aim id game replay entries
     → codes "x" ≡ listing aim.name entries → ⊥)
     → IsOutput modes.List aim id game replay (codes "x") → ⊥
 no_line_of_no_entry aim id game replay none (entries, listed, is) = none entries listed is

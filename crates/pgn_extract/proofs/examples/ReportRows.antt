@@ -15,6 +15,7 @@ use Rattle.pgn_extract.specs.Public.Requests.{asked_form, asked_mode, asked_sele
 use Rattle.pgn_extract.specs.Public.Requests.{file_refusals, has_fields, has_mode, has_moves}
 use Rattle.pgn_extract.specs.Public.Requests.{has_style}
 use Rattle.pgn_extract.specs.Public.Several.{games_word}
+use Rattle.pgn_extract.specs.Public.Listing.{Shown, AfterPly, AsRow}
 use Rattle.pgn_extract.specs.declared.settings.Mode.TheVariants as modes
 
 -- Marks.
@@ -45,11 +46,11 @@ list_is_asked : (request : Request) → asked_mode (record request { list = true
 list_is_asked request = refl
 
 index_is_asked : (request : Request)
-    → asked_mode (record request { list = false; index = true }) ≡ modes.Index
+    → asked_mode (record request { list = false; rows = None; index = true }) ≡ modes.Index
 index_is_asked request = refl
 
 games_are_asked : (request : Request)
-    → asked_mode (record request { list = false; index = false }) ≡ modes.Export
+    → asked_mode (record request { list = false; rows = None; index = false }) ≡ modes.Export
 games_are_asked request = refl
 
 others_are_selected : (request : Request) → asked_select (record request { others = true }) ≡ Others
@@ -159,9 +160,22 @@ no_line_of_other_pieces : (name : Option (List ℕ)) (bytes : List ℕ)
 no_line_of_other_pieces name bytes = refl
 
 line_of_an_entry :
-    entry_line (Some (codes "a")) (record { id = game_id 2 5; ply = 3; shown = codes " e4" })
+    entry_line (Some (codes "a")) (record {
+      id = game_id 2 5;
+      ply = 3;
+      shown = AfterPly (codes " e4");
+    })
     ≡ (codes "a:" ++ mark (game_id 2 5)) ++ 32 ∷ decimal 3 ++ (codes " e4" ++ 10 ∷ [])
 line_of_an_entry = refl
+
+row_of_an_entry :
+    entry_line (Some (codes "a")) (record {
+      id = game_id 2 5;
+      ply = 3;
+      shown = AsRow (codes "3,e4\n");
+    })
+    ≡ codes "3,e4\n"
+row_of_an_entry = refl
 
 no_entry_is_earlier_than_itself : (entry : Entry) → IsEarlier entry entry → ⊥
 no_entry_is_earlier_than_itself entry is = elim is [
@@ -186,7 +200,7 @@ no_wanted_ply_is_left : (aim : Aim) (tags : Heading) (replay : Replay) (ply : �
     → IsMet (Some criteria) tags replay ply → ⊥
 no_wanted_ply_is_left aim tags replay ply criteria none met = none met
 
-no_entry_of_no_ply : (id : GameId) (P : ℕ → Type 0) (S : ℕ → List ℕ → Type 0) (entry : Entry)
+no_entry_of_no_ply : (id : GameId) (P : ℕ → Type 0) (S : ℕ → Shown → Type 0) (entry : Entry)
     → AreChosen id P S [] (entry ∷ []) → ⊥
 no_entry_of_no_ply id P S entry are = elim are [ ]
 

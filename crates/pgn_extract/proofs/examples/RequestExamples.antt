@@ -10,6 +10,7 @@ use Rattle.pgn_extract.specs.Public.GivenMarks.{mark_in}
 use Rattle.pgn_extract.specs.Public.Requests.{asked, asks_names, gives_mark, has_several_files}
 use Rattle.pgn_extract.specs.Public.Requests.{is_stretch}
 use Rattle.pgn_extract.specs.declared.marks.GameId.{GameId}
+use Rattle.pgn_extract.specs.declared.settings.EntryLine.TheVariants.{Marked}
 use Rattle.pgn_extract.specs.declared.settings.Mode.TheVariants as modes
 
 -- ---- marks
@@ -36,6 +37,11 @@ abbrev plain : Request → Request
 plain request = record request {
   index = false;
   list = false;
+  rows = None;
+  csv = false;
+  tsv = false;
+  jsonl = false;
+  no_header = false;
   packed = false;
   moves = false;
   uci = false;
@@ -78,6 +84,16 @@ packs_give_lines = codes "pgn-extract: --packed goes with --list or --index\n"
 abbrev packs_are_plain : List ℕ
 packs_are_plain =
     codes "pgn-extract: --packed goes with none of --fen, --next, --from, --until, --at, --with-names and --no-names\n"
+
+abbrev rows_alone : List ℕ
+rows_alone =
+    codes "pgn-extract: --rows goes with none of --list, --index, --packed, --fen, --next, --others, --faulty, --as-is, --pack, --moves and --uci\n"
+
+abbrev no_rows : List ℕ
+no_rows = codes "pgn-extract: --csv, --tsv, --jsonl and --no-header go with --rows\n"
+
+abbrev several_formats : List ℕ
+several_formats = codes "pgn-extract: --csv, --tsv and --jsonl exclude each other\n"
 
 abbrev no_entries_listed : List ℕ
 no_entries_listed = codes "pgn-extract: --fen and --next go with --list\n"
@@ -162,6 +178,52 @@ each_pair request = (
   refl,
   refl,
   refl,
+  refl,
+  refl,
+  refl,
+  refl,
+  refl,
+  refl,
+  refl,
+  refl,
+  refl,
+  refl,
+  refl,
+  refl,
+  refl,
+  refl,
+  refl,
+  refl,
+  refl,
+  refl,
+  refl,
+)
+
+-- rows have theirs
+abbrev in_rows : Request → Bor (List ℕ) → Request
+in_rows request columns = record (plain request) { rows = Some columns }
+
+each_of_rows : (request : Request) (columns : Bor (List ℕ))
+    → RefusedWith (record (in_rows request columns) { list = true }) rows_alone
+    × RefusedWith (record (in_rows request columns) { index = true }) rows_alone
+    × RefusedWith (record (in_rows request columns) { packed = true }) rows_alone
+    × RefusedWith (record (in_rows request columns) { fen = true }) rows_alone
+    × RefusedWith (record (in_rows request columns) { next = true }) rows_alone
+    × RefusedWith (record (in_rows request columns) { others = true }) rows_alone
+    × RefusedWith (record (in_rows request columns) { faulty = true }) rows_alone
+    × RefusedWith (record (in_rows request columns) { as_is = true }) rows_alone
+    × RefusedWith (record (in_rows request columns) { pack = true }) rows_alone
+    × RefusedWith (record (in_rows request columns) { moves = true }) rows_alone
+    × RefusedWith (record (in_rows request columns) { uci = true }) rows_alone
+    × RefusedWith (record (plain request) { csv = true }) no_rows
+    × RefusedWith (record (plain request) { tsv = true }) no_rows
+    × RefusedWith (record (plain request) { jsonl = true }) no_rows
+    × RefusedWith (record (plain request) { no_header = true }) no_rows
+    × RefusedWith (record (in_rows request columns) { csv = true; tsv = true }) several_formats
+    × RefusedWith (record (in_rows request columns) { csv = true; jsonl = true }) several_formats
+    × RefusedWith (record (in_rows request columns) { tsv = true; jsonl = true }) several_formats
+    × (first_line (option_refusals (record (in_rows request columns) { tsv = true })) ≡ None)
+each_of_rows request columns = (
   refl,
   refl,
   refl,
@@ -326,10 +388,10 @@ lines = (refl, refl, refl)
 
 -- ---- what is asked for
 
-nothing_asked : (request : Request) → let aim = asked false (plain request) None None in
+nothing_asked : (request : Request) → let aim = asked false (plain request) None None None in
     (aim.mode ≡ modes.Export) × (aim.select ≡ Matching) × (aim.form ≡ Standard) × (aim.min_ply ≡ 0)
     × (aim.max_ply ≡ 4294967295) × (aim.first ≡ false)
-    × (aim.fields ≡ record { fen = false; next = false }) × (aim.explain ≡ false)
+    × (aim.line ≡ Marked (record { fen = false; next = false })) × (aim.explain ≡ false)
     × (aim.style ≡ record {
       comments = true;
       commands = false;
@@ -341,24 +403,26 @@ nothing_asked : (request : Request) → let aim = asked false (plain request) No
 nothing_asked request = (refl, refl, refl, refl, refl, refl, refl, refl, refl)
 
 each_asked : (request : Request)
-    → ((asked false (record (plain request) { list = true }) None None).mode ≡ modes.List)
-    × ((asked false (record (plain request) { index = true }) None None).mode ≡ modes.Index)
-    × ((asked false (record (plain request) { others = true }) None None).select ≡ Others)
-    × ((asked false (record (plain request) { faulty = true }) None None).select ≡ Faulty)
-    × ((asked false (record (plain request) { as_is = true }) None None).form ≡ AsItStands)
-    × ((asked false (record (plain request) { moves = true }) None None).form ≡ Line San)
-    × ((asked false (record (plain request) { uci = true }) None None).form ≡ Line Uci)
-    × ((asked false (record (plain request) { pack = true }) None None).form ≡ Record)
-    × ((asked false (record (plain request) { min_ply = 7 }) None None).min_ply ≡ 7)
-    × ((asked false (record (plain request) { max_ply = 7 }) None None).max_ply ≡ 7)
-    × ((asked false (record (plain request) { first = true }) None None).first ≡ true)
-    × ((asked false (record (plain request) { tags_first = true }) None None).tags_first ≡ true)
-    × ((asked false (plain request) None None).tags_first ≡ false)
-    × ((asked false (record (plain request) { fen = true }) None None).fields
-    ≡ record { fen = true; next = false })
-    × ((asked false (record (plain request) { next = true }) None None).fields
-    ≡ record { fen = false; next = true }) × ((asked true (plain request) None None).explain ≡ true)
-    × ((asked false (plain request) None (Some [])).chosen ≡ Some [])
+    → ((asked false (record (plain request) { list = true }) None None None).mode ≡ modes.List)
+    × ((asked false (record (plain request) { index = true }) None None None).mode ≡ modes.Index)
+    × ((asked false (record (plain request) { others = true }) None None None).select ≡ Others)
+    × ((asked false (record (plain request) { faulty = true }) None None None).select ≡ Faulty)
+    × ((asked false (record (plain request) { as_is = true }) None None None).form ≡ AsItStands)
+    × ((asked false (record (plain request) { moves = true }) None None None).form ≡ Line San)
+    × ((asked false (record (plain request) { uci = true }) None None None).form ≡ Line Uci)
+    × ((asked false (record (plain request) { pack = true }) None None None).form ≡ Record)
+    × ((asked false (record (plain request) { min_ply = 7 }) None None None).min_ply ≡ 7)
+    × ((asked false (record (plain request) { max_ply = 7 }) None None None).max_ply ≡ 7)
+    × ((asked false (record (plain request) { first = true }) None None None).first ≡ true)
+    × ((asked false (record (plain request) { tags_first = true }) None None None).tags_first
+    ≡ true)
+    × ((asked false (plain request) None None None).tags_first ≡ false)
+    × ((asked false (record (plain request) { fen = true }) None None None).line
+    ≡ Marked (record { fen = true; next = false }))
+    × ((asked false (record (plain request) { next = true }) None None None).line
+    ≡ Marked (record { fen = false; next = true }))
+    × ((asked true (plain request) None None None).explain ≡ true)
+    × ((asked false (plain request) None None (Some [])).chosen ≡ Some [])
 each_asked request = (
   refl,
   refl,
@@ -381,20 +445,23 @@ each_asked request = (
 
 criteria_are_asked : (noted : Bool) (request : Request)
     (criteria : Option (List Conditions)) (chosen : Option (List GameId))
-    → let aim = asked noted request criteria chosen in
+    → let aim = asked noted request None criteria chosen in
     (aim.criteria ≡ criteria) × (aim.chosen ≡ chosen) × (aim.name ≡ None)
 criteria_are_asked noted request criteria chosen = (refl, refl, refl)
 
 each_style : (request : Request)
-    → ((asked false (record (plain request) { no_comments = true }) None None).style.comments
+    → ((asked false (record (plain request) { no_comments = true }) None None None).style.comments
     ≡ false)
-    × ((asked false (record (plain request) { keep_commands = true }) None None).style.commands
+    × ((asked false (record (plain request) { keep_commands = true }) None None None).style.commands
     ≡ true)
-    × ((asked false (record (plain request) { no_glyphs = true }) None None).style.glyphs ≡ false)
-    × ((asked false (record (plain request) { no_variations = true }) None None).style.variations
+    × ((asked false (record (plain request) { no_glyphs = true }) None None None).style.glyphs ≡
+    false)
+    × ((asked false (record (plain request) { no_variations = true }) None None
+    None).style.variations
     ≡ false)
-    × ((asked false (record (plain request) { roster = true }) None None).style.roster_only ≡ true)
-    × ((asked false (record (plain request) { width = Some 40 }) None None).style.width ≡ 40)
+    × ((asked false (record (plain request) { roster = true }) None None None).style.roster_only ≡
+    true)
+    × ((asked false (record (plain request) { width = Some 40 }) None None None).style.width ≡ 40)
 each_style request = (refl, refl, refl, refl, refl, refl)
 
 without_check_signs : (request : Request) → (begin_of (plain request) ≡ Some (game_id 1 0))

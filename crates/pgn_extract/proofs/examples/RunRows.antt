@@ -6,7 +6,7 @@ use Rattle.pgn_extract.proofs.Common.{◌++◌, codes, length, Option, None, Som
 use Rattle.pgn_extract.proofs.Common.{arith, ◌≤◌, drop, InputTooLong, AreCompletePieces, GameText}
 use Rattle.pgn_extract.proofs.Common.{IsGameText, Appends, Keeps, AllByRecursion, Fault}
 use Rattle.pgn_extract.proofs.Common.{HasNoRecord, FitsRecord, PackedGame, IsPacked, record_bytes}
-use Rattle.pgn_extract.proofs.Common.{Replay, Style, All, Main, Heading, heading_of, largest_offset}
+use Rattle.pgn_extract.proofs.Common.{Replay, Style, All, Main, largest_offset}
 use Rattle.pgn_extract.proofs.Common.{MarkedPiece, ReadableGame, TooLongBlock, UnreadableRest}
 use Rattle.pgn_extract.proofs.Common.{AreMarkedPieces, Part, Aim, GameId, IsGameExport}
 use Rattle.pgn_extract.proofs.Common.{IsPieceExport, IsTextOf, written_lines, AreListed, IsFaultOf}
@@ -52,10 +52,10 @@ no_turns_where_the_main_line_is_asked : (game : GameText) (replay : Replay) → 
     → IsReplayOf Main game replay → ⊥
 no_turns_where_the_main_line_is_asked game replay some is = some is.turns
 
-no_entry_of_no_position : (aim : Aim) (id : GameId) (tags : Heading) (entry : Entry)
-    → AreListed aim id tags (record { positions = []; played = []; turns = [] })
+no_entry_of_no_position : (aim : Aim) (id : GameId) (game : GameText) (entry : Entry)
+    → AreListed aim id game (record { positions = []; played = []; turns = [] })
     (entry ∷ []) → ⊥
-no_entry_of_no_position aim id tags entry are = elim are [ ]
+no_entry_of_no_position aim id game entry are = elim are [ ]
 
 main_line_is_written : (aim : Aim) → written_lines (record aim { form = Record }) ≡ Main
 main_line_is_written aim = refl
@@ -499,7 +499,7 @@ no_other_entries_of_a_record : (aim : Aim) (packed : PackedGame) (text : List �
     (game : GameText) (replay : Replay) → IsGameText game → IsReplayOf Main game replay
     → IsPacked packed.name packed.number packed.offset game replay packed
     → ((entries : List Entry)
-    → AreListed aim (game_id packed.number packed.offset) (heading_of game) replay entries → ⊥)
+    → AreListed aim (game_id packed.number packed.offset) game replay entries → ⊥)
     → IsRecordListing aim packed text → ⊥
 no_other_entries_of_a_record aim packed text game replay sound is_replay is_packed none is =
     let lines = is game replay sound is_replay is_packed in none lines.0 lines.1

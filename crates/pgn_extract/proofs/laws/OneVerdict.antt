@@ -5,7 +5,7 @@ use Rattle.pgn_extract.proofs.Common.{refl, codes, GameText, tag_in, PieceKind, 
 use Rattle.pgn_extract.proofs.Common.{UnreadableRest, TooLongBlock, MarkedPiece, Part, Fault}
 use Rattle.pgn_extract.proofs.Common.{Replay, fen_tag, heading_of, Form, Standard, AsItStands, Line}
 use Rattle.pgn_extract.proofs.Common.{Record, line_with, IsTextOf, IsWritten, selected, unselected}
-use Rattle.pgn_extract.proofs.Common.{faulty_text, fault_text, AreFields, listing, plies_of}
+use Rattle.pgn_extract.proofs.Common.{faulty_text, fault_text, listing, plies_of}
 use Rattle.pgn_extract.proofs.Common.{cause_text, IsNote, Verdict, SoundGame, FaultyGame}
 use Rattle.pgn_extract.proofs.Common.{AreEntryLines, IsOutput, IsGameReported, IsGameVerdict}
 use Rattle.pgn_extract.proofs.Common.{Bool, true, IsReplayed}
@@ -19,7 +19,9 @@ use Rattle.pgn_game.proofs.OneExport.{one_export}
 use Rattle.pgn_game.proofs.SomeRecord.{one_spelling}
 use Rattle.pgn_extract.proofs.ChoiceFacts.{by_both, by_choice}
 use Rattle.pgn_extract.proofs.Chosen.{one_chosen}
-use Rattle.pgn_extract.proofs.FieldTexts.{one_text as one_fields}
+use Rattle.pgn_extract.specs.Public.Listing.{IsShownOf}
+use Rattle.pgn_extract.specs.Public.Rows.{place_of}
+use Rattle.pgn_extract.proofs.ShownTexts.{one_shown}
 use Rattle.pgn_extract.proofs.GameExport.{one_game}
 use Rattle.pgn_extract.specs.declared.settings.Mode.TheVariants as modes
 
@@ -49,8 +51,9 @@ one_lines : (aim : Aim) (id : GameId) (game : GameText) (replay : Replay) (x y :
     → AreEntryLines aim id game replay x → AreEntryLines aim id game replay y → x ≡ y
 one_lines aim id game replay x y (xs, these, first) (ys, those, second) =
     first ∙ ap (listing aim.name)
-    (one_chosen id (IsEntry aim (heading_of game) replay) (AreFields aim.fields replay)
-    (one_fields aim.fields replay) (plies_of 0 replay.positions) xs ys these those) ∙ sym second
+    (one_chosen id (IsEntry aim (heading_of game) replay) (IsShownOf aim id game replay)
+    (λ ply. one_shown aim.line (place_of aim.name id game replay ply)) (plies_of 0 replay.positions)
+    xs ys these those) ∙ sym second
 
 -- what goes to the output of it
 one_output : (mode : Mode) (aim : Aim) (id : GameId) (game : GameText) (replay : Replay)

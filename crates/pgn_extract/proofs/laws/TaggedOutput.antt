@@ -5,12 +5,13 @@ use Rattle.pgn_extract.proofs.Common.{inl, inr, refl, sym, ap, ◌∙◌, subst,
 use Rattle.pgn_extract.proofs.Common.{ReadableGame, UnreadableRest, TooLongBlock}
 use Rattle.pgn_extract.proofs.Common.{GameText, Part, Replay, heading_of, Form, Standard}
 use Rattle.pgn_extract.proofs.Common.{AsItStands, Line, Record, IsTextOf, IsWritten, selected}
-use Rattle.pgn_extract.proofs.Common.{unselected, faulty_text, AreFields, listing, Select}
+use Rattle.pgn_extract.proofs.Common.{unselected, faulty_text, listing, Select}
 use Rattle.pgn_extract.proofs.Common.{plies_of, Verdict, SoundGame, FaultyGame, IsReplayed}
 use Rattle.pgn_extract.proofs.Common.{IsGameReported, IsGameVerdict, IsVerdictIn, IsPieceVerdict}
 use Rattle.pgn_extract.proofs.Common.{AreEntryLines, without_note, output_of}
 use Rattle.pgn_extract.proofs.Common.{output_text, Aim, GameId, IsEntry, IsRuledOut, id_of}
 use Rattle.pgn_extract.proofs.Common.{is_chosen, Mode}
+use Rattle.pgn_extract.specs.Public.Listing.{IsShownOf}
 use Rattle.pgn_extract.specs.Public.Laws.{TagsFirstChangesNoOutput, with_tags_first}
 use Rattle.pgn_extract.proofs.ChoiceFacts.{by_both}
 use Rattle.pgn_extract.proofs.GameExport.{one_game}
@@ -23,7 +24,7 @@ module _ (aim : Aim) (id : GameId) (game : GameText) (out : IsRuledOut aim (head
   no_lines : (replay : Replay) (text : List ℕ) → AreEntryLines aim id game replay text → text ≡ []
   no_lines replay text (entries, these, is) =
       is ∙ ap (listing aim.name)
-      (chosen_none id (IsEntry aim (heading_of game) replay) (AreFields aim.fields replay)
+      (chosen_none id (IsEntry aim (heading_of game) replay) (IsShownOf aim id game replay)
       (λ ply. no_entry aim (heading_of game) replay ply out) (plies_of 0 replay.positions) entries
       these)
 

@@ -4,7 +4,7 @@ use Rattle.pgn_extract.proofs.Common.{◌≡◌, ◌⊎◌, ℕ, ◌+◌, inl, i
 use Rattle.pgn_extract.proofs.Common.{sym, ap, ap₂, ◌∙◌, subst, append_assoc, append-nil, GameText}
 use Rattle.pgn_extract.proofs.Common.{IsGameText, tag_in, PieceKind, ReadableGame, UnreadableRest}
 use Rattle.pgn_extract.proofs.Common.{TooLongBlock, MarkedPiece, Part, no_fault, PackedGame}
-use Rattle.pgn_extract.proofs.Common.{IsPacked, pack_bytes, fen_tag, Main, heading_of, Aim, GameId}
+use Rattle.pgn_extract.proofs.Common.{IsPacked, pack_bytes, fen_tag, Main, Aim, GameId}
 use Rattle.pgn_extract.proofs.Common.{AreGameEntries, ArePieceEntries, AreEntryRows, AreListed}
 use Rattle.pgn_extract.proofs.Common.{IsReplayOf, mark_line, Entry, AreEntries, IsGameOf, listing}
 use Rattle.pgn_extract.proofs.Common.{AreGameRecords, AreRecordLines, IsSoundPiece, AreRecords}
@@ -71,8 +71,8 @@ game_rows aim list name id game good own text (sound replay packed is packs one)
     let here : IsRecordListing aim packed lines =
     subst (λ (m : Mode). AreRecordLines m aim packed lines) list of in
     let found = here game replay good is own_mark in
-    let marked : AreListed aim id (heading_of game) replay found.0 =
-    subst (λ (i : GameId). AreListed aim i (heading_of game) replay found.0)
+    let marked : AreListed aim id game replay found.0 =
+    subst (λ (i : GameId). AreListed aim i game replay found.0)
     (ap₂ game_id packs.number packs.offset) found.1 in (
       found.0,
       sound_rows replay is marked,

@@ -9,7 +9,7 @@ use Rattle.pgn_extract.proofs.Common.{IsMainLine, RawRecord, raw_of, PackedGame,
 use Rattle.pgn_extract.proofs.Common.{AreMarks, Replay, Main, same_first, same_rest, head_shows}
 use Rattle.pgn_extract.proofs.Common.{has_marks, NoneMeets, IsNextMet, Conditions, heading_of}
 use Rattle.pgn_extract.proofs.Common.{SomeHold, MeetsSeen, NowhereSeen, codes_in, Sight, IsSightOf}
-use Rattle.pgn_extract.proofs.Common.{Aim, IsMet, IsWanted, is_plain, Fields, IsOfGame, AsksFor}
+use Rattle.pgn_extract.proofs.Common.{Aim, IsMet, IsWanted, Fields, IsOfGame, AsksFor}
 use Rattle.pgn_extract.proofs.Common.{GoesTo, MeetsHere, NoneAfter, ShowsFields, IsOfRecord}
 use Rattle.pgn_extract.proofs.Common.{EachOfRecord, NoneInRecord, record_aim, IsWalkedWith}
 use Rattle.chess.specs.Public.Moves.{IsPseudoLegal}
@@ -21,6 +21,10 @@ use Rattle.pgn_criteria.specs.Public.Walks.{stepped}
 use Rattle.pgn_criteria.proofs.WalkFacts.{step_shows_next_position}
 use Rattle.pgn_extract.specs.Private.Packed.{StartsWith, StartsThere, StandsInRecord}
 use Rattle.pgn_extract.specs.Private.WalkedLines.{IsWalkedTo, IsMarkedWith, AreMetWith}
+use Rattle.pgn_extract.specs.Public.Listing.{is_bare}
+use Rattle.pgn_extract.specs.Private.Lines.{ShowsValue}
+use Rattle.pgn_extract.specs.declared.rows.column.PlyColumn.{PlyColumn}
+use Rattle.pgn_extract.proofs.Common.{false≢true}
 use Rattle.pgn_extract.proofs.FieldTexts.{no_fields}
 use Rattle.pgn_extract.proofs.Finds.{at_seam, seam_within, none_yet, not_wanted}
 use Rattle.pgn_extract.proofs.OneMain.{one_main, stands_main}
@@ -209,9 +213,15 @@ module _ (aim : Aim) (game : GameText) (So : Sight → List PlyCode → Type 0)
 
 -- no field is shown
 pub shows_none : (fields : Fields) (aim : Aim) (game : GameText) (before : List State) (P : State)
-    → is_plain aim.fields ≡ true → ShowsFields fields [] aim game before P
-shows_none fields aim game before P plain same replay own rest is =
-    no_fields aim.fields plain replay (length before)
+    → is_bare aim.line ≡ true → ShowsFields fields [] aim game before P
+shows_none fields aim game before P bare same replay own rest is =
+    no_fields fields (ap is_bare (sym same) ∙ bare) replay (length before)
+
+-- no column is
+pub shows_no_value : (column : PlyColumn) (aim : Aim) (game : GameText) (before : List State)
+    (P : State) → is_bare aim.line ≡ true → ShowsValue column [] aim game before P
+shows_no_value column aim game before P bare rows =
+    absurd (false≢true (sym rows ∙ bare))
 
 -- ---- by a walk
 
@@ -292,7 +302,7 @@ none_seen aim game asked asks = none_from aim game Nowhere (λ s c codes none. n
 module _ (raw : RawRecord) (aim : Aim) (asked : List Conditions) (seen : Sight)
     (asks : EachOfRecord raw (λ game replay packed. AsksFor aim game asked))
     (starts : StartsThere raw seen) where
-  pub walks_record : is_plain aim.fields ≡ true
+  pub walks_record : is_bare aim.line ≡ true
       → StandsInRecord (Walks asked seen (codes_in raw.plies) 0) aim raw
   walks_record plain game replay packed own = (
     [],
@@ -492,7 +502,7 @@ module _ {raw : RawRecord} {game : GameText} {replay : Replay} {packed : PackedG
       ∙ ap (λ n. has_marks set turn (n % 2 == 1) (n / 2 % 2 == 1)) head ∙ is
 
 module _ (raw : RawRecord) (set : ℕ) (turn : Side) (starts : StartsWith raw turn) (aim : Aim)
-    (plain : is_plain aim.fields ≡ true)
+    (plain : is_bare aim.line ≡ true)
     (met : EachOfRecord raw (λ game replay packed.
     AreMetWith set (heading_of game) aim.criteria)) where
   -- the start has one of them, or not

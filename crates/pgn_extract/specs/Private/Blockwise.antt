@@ -37,7 +37,6 @@ use Rattle.pgn_extract.specs.declared.output.outcome.RunError.{RunError}
 use Rattle.pgn_extract.specs.declared.output.outcome.RunError.TheVariants.{Read, Write, OutOfMemory}
 use Rattle.pgn_extract.specs.declared.output.outcome.RunError.TheVariants.{InputTooLong}
 use Rattle.pgn_extract.specs.declared.output.outcome.Summary.{Summary}
-use Rattle.pgn_criteria.specs.Public.Meeting.{Heading}
 use Rattle.pgn_extract.specs.Public.Aims.{Aim, GameId}
 use Rattle.pgn_extract.specs.Public.Choices.{IfChosen, is_chosen}
 use Rattle.pgn_text.specs.Public.LeftMarks.{mark_place}
@@ -89,8 +88,8 @@ lines_from marked ply (suc count) = (marked ++ 32 ∷ decimal ply ++ 10 ∷ [])
 -- the lines of the entries of any main line with so many plies are added
 abbrev pub AddsPlies : Aim → GameId → ℕ → List ℕ → List ℕ → Type 0
 AddsPlies aim id plies old new =
-    (tags : Heading) (replay : Replay) → length replay.positions ≡ plies + 1
-    → (entries : List Entry) × AreListed aim id tags replay entries
+    (game : GameText) (replay : Replay) → length replay.positions ≡ plies + 1
+    → (entries : List Entry) × AreListed aim id game replay entries
     × (new ≡ old ++ listing aim.name entries)
 
 -- the same of a game with this mark, whatever it says

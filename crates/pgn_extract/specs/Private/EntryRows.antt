@@ -10,13 +10,12 @@ use Rattle.pgn_extract.specs.Public.Aims.{Aim, GameId}
 use Rattle.pgn_extract.specs.Public.Choices.{id_of, IfChosen, is_chosen}
 use Rattle.pgn_extract.specs.Public.GameReports.{AreListed, IsReplayOf, IsFaultOf}
 use Rattle.pgn_extract.specs.Public.Listing.{Entry, IsGameOf}
-use Rattle.pgn_criteria.specs.Public.Meeting.{heading_of}
 
 -- the entries of a game: those that it lists where it is sound, and none where it is faulty
 pub data AreGameEntries (aim : Aim) (id : GameId) (game : GameText) (entries : List Entry) : Type 0
   where
     sound : (replay : Replay) → IsReplayOf Main game replay
-        → AreListed aim id (heading_of game) replay entries
+        → AreListed aim id game replay entries
         → AreGameEntries aim id game entries
     faulty : (fault : Fault) → IsFaultOf Main game fault → entries ≡ []
         → AreGameEntries aim id game entries

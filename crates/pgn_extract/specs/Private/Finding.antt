@@ -1,6 +1,7 @@
 -- The entries of a game, found while its main line is played: what is found so far, and what is
 -- left completes the whole.
-use Rattle.std.specs.Prelude.{◌≡◌, ◌↔◌, ◌<◌, ◌++◌, ◌∷◌, ℕ, Bool, true, false, List, [], length}
+use Rattle.std.specs.Prelude.{◌≡◌, ◌≢◌, ◌⊎◌, ◌↔◌, ◌<◌, ◌++◌, ◌∷◌, ℕ, Bool, true, false, List, []}
+use Rattle.std.specs.Prelude.{length}
 use Rattle.std.specs.Prelude.{Option, IsTrue, codes}
 use Rattle.chess.specs.Public.Fen.{IsFen}
 use Rattle.chess.specs.Public.Positions.{State}
@@ -47,6 +48,16 @@ ShowsNext false line shown = shown ≡ []
 ShowsNext true line shown = (text : List ℕ) × IsNextText line.position line.words text
     × (shown ≡ 32 ∷ text)
 
+-- the text of a move, and nothing for the dash that stands for none
+abbrev pub IsDashLeftOut : List ℕ → List ℕ → Type 0
+IsDashLeftOut text value = ((text ≡ codes "-") × (value ≡ []))
+    ⊎ ((text ≢ codes "-") × (value ≡ text))
+
+-- the text of the next move, and nothing where there is none
+abbrev pub IsNextValue : PlayedLine → List ℕ → Type 0
+IsNextValue line value =
+    (text : List ℕ) × IsNextText line.position line.words text × IsDashLeftOut text value
+
 -- what is shown where the line stands
 abbrev pub ShowsHere : Fields → PlayedLine → List ℕ → Type 0
 ShowsHere fields line shown = (fen : List ℕ) × (next : List ℕ)
@@ -62,7 +73,7 @@ StopsInLine line old new fault = IsMoveFault line.position line.plies line.words
 abbrev pub AddsEntries : Aim → GameId → GameText → List ℕ → List ℕ → Type 0
 AddsEntries aim id game old new =
     (replay : Replay) × IsReplay Main (tag_in fen_tag game.tags) game.elements replay
-    × (entries : List Entry) × AreListed aim id (heading_of game) replay entries
+    × (entries : List Entry) × AreListed aim id game replay entries
     × (new ≡ old ++ listing aim.name entries)
 
 -- the game has the fault, and something may be added already

@@ -1,7 +1,7 @@
 -- The main line of a game, whose positions are asked one after the other: what is known where it
 -- stands, and what a finder hands on.
 use Rattle.std.specs.Prelude.{◌≡◌, ◌↔◌, ◌<◌, ◌≤◌, ◌+◌, ◌++◌, ◌∷◌, ℕ, Bool, true, false, List, []}
-use Rattle.std.specs.Prelude.{length, Option, IsTrue, decimal}
+use Rattle.std.specs.Prelude.{length, Option, IsTrue}
 use Rattle.chess.specs.Public.Positions.{State}
 use Rattle.pgn_text.specs.Public.GameTexts.{GameText, tag_in}
 use Rattle.pgn_game.specs.Public.Faults.{Fault, IsFault}
@@ -11,10 +11,18 @@ use Rattle.pgn_game.specs.declared.replays.replayer.Lines.TheVariants.{Main}
 use Rattle.pgn_criteria.specs.Public.Meeting.{heading_of}
 use Rattle.pgn_extract.specs.Public.Aims.{Aim, GameId, IsMet, IsWanted, IsEntry, aim_of}
 use Rattle.pgn_extract.specs.Public.GameReports.{plies_of, AreChosen, AreListed}
-use Rattle.pgn_extract.specs.Public.Listing.{Entry, AreFields}
+use Rattle.pgn_extract.specs.Public.Listing.{Entry, Shown, AreFields, IsShownOf, is_bare}
+use Rattle.pgn_extract.specs.Public.Listing.{shown_line}
+use Rattle.pgn_extract.specs.declared.entries.line_maker.LineMaker.{LineMaker}
+use Rattle.pgn_extract.specs.declared.entries.line_maker.LineMaker.TheVariants as maker
+use Rattle.pgn_extract.specs.declared.rows.column.PlyColumn.{PlyColumn}
+use Rattle.pgn_extract.specs.declared.settings.EntryLine.{EntryLine}
+use Rattle.pgn_extract.specs.declared.settings.EntryLine.TheVariants.{Marked, InColumns}
 use Rattle.pgn_extract.specs.declared.settings.Fields.{Fields}
 use Rattle.pgn_extract.specs.declared.entries.finding.Finder.{Finder}
 use Rattle.pgn_extract.specs.Private.Finding.{IsOfGame}
+use Rattle.pgn_extract.specs.Private.RowTexts.{ArePlyCells, MakesRows}
+use Rattle.pgn_extract.specs.Public.Rows.{IsPlyCell}
 
 -- so it is of each replay of the game that has these positions, then this one, and then others
 abbrev pub EachReplay : GameText → List State → State → (Replay → Type 0) → Type 0
@@ -45,8 +53,43 @@ MeetsHere met aim game before P =
 -- this is what is shown there of the fields
 abbrev pub ShowsFields : Fields → List ℕ → Aim → GameText → List State → State → Type 0
 ShowsFields fields shown aim game before P =
-    fields ≡ aim.fields
-    → EachReplay game before P (λ replay. AreFields aim.fields replay (length before) shown)
+    aim.line ≡ Marked fields
+    → EachReplay game before P (λ replay. AreFields fields replay (length before) shown)
+
+-- entries have rows
+abbrev pub HasRows : Aim → Type 0
+HasRows aim = is_bare aim.line ≡ false
+
+-- this is the value that the column shows there, and these are those of several columns
+abbrev pub ShowsValue : PlyColumn → List ℕ → Aim → GameText → List State → State → Type 0
+ShowsValue column value aim game before P =
+    HasRows aim → EachReplay game before P (λ replay. IsPlyCell column replay (length before) value)
+
+abbrev pub ShowsValues : List PlyColumn → List (List ℕ) → Aim → GameText → List State → State
+    → Type 0
+ShowsValues columns values aim game before P =
+    HasRows aim
+    → EachReplay game before P (λ replay. ArePlyCells columns replay (length before) values)
+
+-- the lines that a maker makes
+abbrev pub made_line : LineMaker → EntryLine
+made_line (maker.Fields fields) = Marked fields
+made_line (maker.Rows rows) = InColumns rows.row.now
+
+-- it makes those of this game under this name
+abbrev pub MakesLines : LineMaker → Option (List ℕ) → GameId → GameText → Type 0
+MakesLines (maker.Fields fields) name id game = Unit {0}
+MakesLines (maker.Rows rows) name id game = MakesRows rows name id game
+
+-- it makes what the aim asks for
+pub record Makes (lines : LineMaker) (aim : Aim) (id : GameId) (game : GameText) : Type 0 where
+  pub line : aim.line ≡ made_line lines
+  pub of_game : MakesLines lines aim.name id game
+
+-- this is shown there
+abbrev pub ShowsLine : Shown → GameId → Aim → GameText → List State → State → Type 0
+ShowsLine shown id aim game before P =
+    EachReplay game before P (λ replay. IsShownOf aim id game replay (length before) shown)
 
 -- the main line of the game has this fault
 abbrev pub HasFault : Fault → Aim → GameText → List State → State → Type 0
@@ -98,9 +141,9 @@ pub record Finds (aim : Aim) (id : GameId) (game : GameText) (Got : List Entry �
   pub got : Got found
   pub completes : (replay : Replay) → IsOfGame game replay → (rest : List State)
       → replay.positions ≡ asked ++ rest → (later : List Entry)
-      → AreChosen id (IsEntry aim (heading_of game) replay) (AreFields aim.fields replay)
+      → AreChosen id (IsEntry aim (heading_of game) replay) (IsShownOf aim id game replay)
       (plies_of (length asked) rest) later
-      → AreListed aim id (heading_of game) replay (found ++ later)
+      → AreListed aim id game replay (found ++ later)
   pub quiet : on ≡ true → aim.first ≡ true → (replay : Replay) → IsOfGame game replay
       → (rest : List State) → replay.positions ≡ asked ++ rest
       → (n : ℕ) → n < length asked → IsWanted aim (heading_of game) replay n → ⊥
@@ -114,8 +157,7 @@ abbrev pub aim_with : Finder → Option (List ℕ) → Aim
 aim_with finder name =
     record (aim_of finder.settings.now) {
       first = finder.first;
-      fields =
-          finder.fields;
+      line = made_line finder.lines;
       name = name;
     }
 
@@ -124,7 +166,8 @@ abbrev pub Asks : {S : Type 0} → (S → List Entry → S → Type 0) → Finde
     → (Aim → GameText → List State → State → Type 0) → S → S → Bool → Bool → Type 0
 Asks {S} Gets finder At old new on still =
     (name : Option (List ℕ)) (id : GameId) (game : GameText) (before : List State) (P : State)
-    → At (aim_with finder name) game before P → (start : S)
+    → At (aim_with finder name) game before P → MakesLines finder.lines name id game
+    → (start : S)
     → Finds (aim_with finder name) id game (λ got. Gets start got old) before on
     → Finds (aim_with finder name) id game (λ got. Gets start got new)
     (before ++ P ∷ []) still
@@ -140,11 +183,11 @@ Fails At finder fault =
 abbrev pub HandsOn : Aim → GameId → GameText → (List Entry → Type 0) → Type 0
 HandsOn aim id game Got =
     (replay : Replay) × IsReplay Main (tag_in fen_tag game.tags) game.elements replay
-    × (entries : List Entry) × AreListed aim id (heading_of game) replay entries × Got entries
+    × (entries : List Entry) × AreListed aim id game replay entries × Got entries
 
 -- the line of an entry after the mark of its game, and the lines of several
 abbrev pub marked_line : List ℕ → Entry → List ℕ
-marked_line mark entry = mark ++ 32 ∷ decimal entry.ply ++ (entry.shown ++ 10 ∷ [])
+marked_line mark entry = shown_line mark entry.ply entry.shown
 
 abbrev pub marked_lines : List ℕ → List Entry → List ℕ
 marked_lines mark [] = []

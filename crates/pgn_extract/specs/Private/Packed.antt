@@ -91,7 +91,7 @@ StartsThere raw sight =
 abbrev pub ListsRecord : Aim → RawRecord → List ℕ → List ℕ → Type 0
 ListsRecord aim raw old new =
     Grows old new × EachOfRecord raw (λ game replay packed.
-    (entries : List Entry) × AreListed aim (raw_id raw) (heading_of game) replay entries
+    (entries : List Entry) × AreListed aim (raw_id raw) game replay entries
     × (new ≡ old ++ listing raw.name entries))
 
 -- the line stands at a position of each game that has the record, and none is wanted before it

@@ -4,17 +4,18 @@ use Rattle.std.proofs.Common.{append-nil, append_assoc}
 use Rattle.chess.specs.Public.Positions.{State}
 use Rattle.pgn_text.specs.Public.GameTexts.{GameText}
 use Rattle.pgn_extract.specs.Public.Aims.{Aim, GameId}
-use Rattle.pgn_extract.specs.Public.Listing.{Entry}
-use Rattle.pgn_extract.specs.declared.settings.Fields.{Fields}
-use Rattle.pgn_extract.specs.Private.Lines.{Where, ShowsFields, marked_line, marked_lines, or_some}
+use Rattle.pgn_extract.specs.Public.Listing.{Entry, Shown}
+use Rattle.pgn_extract.specs.declared.entries.line_maker.LineMaker.{LineMaker}
+use Rattle.pgn_extract.specs.Private.Lines.{Where, Makes, ShowsLine, marked_line, marked_lines}
+use Rattle.pgn_extract.specs.Private.Lines.{or_some}
 
 -- the entry where the line stands is handed on, with what is shown there
 abbrev pub PutsHere : {S : Type 0} → (List Entry → S → Type 0)
-    → (Aim → GameText → List State → State → Type 0) → Fields → S → Type 0
-PutsHere {S} Got At fields new =
-    (shown : List ℕ) × Where At (ShowsFields fields shown)
-    × Where At (λ aim game before P. (id : GameId)
-    → Got (record { id = id; ply = length before; shown = shown } ∷ []) new)
+    → (Aim → GameText → List State → State → Type 0) → LineMaker → S → Type 0
+PutsHere {S} Got At lines new =
+    (shown : Shown) × Where At (λ aim game before P. (id : GameId) → Makes lines aim id game
+    → ShowsLine shown id aim game before P
+    × Got (record { id = id; ply = length before; shown = shown } ∷ []) new)
 
 pub lines_none : (mark text : List ℕ) → text ≡ text ++ marked_lines mark []
 lines_none mark text = sym (append-nil text)

@@ -16,7 +16,7 @@ use Rattle.pgn_criteria.specs.Public.Conditions.{Conditions}
 use Rattle.pgn_criteria.specs.Public.Meeting.{Heading, heading_of}
 use Rattle.pgn_criteria.specs.Public.Walks.{Sight, IsSightOf}
 use Rattle.pgn_extract.specs.Public.Aims.{Aim, IsMet}
-use Rattle.pgn_extract.specs.Public.Listing.{is_plain}
+use Rattle.pgn_extract.specs.Public.Listing.{is_bare}
 use Rattle.pgn_extract.specs.Private.Finding.{AsksFor}
 use Rattle.pgn_extract.specs.Private.Lines.{Stands}
 
@@ -46,7 +46,7 @@ AreMetWith set heading criteria =
 -- criteria
 pub record IsWalkedWith (seen : Sight) (left : List PlyCode) (ply : ℕ) (asked : List Conditions)
     (aim : Aim) (game : GameText) (before : List State) (P : State) : Type 0 where
-  pub plain : is_plain aim.fields ≡ true
+  pub plain : is_bare aim.line ≡ true
   pub asks : AsksFor aim game asked
   pub count : length before ≡ ply
   pub to : IsWalkedTo seen left game before P
@@ -55,7 +55,7 @@ pub record IsWalkedWith (seen : Sight) (left : List PlyCode) (ply : ℕ) (asked 
 -- that is reached has one of them; this side is to move there
 pub record IsMarkedWith (set : ℕ) (side : Side) (left : List PlyCode) (ply : ℕ) (aim : Aim)
     (game : GameText) (before : List State) (P : State) : Type 0 where
-  pub plain : is_plain aim.fields ≡ true
+  pub plain : is_bare aim.line ≡ true
   pub met : AreMetWith set (heading_of game) aim.criteria
   pub count : length before ≡ ply
   pub seen : Sight

@@ -5,7 +5,7 @@ use Rattle.pgn_game.specs.declared.exports.style.Style.{Style}
 use Rattle.pgn_criteria.specs.Public.Meeting.{Heading, Meets}
 use Rattle.pgn_criteria.specs.Public.Conditions.{Conditions}
 use Rattle.pgn_criteria.specs.Public.Headings.{MayMeet}
-use Rattle.pgn_extract.specs.declared.settings.Fields.{Fields}
+use Rattle.pgn_extract.specs.declared.settings.EntryLine.{EntryLine}
 use Rattle.pgn_extract.specs.declared.settings.Form.{Form}
 use Rattle.pgn_extract.specs.declared.settings.Mode.{Mode}
 use Rattle.pgn_extract.specs.declared.settings.Select.{Select}
@@ -24,7 +24,7 @@ pub record Aim : Type 0 where
   pub min_ply : ℕ
   pub max_ply : ℕ
   pub first : Bool
-  pub fields : Fields
+  pub line : EntryLine
   pub select : Select
   pub form : Form
   pub style : Style
@@ -41,7 +41,7 @@ aim_of settings = record {
   min_ply = settings.min_ply;
   max_ply = settings.max_ply;
   first = settings.first;
-  fields = settings.fields;
+  line = settings.line;
   select = settings.select;
   form = settings.form;
   style = settings.style;

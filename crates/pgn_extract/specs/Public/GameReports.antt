@@ -7,9 +7,9 @@ use Rattle.pgn_game.specs.Public.Faults.{Fault, BadStart, IllegalMove, Ambiguous
 use Rattle.pgn_game.specs.Public.Replays.{Replay, IsReplay}
 use Rattle.pgn_game.specs.declared.replays.replayer.Lines.{Lines}
 use Rattle.pgn_game.specs.Public.Starts.{fen_tag}
-use Rattle.pgn_criteria.specs.Public.Meeting.{Heading}
+use Rattle.pgn_criteria.specs.Public.Meeting.{heading_of}
 use Rattle.pgn_extract.specs.Public.Aims.{Aim, GameId, IsEntry}
-use Rattle.pgn_extract.specs.Public.Listing.{Entry, AreFields}
+use Rattle.pgn_extract.specs.Public.Listing.{Entry, Shown, IsShownOf}
 
 -- the game is sound in these lines, and this is their replay
 abbrev pub IsReplayOf : Lines → GameText → Replay → Type 0
@@ -33,17 +33,17 @@ plies_of ply (position ∷ more) = ply ∷ plies_of (ply + 1) more
 
 -- of a game with this mark these are the entries at those of the plies that have the fact, in their
 -- order, each with what is shown of its ply
-pub data AreChosen (id : GameId) (P : ℕ → Type 0) (S : ℕ → List ℕ → Type 0) : List ℕ → List Entry
+pub data AreChosen (id : GameId) (P : ℕ → Type 0) (S : ℕ → Shown → Type 0) : List ℕ → List Entry
     → Type 0 where
   none : AreChosen id P S [] []
-  keep : (ply : ℕ) (shown all : List ℕ) (chosen : List Entry) → P ply → S ply shown
+  keep : (ply : ℕ) (shown : Shown) (all : List ℕ) (chosen : List Entry) → P ply → S ply shown
       → AreChosen id P S all chosen
       → AreChosen id P S (ply ∷ all) (record { id = id; ply = ply; shown = shown } ∷ chosen)
   leave : (ply : ℕ) (all : List ℕ) (chosen : List Entry) → (P ply → ⊥) → AreChosen id P S all chosen
       → AreChosen id P S (ply ∷ all) chosen
 
--- the entries that a sound game with these tags lists, of its positions from ply 0 on
-abbrev pub AreListed : Aim → GameId → Heading → Replay → List Entry → Type 0
-AreListed aim id tags replay entries =
-    AreChosen id (IsEntry aim tags replay) (AreFields aim.fields replay)
+-- the entries that a sound game lists, of its positions from ply 0 on
+abbrev pub AreListed : Aim → GameId → GameText → Replay → List Entry → Type 0
+AreListed aim id game replay entries =
+    AreChosen id (IsEntry aim (heading_of game) replay) (IsShownOf aim id game replay)
     (plies_of 0 replay.positions) entries

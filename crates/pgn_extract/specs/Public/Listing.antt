@@ -16,18 +16,31 @@ use Rattle.pgn_criteria.specs.Public.Meeting.{heading_of}
 use Rattle.pgn_extract.specs.Public.Aims.{Aim, GameId, IsEntry}
 use Rattle.pgn_extract.specs.Public.Choices.{is_chosen}
 use Rattle.pgn_extract.specs.Public.Index.{mark, titled}
+use Rattle.pgn_extract.specs.Public.Rows.{RowPlace, place_of, IsRow}
+use Rattle.pgn_extract.specs.declared.settings.EntryLine.{EntryLine}
+use Rattle.pgn_extract.specs.declared.settings.EntryLine.TheVariants.{Marked, InColumns}
 use Rattle.pgn_extract.specs.declared.settings.Fields.{Fields}
 
--- an entry: a game, a ply of its main line, and what its line shows after the ply
+-- what the line of an entry shows: something after its mark and its ply, or a row in their place
+pub data Shown : Type 0 where
+  AfterPly : List ℕ → Shown
+  AsRow : List ℕ → Shown
+
+-- an entry: a game, a ply of its main line, and what its line shows
 pub record Entry : Type 0 where
   pub id : GameId
   pub ply : ℕ
-  pub shown : List ℕ
+  pub shown : Shown
 
--- its line, `N@O P` and what it shows, after the name of its file where lines have one
+-- the line of an entry after a mark
+abbrev pub shown_line : List ℕ → ℕ → Shown → List ℕ
+shown_line marked ply (AfterPly text) = marked ++ 32 ∷ decimal ply ++ (text ++ 10 ∷ [])
+shown_line marked ply (AsRow text) = text
+
+-- its line: `N@O P` and what it shows, after the name of its file where lines have one; or its row
 abbrev pub entry_line : Option (List ℕ) → Entry → List ℕ
-entry_line name entry = (titled (codes ":") name ++ mark entry.id) ++ 32 ∷ decimal entry.ply
-    ++ (entry.shown ++ 10 ∷ [])
+entry_line name entry =
+    shown_line (titled (codes ":") name ++ mark entry.id) entry.ply entry.shown
 
 -- the lines of entries
 abbrev pub listing : Option (List ℕ) → List Entry → List ℕ
@@ -65,6 +78,23 @@ AreFields fields replay ply shown =
     (fen : List ℕ) × (next : List ℕ) × IsFenField fields.fen replay ply fen
     × IsNextField fields.next replay ply next × (shown ≡ fen ++ next)
 
+-- the line of an entry is the mark and the ply alone
+abbrev pub is_bare : EntryLine → Bool
+is_bare (Marked fields) = is_plain fields
+is_bare (InColumns row) = false
+
+-- what the line of an entry shows of its place
+abbrev pub IsShownBy : EntryLine → RowPlace → Shown → Type 0
+IsShownBy (Marked fields) place shown =
+    (text : List ℕ) × AreFields fields place.replay place.ply text × (shown ≡ AfterPly text)
+IsShownBy (InColumns row) place shown =
+    (text : List ℕ) × IsRow row place text × (shown ≡ AsRow text)
+
+-- what is shown of a ply of the main line of a game
+abbrev pub IsShownOf : Aim → GameId → GameText → Replay → ℕ → Shown → Type 0
+IsShownOf aim id game replay ply shown =
+    IsShownBy aim.line (place_of aim.name id game replay ply) shown
+
 -- the game is the one that these parts make, read by itself
 abbrev pub IsGameOf : List Part → GameText → Type 0
 IsGameOf parts game = IsGameText game × ShowsGame game 0 parts
@@ -89,7 +119,7 @@ pub record IsPlyOfGame (aim : Aim) (number : ℕ) (pieces : List MarkedPiece) (e
     pub is_replay : IsMainReplayOf game replay
     pub within : entry.ply < length replay.positions
     pub listed : IsEntry aim (heading_of game) replay entry.ply
-    pub shows : AreFields aim.fields replay entry.ply entry.shown
+    pub shows : IsShownOf aim entry.id game replay entry.ply entry.shown
 
 -- the first entry is of an earlier game, or of the same and at a lower ply
 abbrev pub IsEarlier : Entry → Entry → Type 0

@@ -1,26 +1,34 @@
 -- What the options of the command line ask for, and which of them are refused.
 use Rattle.std.specs.Prelude.{Bool, false, true, not, ◌&&◌, ◌||◌, if◌then◌else◌, is_some, is_none}
 use Rattle.std.specs.Prelude.{◌==◌, ℕ, ◌-◌, ◌^◌, nat_lt, length, List, [], ◌∷◌, ◌++◌, Option, Some}
-use Rattle.std.specs.Prelude.{None, codes, option_map, unwrap_or}
+use Rattle.std.specs.Prelude.{None, codes, option_map, unwrap_or, ◌≡◌, IfSome}
 use Rattle.std.specs.List.{list_all}
 use Rattle.pgn_game.specs.declared.exports.notation.Notation.TheVariants.{San, Uci}
 use Rattle.pgn_game.specs.declared.exports.style.Style.{Style}
 use Rattle.pgn_criteria.specs.Public.Conditions.{Conditions}
 use Rattle.pgn_extract.specs.Public.Aims.{Aim, GameId}
+use Rattle.pgn_extract.specs.Public.Columns.{AreColumns}
 use Rattle.pgn_extract.specs.Public.GivenMarks.{game_id, mark_in}
+use Rattle.pgn_extract.specs.Public.Rows.{header_text}
 use Rattle.pgn_extract.specs.declared.app.command.Request.{Request}
+use Rattle.pgn_extract.specs.declared.rows.column.Format.{Format}
+use Rattle.pgn_extract.specs.declared.rows.column.Format.TheVariants.{Csv, Tsv, Jsonl}
+use Rattle.pgn_extract.specs.declared.rows.column.Row.{Row}
+use Rattle.pgn_extract.specs.declared.settings.EntryLine.{EntryLine}
+use Rattle.pgn_extract.specs.declared.settings.EntryLine.TheVariants.{Marked, InColumns}
 use Rattle.pgn_extract.specs.declared.settings.Form.{Form}
 use Rattle.pgn_extract.specs.declared.settings.Form.TheVariants.{Standard, AsItStands, Line, Record}
 use Rattle.pgn_extract.specs.declared.settings.Mode.{Mode}
 use Rattle.pgn_extract.specs.declared.settings.Mode.TheVariants as modes
 use Rattle.pgn_extract.specs.declared.settings.Select.{Select}
+use Rattle.pgn_extract.specs.declared.settings.Settings.{Settings}
 use Rattle.pgn_extract.specs.declared.settings.Select.TheVariants.{Matching, Others, Faulty}
 
 -- What is asked for.
 
 -- what is written: a list, an index, or games
 abbrev pub asked_mode : Request → Mode
-asked_mode request = if request.list then modes.List
+asked_mode request = if request.list || is_some request.rows then modes.List
     else (if request.index then modes.Index else modes.Export)
 
 -- which games are written
@@ -48,11 +56,27 @@ asked_style request = record {
   width = unwrap_or request.width 79;
 }
 
--- all that a run is to do, with notes or without, with these criteria, and of the pieces with these
--- marks; its lines have no name yet
-abbrev pub asked : Bool → Request → Option (List Conditions) → Option (List GameId)
+-- how rows are written
+abbrev pub asked_format : Request → Format
+asked_format request = if request.tsv then Tsv else (if request.jsonl then Jsonl else Csv)
+
+-- this is the row that is asked for, where one is: with the columns that are listed
+abbrev pub IsAskedRow : Request → Option Row → Type 0
+IsAskedRow request None = is_none request.rows ≡ true
+IsAskedRow request (Some row) =
+    IfSome request.rows (λ text. AreColumns text.now row.columns.items)
+    × (is_some request.rows ≡ true) × (row.format ≡ asked_format request)
+
+-- what the line of an entry is: a row where one is given
+abbrev pub asked_line : Request → Option Row → EntryLine
+asked_line request None = Marked (record { fen = request.fen; next = request.next })
+asked_line request (Some row) = InColumns row
+
+-- all that a run is to do, with notes or without, with this row, these criteria, and of the pieces
+-- with these marks; its lines have no name yet
+abbrev pub asked : Bool → Request → Option Row → Option (List Conditions) → Option (List GameId)
     → Aim
-asked noted request criteria chosen = record {
+asked noted request row criteria chosen = record {
   name = None;
   chosen = chosen;
   mode = asked_mode request;
@@ -60,13 +84,21 @@ asked noted request criteria chosen = record {
   min_ply = request.min_ply;
   max_ply = request.max_ply;
   first = request.first;
-  fields = record { fen = request.fen; next = request.next };
+  line = asked_line request row;
   select = asked_select request;
   form = asked_form request;
   style = asked_style request;
   explain = noted;
   tags_first = request.tags_first;
 }
+
+-- what is written before a run: the names of the columns, where rows begin at the beginning of the
+-- input and the names are not left out
+abbrev pub asked_header : Settings → Bool → List ℕ
+asked_header settings left_out = elim settings.line [
+  | Marked fields ↦ []
+  | InColumns row ↦ if left_out || nat_lt 0 settings.offset then [] else header_text row
+]
 
 -- two FILEs or more are given
 abbrev pub has_several_files : Request → Bool
@@ -172,9 +204,38 @@ search_refusals request =
     }
     ∷ file_refusals request
 
--- the refusals of options that exclude each other, and those of searches and of files
-abbrev pub option_refusals : Request → List Refusal
-option_refusals request =
+-- something is asked for that is no row
+abbrev pub asks_beside_rows : Request → Bool
+asks_beside_rows request =
+    (request.list || request.index || request.packed || request.fen || request.next)
+    || (request.others || request.faulty || request.as_is)
+    || (request.pack || request.moves || request.uci)
+
+-- rows are to be written in a format
+abbrev pub has_format : Request → Bool
+has_format request = request.csv || request.tsv || request.jsonl
+
+-- the refusals of what does not go with rows, and of their formats
+abbrev pub row_refusals : Request → List Refusal
+row_refusals request =
+    record {
+      applies = is_some request.rows && asks_beside_rows request;
+      line = codes
+          "pgn-extract: --rows goes with none of --list, --index, --packed, --fen, --next, --others, --faulty, --as-is, --pack, --moves and --uci\n";
+    }
+    ∷ record {
+      applies = (has_format request || request.no_header) && is_none request.rows;
+      line = codes "pgn-extract: --csv, --tsv, --jsonl and --no-header go with --rows\n";
+    }
+    ∷ record {
+      applies = (request.csv && (request.tsv || request.jsonl)) || (request.tsv && request.jsonl);
+      line = codes "pgn-extract: --csv, --tsv and --jsonl exclude each other\n";
+    }
+    ∷ []
+
+-- the refusals of other options that exclude each other, and those of searches and of files
+abbrev pub other_refusals : Request → List Refusal
+other_refusals request =
     record {
       applies = request.list && request.index;
       line = codes "pgn-extract: --list and --index exclude each other\n";
@@ -219,6 +280,10 @@ option_refusals request =
           "pgn-extract: --moves and --uci go with none of --list, --index, --faulty and --as-is\n";
     }
     ∷ search_refusals request
+
+-- those of all options
+abbrev pub option_refusals : Request → List Refusal
+option_refusals request = row_refusals request ++ other_refusals request
 
 -- the refusals of marks and of lines of criteria
 abbrev pub text_refusals : Bool → Request → List Refusal

@@ -14,7 +14,6 @@ use Rattle.pgn_game.specs.Public.PackedGames.{pack_bytes, longest_name, is_shown
 use Rattle.pgn_game.specs.Public.PackStreams.{HasNoRecord}
 use Rattle.pgn_game.specs.Public.Replays.{Replay}
 use Rattle.pgn_game.specs.declared.replays.replayer.Lines.TheVariants.{Main}
-use Rattle.pgn_criteria.specs.Public.Meeting.{heading_of}
 use Rattle.pgn_extract.specs.Public.Aims.{Aim, GameId}
 use Rattle.pgn_extract.specs.Public.Exports.{AreExports}
 use Rattle.pgn_extract.specs.Public.Index.{mark_line}
@@ -108,7 +107,7 @@ IsRecordListing aim packed text =
     (game : GameText) (replay : Replay) → IsGameText game → IsReplayOf Main game replay
     → IsPacked packed.name packed.number packed.offset game replay packed
     → (entries : List Entry)
-    × AreListed aim (game_id packed.number packed.offset) (heading_of game) replay entries
+    × AreListed aim (game_id packed.number packed.offset) game replay entries
     × (text ≡ listing packed.name entries)
 
 -- the lines of a record in a mode: in that of the index its mark, else its listing

@@ -67,7 +67,7 @@ replayed_lines modes.Export aim = written_lines aim
 -- the lines of the entries that a sound game lists
 abbrev pub AreEntryLines : Aim → GameId → GameText → Replay → List ℕ → Type 0
 AreEntryLines aim id game replay text =
-    (entries : List Entry) × AreListed aim id (heading_of game) replay entries
+    (entries : List Entry) × AreListed aim id game replay entries
     × (text ≡ listing aim.name entries)
 
 -- what goes to the output of a sound game in a mode: in the export what is written of it, else the

@@ -9,6 +9,16 @@ pub struct Request<'a> {
     pub index: bool,
     /// `--list` was given.
     pub list: bool,
+    /// The text after `--rows`.
+    pub rows: Option<&'a str>,
+    /// `--csv` was given.
+    pub csv: bool,
+    /// `--tsv` was given.
+    pub tsv: bool,
+    /// `--jsonl` was given.
+    pub jsonl: bool,
+    /// `--no-header` was given.
+    pub no_header: bool,
     /// `--packed` was given.
     pub packed: bool,
     /// `--moves` was given.
@@ -166,6 +176,17 @@ const MODES: &[Choice] = &[
         "With --list, show the move that is played from there\n\
          (- at the end of the game)",
     ),
+    choice!(
+        "rows",
+        Takes::Text("COLUMNS"),
+        "A row for each position that --list has: names of\n\
+         tags, and @file @game @offset @id @ply @fen @turn\n\
+         @number @next @result, with commas between",
+    ),
+    choice!("csv", "With --rows, values with commas between [default]"),
+    choice!("tsv", "With --rows, values with tabs between"),
+    choice!("jsonl", "With --rows, an object of JSON a line"),
+    choice!("no-header", "With --rows, no line of the columns' names"),
     choice!(
         "packed",
         "With --list or --index, the FILEs are packs: lines of\n\
@@ -401,6 +422,11 @@ pub fn read_arguments<'a>(alloc: Global, arguments: &'a [String]) -> Result<Requ
     Ok(Request {
         index: matches.get_flag("index"),
         list: matches.get_flag("list"),
+        rows: matches.get_str("rows"),
+        csv: matches.get_flag("csv"),
+        tsv: matches.get_flag("tsv"),
+        jsonl: matches.get_flag("jsonl"),
+        no_header: matches.get_flag("no-header"),
         packed: matches.get_flag("packed"),
         moves: matches.get_flag("moves"),
         uci: matches.get_flag("uci"),

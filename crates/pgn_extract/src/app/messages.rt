@@ -16,6 +16,22 @@ pub const NO_GAMES_WRITTEN: &str =
 /// Where no entries are listed, their lines show nothing.
 pub const NO_ENTRIES_LISTED: &str = "pgn-extract: --fen and --next go with --list\n";
 
+/// Rows are the whole output.
+pub const ROWS_ALONE: &str =
+    "pgn-extract: --rows goes with none of --list, --index, --packed, --fen, --next, --others, --faulty, --as-is, --pack, --moves and --uci\n";
+
+/// Where there are no rows, they have no format.
+pub const NO_ROWS: &str = "pgn-extract: --csv, --tsv, --jsonl and --no-header go with --rows\n";
+
+/// Rows have one format.
+pub const SEVERAL_FORMATS: &str = "pgn-extract: --csv, --tsv and --jsonl exclude each other\n";
+
+/// A column of rows has no name.
+pub const COLUMN_WITHOUT_NAME: &str = "pgn-extract: --rows: a column has no name\n";
+
+/// Rows have too many columns.
+pub const TOO_MANY_COLUMNS: &str = "pgn-extract: --rows: more than 64 columns\n";
+
 /// Moves have one notation.
 pub const BOTH_NOTATIONS: &str = "pgn-extract: --moves and --uci exclude each other\n";
 

@@ -2,20 +2,22 @@
 ghost use Rattle.std.specs.Prelude.{◌≡◌, ◌||◌, true, option_map, IfErr, IfOk, IfSome, OnOk};
 ghost use Rattle.pgn_extract.specs.Public.Aims.{aim_of};
 ghost use Rattle.pgn_extract.specs.Public.GivenMarks.{IsGameMark};
-ghost use Rattle.pgn_extract.specs.Public.Listing.{is_plain};
+ghost use Rattle.pgn_extract.specs.Public.Listing.{is_bare};
 ghost use Rattle.pgn_extract.specs.Public.Requests.{asked, asked_form, asked_mode, asked_select};
 ghost use Rattle.pgn_extract.specs.Public.Requests.{asked_style, asks_names};
 ghost use Rattle.pgn_extract.specs.Public.Requests.{bad_mark, begin_of, end_of, file_refusals};
 ghost use Rattle.pgn_extract.specs.Public.Requests.{first_line, gives_criteria, gives_mark};
 ghost use Rattle.pgn_extract.specs.Public.Requests.{has_style, needs_each_game, option_refusals};
-ghost use Rattle.pgn_extract.specs.Public.Requests.{refused, search_refusals};
+ghost use Rattle.pgn_extract.specs.Public.Requests.{other_refusals, row_refusals, search_refusals};
+ghost use Rattle.pgn_extract.specs.Public.Requests.{asked_format, asked_line, refused};
 
 use crate::app::command::{DEFAULT_WIDTH, Request};
 use crate::app::conditions::are_lines;
 use crate::app::mark::{FIRST, read_mark};
 use crate::app::messages;
 use crate::marks::{GameId, Marks};
-use crate::settings::{Fields, Form, Mode, Select, Settings};
+use crate::rows::column::{Format, Row};
+use crate::settings::{EntryLine, Fields, Form, Mode, Select, Settings};
 use pgn_criteria::Criteria;
 use pgn_game::{Notation, Style};
 
@@ -71,6 +73,36 @@ pub fn accept(request: Request<'_>, watched: bool) -> Result<Order<'_>, &'static
 /// The line that refuses the options, the first of those that apply.
 fn refused_line(request: &Request<'_>) -> Option<&'static str>
     ensures { option_map (λ line. line.now) result ≡ first_line (option_refusals request.now) }
+{
+    if let Some(line) = refused_rows(request) {
+        return Some(line);
+    }
+    refused_others(request)
+}
+
+/// The line that refuses what does not go with rows, or their formats.
+fn refused_rows(request: &Request<'_>) -> Option<&'static str>
+    ensures { option_map (λ line. line.now) result ≡ first_line (row_refusals request.now) }
+{
+    let has_mode = request.list | request.index | request.packed | request.fen | request.next;
+    let has_games = request.others | request.faulty | request.as_is;
+    let has_form = request.pack | request.moves | request.uci;
+    let has_format = request.csv | request.tsv | request.jsonl;
+    if request.rows.is_some() & (has_mode | has_games | has_form) {
+        return Some(messages::ROWS_ALONE);
+    }
+    if (has_format | request.no_header) & request.rows.is_none() {
+        return Some(messages::NO_ROWS);
+    }
+    if (request.csv & (request.tsv | request.jsonl)) | (request.tsv & request.jsonl) {
+        return Some(messages::SEVERAL_FORMATS);
+    }
+    None
+}
+
+/// The line that refuses the other options, the first of those that apply.
+fn refused_others(request: &Request<'_>) -> Option<&'static str>
+    ensures { option_map (λ line. line.now) result ≡ first_line (other_refusals request.now) }
 {
     let has_mode = request.list | request.index;
     let has_fields = request.fen | request.next;
@@ -174,7 +206,7 @@ pub fn has_names(request: &Request<'_>) -> bool
 fn mode_of(request: &Request<'_>) -> Mode
     ensures { result ≡ asked_mode request.now }
 {
-    if request.list {
+    if request.list || request.rows.is_some() {
         Mode::List
     } else if request.index {
         Mode::Index
@@ -227,9 +259,40 @@ fn style_of(request: &Request<'_>) -> Style
     }
 }
 
+/// How rows are written.
+pub fn format_of(request: &Request<'_>) -> Format
+    ensures { result ≡ asked_format request.now }
+{
+    if request.tsv {
+        Format::Tsv
+    } else if request.jsonl {
+        Format::Jsonl
+    } else {
+        Format::Csv
+    }
+}
+
+/// What the line of an entry is.
+fn line_of(request: &Request<'_>, row: Option<Row>) -> EntryLine
+    ensures { result ≡ asked_line request.now row }
+{
+    match row {
+        Some(row) => EntryLine::InColumns(row),
+        None => EntryLine::Marked(Fields {
+            fen: request.fen,
+            next: request.next,
+        }),
+    }
+}
+
 /// What a run is to write, with no name yet.
-pub fn settings_of(order: &Order<'_>, criteria: Option<Criteria>, chosen: Option<Marks>) -> Settings
-    ensures asked { aim_of result ≡ asked order.now.noted order.now.request criteria chosen }
+pub fn settings_of(
+    order: &Order<'_>,
+    row: Option<Row>,
+    criteria: Option<Criteria>,
+    chosen: Option<Marks>,
+) -> Settings
+    ensures asked { aim_of result ≡ asked order.now.noted order.now.request row criteria chosen }
     ensures number { result.number ≡ order.now.mark.number }
     ensures offset { result.offset ≡ order.now.mark.offset }
 {
@@ -242,10 +305,7 @@ pub fn settings_of(order: &Order<'_>, criteria: Option<Criteria>, chosen: Option
         min_ply: request.min_ply,
         max_ply: request.max_ply,
         first: request.first,
-        fields: Fields {
-            fen: request.fen,
-            next: request.next,
-        },
+        line: line_of(request, row),
         select: select_of(request),
         form: form_of(request),
         style: style_of(request),
@@ -259,17 +319,17 @@ pub fn settings_of(order: &Order<'_>, criteria: Option<Criteria>, chosen: Option
 /// What is looked for in packs.
 pub fn packed_settings(order: &Order<'_>, criteria: Option<Criteria>) -> Settings
     ensures asked { aim_of result
-        ≡ record (asked order.now.noted order.now.request criteria None) {
-          fields =
-              result.fields;
+        ≡ record (asked order.now.noted order.now.request None criteria None) {
+          line =
+              result.line;
         } }
-    ensures plain { is_plain result.fields ≡ true }
+    ensures plain { is_bare result.line ≡ true }
 {
-    let mut settings = settings_of(order, criteria, None);
-    settings.fields = Fields {
+    let mut settings = settings_of(order, None, criteria, None);
+    settings.line = EntryLine::Marked(Fields {
         fen: false,
         next: false,
-    };
+    });
     settings
 }
 

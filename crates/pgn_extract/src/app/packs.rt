@@ -2,7 +2,7 @@
 ghost use Rattle.std.specs.Prelude.{◌≡◌, ◌≢◌, ℕ, List, [], false, true, IfErr, IfSome, OnOk};
 ghost use Rattle.pgn_extract.specs.Private.PackStops.{StopsAmongPacks, StopsAtPack, StopsInPack};
 ghost use Rattle.pgn_extract.specs.Public.Aims.{aim_of};
-ghost use Rattle.pgn_extract.specs.Public.Listing.{is_plain};
+ghost use Rattle.pgn_extract.specs.Public.Listing.{is_bare};
 ghost use Rattle.pgn_extract.specs.Public.Runs.{Stream, passage, stream_of};
 ghost use Rattle.pgn_extract.specs.Public.Searching.{IndexesWhatWasPacked, ListsWhatWasPacked};
 ghost use Rattle.pgn_extract.specs.Public.Searching.{Searches};
@@ -58,7 +58,7 @@ fn search_input<'a, I: Read, O: Write>(
 where
     I: Drop,
     requires sound { out.old.faulted ≡ false }
-    requires plain { is_plain task.now.settings.fields ≡ true }
+    requires plain { is_bare task.now.settings.line ≡ true }
     ensures listed { OnOk result (IfSome (I.remaining input)
         (λ whole. ListsWhatWasPacked (aim_of task.now.settings) whole
         (O.contents out.old.inner) (O.contents out.new.inner))) }
@@ -96,7 +96,7 @@ fn search_path<'a, F: Files, O: Write, E: Write>(
 where
     F::Input: Drop,
     requires sound { (out.old.faulted ≡ false) × (err.old.faulted ≡ false) }
-    requires plain { is_plain task.now.settings.fields ≡ true }
+    requires plain { is_bare task.now.settings.line ≡ true }
     ensures searched { OnOk result (F.known files.old path.now ≢ Unknown
         → SearchesPath (aim_of task.now.settings) path.now (F.known files.old path.now)
         (passage O.contents out.old out.new) (passage E.contents err.old err.new)) }
@@ -129,7 +129,7 @@ fn search_paths<'a, F: Files, O: Write, E: Write>(
 where
     F::Input: Drop,
     requires sound { (out.old.faulted ≡ false) × (err.old.faulted ≡ false) }
-    requires plain { is_plain task.now.settings.fields ≡ true }
+    requires plain { is_bare task.now.settings.line ≡ true }
     ensures searched { OnOk result (AreKnown (F.known files.old) (pack_paths task.now)
         → SearchesPaths (aim_of task.now.settings) (F.known files.old) (pack_paths task.now)
         (passage O.contents out.old out.new) (passage E.contents err.old err.new)) }
@@ -159,7 +159,7 @@ pub fn search_packs<F: Files, O: Write, E: Write>(
 where
     F::Input: Drop,
     requires sound { (out.old.faulted ≡ false) × (err.old.faulted ≡ false) }
-    requires plain { is_plain task.now.settings.fields ≡ true }
+    requires plain { is_bare task.now.settings.line ≡ true }
     ensures searched { result ≢ 3 → pack_paths task.now ≢ []
         → AreKnown (F.known files.old) (pack_paths task.now)
         → (err_there : Stream)

@@ -11,7 +11,7 @@ ghost use Rattle.pgn_extract.specs.Private.Blockwise.{IsBlockVerdict};
 ghost use Rattle.pgn_extract.specs.Private.Blockwise.{IsMarkReport, StopsIn, too_long_piece};
 ghost use Rattle.pgn_extract.specs.Private.Finding.{AddsEntries};
 ghost use Rattle.pgn_extract.specs.Public.Index.{fault_text};
-ghost use Rattle.pgn_extract.specs.Public.Listing.{is_plain};
+ghost use Rattle.pgn_extract.specs.Public.Listing.{is_bare};
 ghost use Rattle.pgn_extract.specs.Public.GameReports.{cause_text};
 ghost use Rattle.pgn_extract.specs.Public.Notes.{IsNote};
 ghost use Rattle.pgn_extract.specs.Public.Verdicts.{Verdict, FaultyGame, replayed_lines};
@@ -153,7 +153,7 @@ fn push_counted<'a>(
     game: &RawGame<'a>,
 ) -> Result<(), GameFault<'a>>
     requires criteria { context.settings.now.criteria ≡ None }
-    requires plain { is_plain context.settings.now.fields ≡ true }
+    requires plain { is_bare context.settings.now.line ≡ true }
     ensures { MatchResult result
         (λ _. AddsEntries (aim_of context.entry.settings.now) context.entry.own game.now
         text.old.items text.new.items)
@@ -179,7 +179,7 @@ fn push_listed<'a>(
         text.old.items text.new.items)
         (λ fault. IfSome (fault_of fault) (StopsIn Main game.now text.old.items text.new.items)) }
 {
-    if context.settings.fields.is_empty() && context.settings.criteria.is_none() {
+    if context.settings.line.is_bare() && context.settings.criteria.is_none() {
         return push_counted(text, context, game);
     }
     push_entries(text, context, game)

@@ -4,11 +4,12 @@ ghost use Rattle.chess.specs.Public.Positions.{State};
 ghost use Rattle.pgn_text.specs.Public.GameTexts.{GameText};
 ghost use Rattle.pgn_extract.specs.Public.Aims.{GameId};
 ghost use Rattle.pgn_extract.specs.Private.Lines.{Where, HasFault, IsNeverMet, Asks, aim_with};
-ghost use Rattle.pgn_extract.specs.Private.Lines.{HandsOn, Fails, NoneBefore};
+ghost use Rattle.pgn_extract.specs.Private.Lines.{HandsOn, Fails, NoneBefore, MakesLines};
 
 use crate::entries::line::Line;
+use crate::entries::line_maker::LineMaker;
 use crate::entries::sink::Sink;
-use crate::settings::{Fields, Settings};
+use crate::settings::Settings;
 
 /// What is looked for in a main line: plies within the bounds of settings that meet the criteria,
 /// or only the first of them; what is shown of each entry, and what its line begins with.
@@ -16,7 +17,7 @@ use crate::settings::{Fields, Settings};
 pub(crate) struct Finder<'s> {
     pub(crate) settings: &'s Settings,
     pub(crate) first: bool,
-    pub(crate) fields: Fields,
+    pub(crate) lines: LineMaker<'s>,
     pub(crate) mark: Vec<u8>,
 }
 
@@ -24,7 +25,7 @@ impl<'s> Finder<'s> {
     /// Hands on the entry where the line stands, if it is one. Answers whether a later one may be.
     #[inline(always)]
     fn ask<L: Line, S: Sink>(&self, line: &L, sink: &mut S, is_open: bool) -> Result<bool, L::Fault>
-        requires takes { S.Takes self.now.fields }
+        requires takes { S.Takes self.now.lines }
         requires valid { L.Valid line.now }
         ensures asked { IfOk result (Asks (S.Gets self.now.mark.items) self.now (L.At line.now)
             sink.old sink.new is_open) }
@@ -39,7 +40,7 @@ impl<'s> Finder<'s> {
         if ply < (self.settings.min_ply as usize) || !line.is_met() {
             return Ok(true);
         }
-        sink.put(&self.mark, line, self.fields)?;
+        sink.put(&self.mark, line, &self.lines)?;
         Ok(!self.first)
     }
 
@@ -52,13 +53,14 @@ impl<'s> Finder<'s> {
         sink: &mut S,
         is_open: bool,
     ) -> Result<(), L::Fault>
-        requires takes { S.Takes self.now.fields }
+        requires takes { S.Takes self.now.lines }
         requires valid { L.Valid line.old }
         requires open { is_open ≡ false → Where (L.At line.old) IsNeverMet }
         ensures found { OnOk result ((name : Option (List ℕ)) (id : GameId) (game : GameText)
             (before : List State) (P : State)
             → L.At line.old (aim_with self.now name) game before P
             → NoneBefore (aim_with self.now name) game before
+            → MakesLines self.now.lines name id game
             → HandsOn (aim_with self.now name) id game
             (λ got. S.Gets self.now.mark.items sink.old got sink.new)) }
         ensures fault { IfErr result (λ fault. IfSome (L.fault_of fault)

@@ -13,9 +13,13 @@ ghost use Rattle.pgn_extract.specs.Public.Aims.{Aim, aim_of};
 ghost use Rattle.pgn_extract.specs.Private.Finding.{IsChosen};
 ghost use Rattle.pgn_extract.specs.Private.KeptLines.{IsKeptWith};
 ghost use Rattle.pgn_extract.specs.Public.Listing.{IsNextField};
+ghost use Rattle.pgn_extract.specs.Private.RowTexts.{IsPlainValue};
+ghost use Rattle.pgn_extract.specs.Public.Rows.{IsMoveCell};
 
 use crate::entries::line::Line;
-use crate::entries::played::push_fen;
+use crate::entries::played::{push_fen, push_position_value};
+use crate::output::texts::push_number;
+use crate::rows::column::PlyColumn;
 use crate::settings::{Fields, Settings};
 use chess::san;
 use pgn_criteria::Criteria;
@@ -45,6 +49,23 @@ fn push_played(
         return Ok(());
     }
     text.extend_from_slice(san(replayed.position(ply), replayed.played(ply)).as_bytes())?;
+    Ok(())
+}
+
+/// Appends the text of the move that is played after so many plies, and nothing where none is.
+fn push_played_value(text: &mut Vec<u8>, replayed: &Replayed, ply: usize) -> Result<(), AllocError>
+    requires within { ply ≤ length replayed.now.played }
+    requires legal { (start : State) × IsLegalLine start replayed.now }
+    ensures { OnOk result ((value : List ℕ) × IsPlainValue value
+        × IsMoveCell replayed.now ply value
+        × (text.new.items ≡ text.old.items ++ value)) }
+{
+    if ply == replayed.plies() {
+        return Ok(());
+    }
+    let position = replayed.position(ply);
+    position.invariant();
+    text.extend_from_slice(san(position, replayed.played(ply)).as_bytes())?;
     Ok(())
 }
 
@@ -109,6 +130,16 @@ impl Line for Kept {
     fn push_fields(&self, text: &mut Vec<u8>, fields: Fields) -> Result<(), AllocError> {
         push_fen(text, fields.fen, self.replayed.position(self.ply))?;
         push_played(text, fields.next, &self.replayed, self.ply)
+    }
+
+    fn push_value(&self, text: &mut Vec<u8>, column: PlyColumn) -> Result<(), AllocError> {
+        match column {
+            PlyColumn::Ply => push_number(text, self.ply),
+            PlyColumn::OfPosition(own) => {
+                push_position_value(text, self.replayed.position(self.ply), own)
+            }
+            PlyColumn::Next => push_played_value(text, &self.replayed, self.ply),
+        }
     }
 
     #[inline(always)]

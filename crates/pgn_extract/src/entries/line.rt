@@ -7,8 +7,10 @@ ghost use Rattle.pgn_text.specs.Public.GameTexts.{GameText};
 ghost use Rattle.pgn_game.specs.Public.Faults.{Fault as OwnFault};
 ghost use Rattle.pgn_extract.specs.Public.Aims.{Aim};
 ghost use Rattle.pgn_extract.specs.Private.Lines.{Stands, Where, MeetsHere, ShowsFields, HasFault};
-ghost use Rattle.pgn_extract.specs.Private.Lines.{GoesTo};
+ghost use Rattle.pgn_extract.specs.Private.Lines.{GoesTo, ShowsValue};
+ghost use Rattle.pgn_extract.specs.Private.RowTexts.{IsPlainValue};
 
+use crate::rows::column::PlyColumn;
 use crate::settings::Fields;
 use std::alloc::AllocError;
 
@@ -44,6 +46,16 @@ pub(crate) trait Line {
         ensures shown { OnOk result ((shown : List ℕ)
             × Where (At self.now) (ShowsFields fields shown)
             × (text.new.items ≡ text.old.items ++ shown)) }
+        ensures fault { IfErr result (λ fault. IfSome (fault_of fault)
+            (λ own. Where (At self.now) (HasFault own) × (some : List ℕ)
+            × (text.new.items ≡ text.old.items ++ some))) };
+
+    /// Appends what a column shows of it. A next move that cannot be played is answered as a fault.
+    fn push_value(&self, text: &mut Vec<u8>, column: PlyColumn) -> Result<(), Self::Fault>
+        requires { Valid self.now }
+        ensures shown { OnOk result ((value : List ℕ) × IsPlainValue value
+            × Where (At self.now) (ShowsValue column value)
+            × (text.new.items ≡ text.old.items ++ value)) }
         ensures fault { IfErr result (λ fault. IfSome (fault_of fault)
             (λ own. Where (At self.now) (HasFault own) × (some : List ℕ)
             × (text.new.items ≡ text.old.items ++ some))) };

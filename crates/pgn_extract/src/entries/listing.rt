@@ -2,7 +2,7 @@
 ghost use Rattle.std.specs.Prelude.{◌≡◌, ◌↔◌, ℕ, ◌^◌, ◌<◌, ◌≤◌, None, true, OnOk};
 ghost use Rattle.pgn_extract.specs.Public.Aims.{aim_of};
 ghost use Rattle.pgn_extract.specs.Private.Blockwise.{IsPlainEntry, AddsPlies, AddsLines};
-ghost use Rattle.pgn_extract.specs.Public.Listing.{is_plain};
+ghost use Rattle.pgn_extract.specs.Public.Listing.{is_bare};
 
 use crate::entries::GameContext;
 use crate::entries::ten_lines::push_range;
@@ -33,7 +33,7 @@ pub fn push_plies(
     plies: usize,
 ) -> Result<(), AllocError>
     requires criteria { context.settings.now.criteria ≡ None }
-    requires plain { is_plain context.settings.now.fields ≡ true }
+    requires plain { is_bare context.settings.now.line ≡ true }
     ensures { OnOk result
         (AddsPlies (aim_of context.entry.settings.now) context.entry.own plies text.old.items
         text.new.items) }
@@ -58,7 +58,7 @@ pub fn push_lines(
     plies: usize,
 ) -> Result<(), AllocError>
     requires criteria { settings.now.criteria ≡ None }
-    requires plain { is_plain settings.now.fields ≡ true }
+    requires plain { is_bare settings.now.line ≡ true }
     ensures { OnOk result
         (AddsLines (aim_of settings.now) mark.now plies text.old.items text.new.items) }
 {

@@ -1,24 +1,29 @@
 //! A main line whose positions are asked while it is played.
 ghost use Rattle.std.specs.Prelude.{◌≡◌, ◌↔◌, ◌++◌, ℕ, List, false, Option, IsTrue, IfErr, IfSome};
-ghost use Rattle.std.specs.Prelude.{OnOk, length};
+ghost use Rattle.std.specs.Prelude.{◌≤◌, OnOk, codes, length};
 ghost use Rattle.std.proofs.Common.{ap};
 ghost use Rattle.pgn_text.specs.Public.GameTexts.{tag_in};
 ghost use Rattle.pgn_game.specs.Public.Faults.{IsFault};
 ghost use Rattle.pgn_game.specs.Public.Starts.{fen_tag};
 ghost use Rattle.pgn_game.specs.declared.replays.replayer.Lines.TheVariants.{Main};
 ghost use Rattle.pgn_extract.specs.Public.Aims.{GameId, aim_of};
-ghost use Rattle.pgn_extract.specs.Private.Lines.{aim_with, HandsOn};
+ghost use Rattle.pgn_extract.specs.Private.Lines.{aim_with, HandsOn, MakesLines};
 ghost use Rattle.pgn_criteria.specs.Public.Meeting.{Heading, SomeHold};
 ghost use Rattle.pgn_criteria.specs.Public.Conditions.{Conditions};
 ghost use Rattle.pgn_game.specs.Public.Replays.{Replay, fault_of};
 ghost use Rattle.pgn_extract.specs.Private.Finding.{AsksFor, StopsInLine, ShowsPosition, ShowsNext};
+ghost use Rattle.pgn_extract.specs.Private.Finding.{IsDashLeftOut, IsNextValue};
+ghost use Rattle.pgn_extract.specs.Private.RowTexts.{IsPlainValue};
+ghost use Rattle.pgn_extract.specs.Public.Rows.{IsPositionCell};
 ghost use Rattle.pgn_extract.specs.Private.PlayedLines.{IsPlayedWith};
 
 use crate::entries::finding::Finder;
 use crate::entries::line::Line;
 use crate::entries::sink::Sink;
-use crate::output::texts::push_blank;
+use crate::output::texts::{push_blank, push_number};
+use crate::rows::column::{PlyColumn, PositionColumn};
 use crate::settings::Fields;
+use chess::Side;
 use pgn_criteria::Search;
 use pgn_game::{GameFault, GamePosition, MainLine};
 use pgn_text::RawGame;
@@ -112,6 +117,64 @@ fn push_next<'a>(
     line.push_next(text)
 }
 
+/// Appends what a column shows of a position.
+pub(crate) fn push_position_value(
+    text: &mut Vec<u8>,
+    position: &GamePosition,
+    column: PositionColumn,
+) -> Result<(), AllocError>
+    ensures { OnOk result ((value : List ℕ) × IsPlainValue value
+        × IsPositionCell column position.now value
+        × (text.new.items ≡ text.old.items ++ value)) }
+{
+    position.invariant();
+    match column {
+        PositionColumn::Fen => {
+            text.extend_from_slice(position.fen().as_bytes())?;
+            Ok(())
+        }
+        PositionColumn::Turn => match position.side() {
+            Side::White => text.extend_from_slice(b"w"),
+            Side::Black => text.extend_from_slice(b"b"),
+        },
+        PositionColumn::Number => push_number(text, position.number() as usize),
+    }
+}
+
+/// Whether the text is that of no move.
+fn is_dash(text: &[u8]) -> bool
+    ensures { IsTrue result ↔ (text.now ≡ codes "-") }
+{
+    text == b"-".as_slice()
+}
+
+/// Takes the text of no move away, where it stands from a place on.
+fn leave_dash_out(text: &mut Vec<u8>, from: usize)
+    requires { from ≤ length text.old.items }
+    ensures { (start own : List ℕ) → text.old.items ≡ start ++ own → length start ≡ from
+        → (value : List ℕ) × IsDashLeftOut own value × (text.new.items ≡ start ++ value) }
+{
+    if is_dash(&text[from..]) {
+        text.truncate(from);
+    }
+}
+
+/// Appends the text of the next move, and nothing where there is none. A move that cannot be played
+/// is answered as a fault.
+fn push_next_value<'a>(text: &mut Vec<u8>, line: &MainLine<'_, 'a>) -> Result<(), GameFault<'a>>
+    ensures shown { OnOk result ((value : List ℕ) × IsPlainValue value
+        × IsNextValue line.now value
+        × (text.new.items ≡ text.old.items ++ value)) }
+    ensures fault { IfErr result (λ fault.
+        IfSome (fault_of fault) (StopsInLine line.now text.old.items text.new.items)) }
+{
+    line.position().invariant();
+    let from = text.len();
+    line.push_next(text)?;
+    leave_dash_out(text, from);
+    Ok(())
+}
+
 /// A main line while it is played.
 #[derive(Drop)]
 pub(crate) struct Played<'g, 'a, Q: Question> {
@@ -147,6 +210,20 @@ impl<'g, 'a, Q: Question> Line for Played<'g, 'a, Q> {
         push_next(text, fields.next, &self.line)
     }
 
+    fn push_value(&self, text: &mut Vec<u8>, column: PlyColumn) -> Result<(), GameFault<'a>> {
+        match column {
+            PlyColumn::Ply => {
+                push_number(text, self.line.plies())?;
+                Ok(())
+            }
+            PlyColumn::OfPosition(own) => {
+                push_position_value(text, self.line.position(), own)?;
+                Ok(())
+            }
+            PlyColumn::Next => push_next_value(text, &self.line),
+        }
+    }
+
     #[inline(always)]
     fn advance(&mut self, _is_open: bool) -> Result<bool, GameFault<'a>> {
         self.line.advance()
@@ -166,9 +243,10 @@ pub(crate) fn find_played<'a, Q: Question, S: Sink>(
     question: Q,
     sink: &mut S,
 ) -> Result<(), GameFault<'a>>
-    requires takes { S.Takes finder.now.fields }
+    requires takes { S.Takes finder.now.lines }
     requires asks { AsksFor (aim_of finder.now.settings.now) game.now (Q.asked question) }
     ensures found { OnOk result ((name : Option (List ℕ)) (id : GameId)
+        → MakesLines finder.now.lines name id game.now
         → HandsOn (aim_with finder.now name) id game.now
         (λ got. S.Gets finder.now.mark.items sink.old got sink.new)) }
     ensures fault { IfErr result (λ fault. IfSome (fault_of fault)

@@ -1,19 +1,19 @@
 //! What is done with the entries that are found.
 ghost use Rattle.std.specs.Prelude.{◌≡◌, ◌∷◌, ◌++◌, [], ℕ, List, true, OnOk, IfErr, IfSome, length};
 ghost use Rattle.std.specs.Prelude.{refl};
-ghost use Rattle.pgn_extract.specs.Public.Listing.{Entry, is_plain};
-ghost use Rattle.pgn_extract.specs.Private.Lines.{Where, ShowsFields, HasFault, marked_lines};
-ghost use Rattle.pgn_extract.specs.Private.Lines.{or_some};
+ghost use Rattle.pgn_extract.specs.Public.Listing.{Entry, is_bare};
+ghost use Rattle.pgn_extract.specs.Private.Lines.{Where, HasFault, marked_lines};
+ghost use Rattle.pgn_extract.specs.Private.Lines.{or_some, made_line};
 ghost use Rattle.pgn_extract.specs.Private.Sinks.{PutsHere, lines_none, lines_more, some_more};
 ghost use Rattle.pgn_extract.specs.Private.Sinks.{grows_none, grows_more};
 
 use crate::entries::line::Line;
+use crate::entries::line_maker::LineMaker;
 use crate::output::texts::{end_line, push_ply};
-use crate::settings::Fields;
 
 /// What entries are handed to.
 pub(crate) trait Sink {
-    ghost use Rattle.pgn_extract.specs.declared.settings.Fields.{Fields};
+    ghost use Rattle.pgn_extract.specs.declared.entries.line_maker.LineMaker.{LineMaker};
 
     /// Of entries whose lines begin with this mark, these were handed to it since.
     ghost Gets: { List ℕ → Self → List Entry → Self → Type 0 };
@@ -21,15 +21,15 @@ pub(crate) trait Sink {
     /// It took something since, or nothing.
     ghost Grew: { Self → Self → Type 0 };
 
-    /// It takes entries with these fields.
-    ghost Takes: { Fields → Type 0 };
+    /// It takes entries with these lines.
+    ghost Takes: { LineMaker → Type 0 };
 
     /// Takes the entry where the line stands.
-    fn put<L: Line>(&mut self, mark: &[u8], line: &L, fields: Fields) -> Result<(), L::Fault>
-        requires takes { Takes fields }
+    fn put<L: Line>(&mut self, mark: &[u8], line: &L, lines: &LineMaker<'_>) -> Result<(), L::Fault>
+        requires takes { Takes lines.now }
         requires valid { L.Valid line.now }
         ensures put { OnOk result
-            (PutsHere (Gets mark.now self.old) (L.At line.now) fields self.new) }
+            (PutsHere (Gets mark.now self.old) (L.At line.now) lines.now self.new) }
         ensures fault { IfErr result (λ fault. IfSome (L.fault_of fault)
             (λ own. Where (L.At line.now) (HasFault own) × Grew self.old self.new)) }
         ensures kept { OnOk result (Grew self.old self.new) };
@@ -54,14 +54,24 @@ impl Sink for Vec<u8> {
 
     ghost Grew = { λ old new. (some : List ℕ) × (new.items ≡ old.items ++ some) };
 
-    ghost Takes = { λ fields. Unit {0} };
+    ghost Takes = { λ lines. Unit {0} };
 
     #[inline(always)]
-    fn put<L: Line>(&mut self, mark: &[u8], line: &L, fields: Fields) -> Result<(), L::Fault> {
-        push_ply(self, mark, line.ply())?;
-        line.push_fields(self, fields)?;
-        end_line(self)?;
-        Ok(())
+    fn put<L: Line>(
+        &mut self,
+        mark: &[u8],
+        line: &L,
+        lines: &LineMaker<'_>,
+    ) -> Result<(), L::Fault> {
+        match lines {
+            LineMaker::Fields(fields) => {
+                push_ply(self, mark, line.ply())?;
+                line.push_fields(self, *fields)?;
+                end_line(self)?;
+                Ok(())
+            }
+            LineMaker::Rows(rows) => rows.push_row(self, line),
+        }
     }
 
     ghost none = { λ mark sink. lines_none mark sink.items };
@@ -80,10 +90,10 @@ impl Sink for bool {
 
     ghost Grew = { λ old new. Unit {0} };
 
-    ghost Takes = { λ fields. is_plain fields ≡ true };
+    ghost Takes = { λ lines. is_bare (made_line lines) ≡ true };
 
     #[inline(always)]
-    fn put<L: Line>(&mut self, _: &[u8], _: &L, _: Fields) -> Result<(), L::Fault> {
+    fn put<L: Line>(&mut self, _: &[u8], _: &L, _: &LineMaker<'_>) -> Result<(), L::Fault> {
         *self = true;
         Ok(())
     }

@@ -6,7 +6,7 @@ ghost use Rattle.pgn_game.specs.Public.Starts.{fen_tag};
 ghost use Rattle.pgn_game.specs.Public.PackReading.{IsRawOfGame};
 ghost use Rattle.pgn_extract.specs.Public.Aims.{aim_of};
 ghost use Rattle.pgn_extract.specs.Private.KeptPacked.{IsStartOf, IsKeptOf};
-ghost use Rattle.pgn_extract.specs.Public.Listing.{is_plain};
+ghost use Rattle.pgn_extract.specs.Public.Listing.{is_bare};
 ghost use Rattle.pgn_extract.specs.Private.Packed.{EachOfRecord, HasNoText, ListsRecord};
 
 use crate::entries::kept::Kept;
@@ -75,7 +75,7 @@ pub fn push_kept_record<'a>(
     criteria: &'a Criteria,
     raw: &RawRecord<'a>,
 ) -> Result<(), PackedFault>
-    requires plain { is_plain settings.now.fields ≡ true }
+    requires plain { is_bare settings.now.line ≡ true }
     requires criteria { settings.now.criteria ≡ Some criteria.now }
     requires shows { IsRawOfGame raw.now }
     ensures ok { OnOk result

@@ -5,6 +5,7 @@ ghost use Rattle.pgn_criteria.specs.Public.Prefilters.{codes_in};
 ghost use Rattle.pgn_extract.specs.Private.WalkedLines.{IsMarkedWith};
 
 use crate::entries::line::Line;
+use crate::rows::column::PlyColumn;
 use crate::settings::Fields;
 use chess::Side;
 use pgn_criteria::MarkSet;
@@ -46,6 +47,11 @@ impl<'p> Line for Marked<'p> {
 
     #[inline(always)]
     fn push_fields(&self, _: &mut Vec<u8>, _: Fields) -> Result<(), AllocError> {
+        Ok(())
+    }
+
+    #[inline(always)]
+    fn push_value(&self, _: &mut Vec<u8>, _: PlyColumn) -> Result<(), AllocError> {
         Ok(())
     }
 

@@ -4,6 +4,7 @@ ghost use Rattle.pgn_criteria.specs.Public.Prefilters.{codes_in};
 ghost use Rattle.pgn_extract.specs.Private.WalkedLines.{IsWalkedWith};
 
 use crate::entries::line::Line;
+use crate::rows::column::PlyColumn;
 use crate::settings::Fields;
 use chess::Bits;
 use pgn_criteria::{Search, Walk};
@@ -44,6 +45,11 @@ impl<'a, 'p> Line for Walked<'a, 'p> {
 
     #[inline(always)]
     fn push_fields(&self, _: &mut Vec<u8>, _: Fields) -> Result<(), AllocError> {
+        Ok(())
+    }
+
+    #[inline(always)]
+    fn push_value(&self, _: &mut Vec<u8>, _: PlyColumn) -> Result<(), AllocError> {
         Ok(())
     }
 

@@ -2,6 +2,7 @@ use Rattle.pgn_extract.proofs.Common.{None, false, GameId, aim_of}
 use Rattle.pgn_extract.proofs.entries.KeptLines.{tells_some}
 use Rattle.pgn_extract.proofs.Picks.{asks_given}
 use Rattle.pgn_extract.proofs.OneMain.{within_entry}
+use Rattle.pgn_extract.specs.declared.settings.EntryLine.TheVariants.{Marked}
 use Rattle.pgn_extract.proofs.entries.has_entry.Goals as goal
 
 pub find_played-requires-clause-asks : goal.find_played-requires-clause-asks
@@ -24,8 +25,8 @@ any_id = record { number = 0; offset = 0 }
 pub returns : goal.returns
 returns c =
     tells_some (record (aim_of c.args.settings.now) {
-      fields = record { fen = false; next = false };
+      line = Marked (record { fen = false; next = false });
       name = None;
     }) any_id
     c.args.game.now c.find_played.new.sink
-    (c.in_ok-find_played.ensures.found None any_id)
+    (c.in_ok-find_played.ensures.found None any_id tt)

@@ -1,9 +1,19 @@
-use Rattle.std.proofs.Common.{◌≡◌, ◌++◌, [], ap, ◌∙◌, IfSome}
-use Rattle.pgn_extract.proofs.Common.{IfSome_then, on_ok_weaker, MatchResult-weaker, aim_of}
-use Rattle.pgn_extract.proofs.Common.{fault_of, named_mark, AddsEntries, StopsAtFault}
+use Rattle.std.proofs.Common.{◌≡◌, ◌++◌, [], ap, ◌∙◌, sym, subst, List, IfSome}
+use Rattle.pgn_extract.proofs.Common.{IfSome_then, on_ok_weaker, MatchResult-weaker, Aim, aim_of}
+use Rattle.pgn_extract.proofs.Common.{fault_of, named_mark, AddsEntries, StopsAtFault, HandsOn}
+use Rattle.pgn_extract.proofs.Common.{Entry, GameId, GameText, marked_lines}
+use Rattle.pgn_extract.specs.Private.Lines.{made_line}
+use Rattle.pgn_extract.specs.declared.settings.EntryLine.{EntryLine}
 use Rattle.pgn_extract.proofs.Finds.{adds_lines, none_yet, on_result, stops_of}
 use Rattle.pgn_extract.proofs.Picks.{asks_given, none_given}
 use Rattle.pgn_extract.proofs.entries.push_entries.Goals as goal
+
+-- what shows the lines that are made shows those that are asked for
+of_line : (aim : EntryLine → Aim) (asked made : EntryLine) → asked ≡ made → (id : GameId)
+    (game : GameText) (Got : List Entry → Type 0) → HandsOn (aim made) id game Got
+    → HandsOn (aim asked) id game Got
+of_line aim asked made is id game Got hands =
+    subst (λ (line : EntryLine). HandsOn (aim line) id game Got) (sym is) hands
 
 pub find_played-requires-clause-asks : goal.find_played-requires-clause-asks
 find_played-requires-clause-asks c =
@@ -30,7 +40,10 @@ returns-in_default c =
     (on_ok_weaker c.find_played.result
     (λ found.
     adds_lines (aim_of settings) id game c.push_named_mark.new.text.items old new marked
-    (found settings.name id))
+    (of_line (λ line. record (aim_of settings) { line = line }) settings.line
+    (made_line c.in_ok-of_game.field-0) c.in_ok-of_game.ensures.0 id game
+    (λ got. new ≡ old ++ marked_lines c.push_named_mark.new.text.items got)
+    (found settings.name id c.in_ok-of_game.ensures.1)))
     c.find_played.ensures.found)
     (MatchResult-weaker c.find_played.result c.find_played.ensures.fault (λ done none.
     tt) (λ fault met. IfSome_then _ met (stops_of game old new)))
@@ -42,11 +55,17 @@ returns-in_default-2 c =
     let named = named_mark settings.name id in
     let marked : c.push_named_mark.new.text.items ≡ named =
     c.in_ok-push_named_mark.ensures ∙ ap (λ t. t ++ named) c.in_ok-mark.ensures.items in
-    let at = c.in_ok-line.ensures.1 (aim_of settings) c.in-Some.is in
-    adds_lines (aim_of settings) id c.args.game.now c.push_named_mark.new.text.items
-    c.args.text.now.items c.find.new.sink.items marked
+    let made = made_line c.in_ok-of_game.field-0 in
+    let aim = record (aim_of settings) { line = made } in
+    let at = c.in_ok-line.ensures.1 aim c.in-Some.is in
+    let mark = c.push_named_mark.new.text.items in
+    adds_lines (aim_of settings) id c.args.game.now mark c.args.text.now.items
+    c.find.new.sink.items marked
+    (of_line (λ line. record (aim_of settings) { line = line }) settings.line made
+    c.in_ok-of_game.ensures.0 id c.args.game.now
+    (λ got. c.find.new.sink.items ≡ c.args.text.now.items ++ marked_lines mark got)
     (c.in_ok-find.ensures.found settings.name id c.args.game.now [] at.0 at.1
-    (none_yet (aim_of settings) c.args.game.now))
+    (none_yet aim c.args.game.now) c.in_ok-of_game.ensures.1))
 
 pub returns : goal.returns
 returns c =
@@ -63,7 +82,10 @@ returns c =
     (on_ok_weaker c.find_played-2.result
     (λ found.
     adds_lines (aim_of settings) id game c.push_named_mark.new.text.items old new marked
-    (found settings.name id))
+    (of_line (λ line. record (aim_of settings) { line = line }) settings.line
+    (made_line c.in_ok-of_game.field-0) c.in_ok-of_game.ensures.0 id game
+    (λ got. new ≡ old ++ marked_lines c.push_named_mark.new.text.items got)
+    (found settings.name id c.in_ok-of_game.ensures.1)))
     c.find_played-2.ensures.found)
     (MatchResult-weaker c.find_played-2.result c.find_played-2.ensures.fault (λ done none.
     tt) (λ fault met. IfSome_then _ met (stops_of game old new)))

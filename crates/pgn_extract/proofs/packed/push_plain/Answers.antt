@@ -1,10 +1,14 @@
 use Rattle.std.specs.Prelude.{replicate}
 use Rattle.std.proofs.lemmas.List.{length-replicate}
-use Rattle.pgn_extract.proofs.Common.{◌≡◌, ◌+◌, ◌/◌, ◌++◌, ℕ, List, [], None, length, sym, ap, ◌∙◌}
-use Rattle.pgn_extract.proofs.Common.{initial, Replay, heading_of, Heading, named_mark, listing}
+use Rattle.pgn_extract.proofs.Common.{◌≡◌, ◌+◌, ◌/◌, ◌++◌, ℕ, List, [], length, sym, ap, ◌∙◌}
+use Rattle.pgn_extract.proofs.Common.{initial, Replay, GameText, aim_of, named_mark, listing}
 use Rattle.pgn_extract.proofs.Common.{raw_id}
 use Rattle.pgn_extract.proofs.PackedFacts.{plies_counted}
+use Rattle.pgn_extract.proofs.ShownTexts.{listed_bare}
 use Rattle.pgn_extract.proofs.packed.push_plain.Goals as goal
+
+no_game : GameText
+no_game = record { at = 0; text = []; tags = []; elements = []; result = [] }
 
 pub returns-clause-ok : goal.returns-clause-ok
 returns-clause-ok c =
@@ -16,9 +20,15 @@ returns-clause-ok c =
     let count = length c.plies.result.now / 3 in
     let any : Replay = record { positions = replicate (count + 1) initial; played = []; turns = [] }
     in
-    let tags : Heading = record { named = λ name. None; result = [] } in
-    let some = adds tags any (length-replicate (count + 1) initial) in (
+    let some = adds no_game any (length-replicate (count + 1) initial) in (
       (listing raw.name some.0, some.2),
-      λ game replay packed own. adds (heading_of game) replay
-          (plies_counted own ∙ ap (λ (bytes : List ℕ). length bytes / 3 + 1) (sym c.plies.ensures)),
+      λ game replay packed own.
+          let (entries, listed, text) = adds game replay
+          (plies_counted own ∙ ap (λ (bytes : List ℕ). length bytes / 3 + 1) (sym c.plies.ensures))
+          in (
+            entries,
+            listed_bare (aim_of c.args.settings.now) raw.name (raw_id raw) game replay entries
+                c.requires.plain listed,
+            text,
+          ),
     )

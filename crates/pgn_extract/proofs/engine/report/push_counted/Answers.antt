@@ -1,5 +1,4 @@
 use Rattle.pgn_extract.proofs.Common.{◌+◌, ap, refl, ◌∙◌, main_words, fault_of, Main, line_length}
-use Rattle.pgn_extract.proofs.Common.{heading_of}
 use Rattle.pgn_extract.proofs.engine.AllTaken.{stops_left}
 use Rattle.pgn_extract.proofs.engine.report.push_counted.Goals as goal
 
@@ -9,7 +8,7 @@ returns-in_ok-push_plies-in-Ok c =
     let size =
     line_length is.start (main_words c.args.game.now.elements 0) replay.positions replay.played
     is.line ∙ ap (λ n. n + 1) count in
-    let lines = c.in_ok-push_plies-in-Ok.ensures (heading_of c.args.game.now) replay size in
+    let lines = c.in_ok-push_plies-in-Ok.ensures c.args.game.now replay size in
     (replay, is, lines.0, lines.1, lines.2)
 
 pub returns-in-Err : goal.returns-in-Err

@@ -13,11 +13,11 @@ returns-clause-found g c =
     let line = c.in_ok-line.line in
     let asked = g.Q.Question.asked c.args.question in
     on_ok_weaker c.find.result
-    (λ found name id.
+    (λ found name id of.
     let aim = aim_with c.args.finder.now name in
     found name id c.args.game.now [] line.position
     (begins_with c.args.game.now line asked aim c.in_ok-line.ensures c.requires.asks)
-    (none_yet aim c.args.game.now))
+    (none_yet aim c.args.game.now) of)
     c.find.ensures.found
 
 pub returns-clause-fault : goal.returns-clause-fault

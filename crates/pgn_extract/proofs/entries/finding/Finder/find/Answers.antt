@@ -1,12 +1,13 @@
-use Rattle.pgn_extract.proofs.Common.{◌++◌, ◌∷◌, ℕ, List, Option, [], subst, IfSome_then}
-use Rattle.pgn_extract.proofs.Common.{err_from_is_err_and, State, GameText, Fault, GameId, aim_with}
+use Rattle.pgn_extract.proofs.Common.{◌++◌, ◌∷◌, [], subst, IfSome_then}
+use Rattle.pgn_extract.proofs.Common.{err_from_is_err_and, Fault, aim_with}
 use Rattle.pgn_extract.proofs.Common.{GoesTo, Where, HasFault, Fails}
-use Rattle.pgn_extract.proofs.Finds.{finds_none, none_yet, goes_on, ends_at}
+use Rattle.pgn_extract.proofs.Finds.{finds_none, goes_on, ends_at}
 use Rattle.pgn_extract.proofs.entries.finding.Finder.find.Goals as goal
 
 pub loop-still-init : goal.loop-still-init
 loop-still-init g c = record {
-  found = λ name id game before P at none.
+  reached = λ name game before P at. (before, P, at);
+  found = λ name id game before P at none of.
       let aim = aim_with c.args.self.now name in
       let mark = c.args.self.now.mark.items in
       record {
@@ -25,9 +26,17 @@ loop-still-init g c = record {
 
 pub loop-still-preserved : goal.loop-still-preserved
 loop-still-preserved g c = record {
-  found = λ name id game before P at none.
+  reached = λ name game before P at.
       let aim = aim_with c.args.self.now name in
-      let so_far = c.loop-still.invariant.found name id game before P at none in
+      let (passed, here, there) = c.loop-still.invariant.reached name game before P at in
+      let to = subst (λ more.
+      GoesTo (g.L.Line.At c.advance.new.self) c.in_ok-still.still more aim game passed here)
+      c.if-not-branch.false
+      (c.in_ok-advance.ensures.moved aim game passed here there) in
+      (passed ++ here ∷ to.0, to.1, to.2);
+  found = λ name id game before P at none of.
+      let aim = aim_with c.args.self.now name in
+      let so_far = c.loop-still.invariant.found name id game before P at none of in
       let to = subst (λ more.
       GoesTo (g.L.Line.At c.advance.new.self) c.in_ok-still.still more aim game so_far.before
       so_far.here)
@@ -39,7 +48,7 @@ loop-still-preserved g c = record {
         at = to.2;
         finds = goes_on (g.L.Line.At c.advance.new.self) c.in_ok-still.still so_far.before
             so_far.here to
-            (c.in_ok-still.ensures.asked name id game so_far.before so_far.here so_far.at
+            (c.in_ok-still.ensures.asked name id game so_far.before so_far.here so_far.at of
             c.args.sink.now so_far.finds);
       };
   grew = g.met.S.Sink.grows c.args.sink.now c.loop-still.sink _ c.loop-still.invariant.grew
@@ -48,9 +57,9 @@ loop-still-preserved g c = record {
 }
 
 pub returns-then-not-branch-clause-found : goal.returns-then-not-branch-clause-found
-returns-then-not-branch-clause-found g c name id game before P at none =
+returns-then-not-branch-clause-found g c name id game before P at none of =
     let aim = aim_with c.args.self.now name in
-    let so_far = c.loop-still.invariant.found name id game before P at none in
+    let so_far = c.loop-still.invariant.found name id game before P at none of in
     ends_at (g.L.Line.At c.advance.new.self) so_far.before so_far.here
     (g.met.L.Line.stands c.loop-still.line aim game so_far.before so_far.here so_far.at)
     (subst (λ more.
@@ -58,11 +67,8 @@ returns-then-not-branch-clause-found g c name id game before P at none =
     so_far.here)
     c.if-not-branch.true
     (c.in_ok-advance.ensures.moved aim game so_far.before so_far.here so_far.at))
-    (c.in_ok-still.ensures.asked name id game so_far.before so_far.here so_far.at c.args.sink.now
-    so_far.finds)
-
-any_id : GameId
-any_id = record { number = 0; offset = 0 }
+    (c.in_ok-still.ensures.asked name id game so_far.before so_far.here so_far.at of
+    c.args.sink.now so_far.finds)
 
 pub returns-in_err-advance-clause-fault : goal.returns-in_err-advance-clause-fault
 returns-in_err-advance-clause-fault g c =
@@ -73,9 +79,8 @@ returns-in_err-advance-clause-fault g c =
     → Fails (g.L.Line.At c.args.line.now) finder own
     × g.S.Sink.Grew c.args.sink.now c.ask.new.sink = λ own fails. (
       λ name game P at.
-          let aim = aim_with finder name in
-          let so_far = c.loop-still.invariant.found name any_id game [] P at (none_yet aim game) in
-          fails aim game so_far.before so_far.here so_far.at,
+          let (passed, here, there) = c.loop-still.invariant.reached name game [] P at in
+          fails (aim_with finder name) game passed here there,
       g.met.S.Sink.grows c.args.sink.now c.loop-still.sink c.ask.new.sink
           c.loop-still.invariant.grew c.in_ok-still.ensures.kept,
     ) in
@@ -90,9 +95,8 @@ returns-in_err-still-clause-fault g c =
     → Fails (g.L.Line.At c.args.line.now) finder own
     × g.S.Sink.Grew c.args.sink.now c.ask.new.sink = λ own of. (
       λ name game P at.
-          let aim = aim_with finder name in
-          let so_far = c.loop-still.invariant.found name any_id game [] P at (none_yet aim game) in
-          of.0 aim game so_far.before so_far.here so_far.at,
+          let (passed, here, there) = c.loop-still.invariant.reached name game [] P at in
+          of.0 (aim_with finder name) game passed here there,
       g.met.S.Sink.grows c.args.sink.now c.loop-still.sink c.ask.new.sink
           c.loop-still.invariant.grew of.1,
     ) in

@@ -1,23 +1,44 @@
 use Rattle.std.proofs.Common.{◌++◌, ◌∷◌, [], length, decimal, sym, ap, ◌∙◌, append-nil}
+use Rattle.pgn_extract.proofs.Common.{on_ok_weaker}
 use Rattle.pgn_extract.specs.Private.Lines.{marked_line}
+use Rattle.pgn_extract.specs.Public.Listing.{AfterPly, AsRow}
 use Rattle.pgn_extract.proofs.Finds.{one_line}
+use Rattle.pgn_extract.proofs.entries.LineMaking.{shows_marked, shows_row, made_text}
 use Rattle.pgn_extract.proofs.entries.sink.VecU8Sink.put.Goals as goal
 
-pub returns-clause-put : goal.returns-clause-put
-returns-clause-put g c =
-    let fields = c.in_ok-push_fields.ensures.shown in
+pub returns-in_ok-end_line-in-Fields-clause-put : goal.returns-in_ok-end_line-in-Fields-clause-put
+returns-in_ok-end_line-in-Fields-clause-put g c =
+    let (text, shows, pushed) = c.in_ok-push_fields-in-Fields.ensures.shown in
     let start = c.args.self.now.items in
     let mark = c.args.mark.now in (
-      fields.0,
-      fields.1,
-      λ aim game before P at id.
-          c.in_ok-end_line.ensures
-          ∙ ap (λ t. t ++ 10 ∷ []) (fields.2 ∙ ap (λ t. t ++ fields.0) c.in_ok-push_ply.ensures)
-          ∙ one_line start mark (decimal c.ply.result) fields.0
-          ∙ ap (λ n. start ++ marked_line mark (record { id = id; ply = n; shown = fields.0 }))
-          (c.ply.ensures aim game before P at)
-          ∙ ap (λ t. start
-          ++ t) (sym
-          (append-nil
-          (marked_line mark (record { id = id; ply = length before; shown = fields.0 })))),
+      AfterPly text,
+      λ aim game before P at id makes. (
+        shows_marked c.args.lines.now c.in-Fields.fields text aim id game before P c.in-Fields.is
+            makes (shows aim game before P at),
+        c.in_ok-end_line-in-Fields.ensures
+            ∙ ap (λ t. t ++ 10 ∷ []) (pushed
+            ∙ ap (λ t. t ++ text) c.in_ok-push_ply-in-Fields.ensures)
+            ∙ one_line start mark (decimal c.ply.result) text
+            ∙ ap (λ n. start
+            ++ marked_line mark (record { id = id; ply = n; shown = AfterPly text }))
+            (c.ply.ensures aim game before P at)
+            ∙ ap (λ t. start ++ t)
+            (sym (append-nil
+            (marked_line mark (record { id = id; ply = length before; shown = AfterPly text })))),
+      ),
     )
+
+pub returns-in-Rows-clause-put : goal.returns-in-Rows-clause-put
+returns-in-Rows-clause-put g c =
+    let rows = c.in-Rows.rows in
+    let start = c.args.self.now.items in
+    on_ok_weaker c.push_row.result
+    (λ (values, shown, plain, pushed). (
+      AsRow (made_text rows values),
+      λ aim game before P at id makes. (
+        shows_row c.args.lines.now rows values aim id game before P c.in-Rows.is makes plain
+            (shown aim game before P at),
+        pushed ∙ ap (λ t. start ++ t) (sym (append-nil (made_text rows values))),
+      ),
+    ))
+    c.push_row.ensures.shown

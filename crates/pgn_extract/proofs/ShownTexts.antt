@@ -1,0 +1,167 @@
+-- What is shown of a ply is one thing, and there is one for each ply of a main line.
+use Rattle.std.specs.Prelude.{Option, Some, None, flat_map}
+use Rattle.pgn_extract.proofs.Common.{◌≡◌, ◌<◌, ℕ, true, List, [], ◌∷◌, length, refl, sym, ap}
+use Rattle.pgn_extract.proofs.Common.{◌∙◌, subst, MatchOption, slice_get, same_Some, State, Move}
+use Rattle.pgn_extract.proofs.Common.{GameText, IsGameText, tag_in, heading_of, IsSan, Replay}
+use Rattle.pgn_extract.proofs.Common.{IsReplay, Lines, Aim, GameId, IsEntry}
+use Rattle.pgn_extract.proofs.Common.{AreListed, Entry, plies_of, fen_tag}
+use Rattle.chess.proofs.FenOneText.{one_fen, some_fen}
+use Rattle.chess.proofs.SanOnce.{one_san}
+use Rattle.pgn_game.proofs.OneReplay.{same_value}
+use Rattle.pgn_text.specs.Public.Strings.{IsContents, value_of_sign}
+use Rattle.pgn_extract.specs.Public.Listing.{Shown, AfterPly, AsRow, IsShownBy, IsShownOf, is_bare}
+use Rattle.pgn_extract.specs.Public.Rows.{RowPlace, place_of, IsTagCell, IsPositionCell}
+use Rattle.pgn_extract.specs.Public.Rows.{IsAt, IsPlyCell, IsCell, AreCells, row_text}
+use Rattle.pgn_extract.specs.declared.rows.column.Column.{Column}
+use Rattle.pgn_extract.specs.declared.rows.column.Column.TheVariants.{Tag, OfGame, OfPly}
+use Rattle.pgn_extract.specs.declared.rows.column.PlyColumn.{PlyColumn}
+use Rattle.pgn_extract.specs.declared.rows.column.PlyColumn.TheVariants.{Ply, OfPosition, Next}
+use Rattle.pgn_extract.specs.declared.rows.column.PositionColumn.{PositionColumn}
+use Rattle.pgn_extract.specs.declared.rows.column.PositionColumn.TheVariants.{Fen, Turn, Number}
+use Rattle.pgn_extract.specs.declared.settings.EntryLine.{EntryLine}
+use Rattle.pgn_extract.specs.declared.settings.EntryLine.TheVariants.{Marked, InColumns}
+use Rattle.pgn_extract.proofs.Chosen.{shown_so}
+use Rattle.pgn_extract.proofs.FieldTexts.{one_text, some_fields, no_fields, some_position}
+use Rattle.pgn_extract.proofs.FieldTexts.{some_move_text}
+
+-- One cell.
+
+one_tag_cell : (contents : Option (List ℕ)) (x y : List ℕ) → IsTagCell contents x
+    → IsTagCell contents y → x ≡ y
+one_tag_cell None x y first other = first ∙ sym other
+one_tag_cell (Some contents) x y first other = same_value contents x y first other
+
+one_of_position : (own : PositionColumn) (P : State) (x y : List ℕ) → IsPositionCell own P x
+    → IsPositionCell own P y → x ≡ y
+one_of_position Fen P x y first other = one_fen P x y first other
+one_of_position Turn P x y first other = first ∙ sym other
+one_of_position Number P x y first other = first ∙ sym other
+
+one_move_cell : (move : Option Move) (replay : Replay) (ply : ℕ) (x y : List ℕ)
+    → MatchOption move (x ≡ []) (λ m. IsAt replay ply (λ P. IsSan P m x))
+    → MatchOption move (y ≡ []) (λ m. IsAt replay ply (λ P. IsSan P m y)) → x ≡ y
+one_move_cell None replay ply x y first other = first ∙ sym other
+one_move_cell (Some m) replay ply x y (P, here, is) (Q, there, of) =
+    one_san P m x y is (subst (λ R. IsSan R m y) (same_Some Q P (sym there ∙ here)) of)
+
+one_ply_cell : (own : PlyColumn) (replay : Replay) (ply : ℕ) (x y : List ℕ)
+    → IsPlyCell own replay ply x → IsPlyCell own replay ply y → x ≡ y
+one_ply_cell Ply replay ply x y first other = first ∙ sym other
+one_ply_cell (OfPosition own) replay ply x y (P, here, is) (Q, there, of) =
+    one_of_position own P x y is
+    (subst (λ R. IsPositionCell own R y) (same_Some Q P (sym there ∙ here)) of)
+one_ply_cell Next replay ply x y first other =
+    one_move_cell (slice_get replay.played ply) replay ply x y first other
+
+one_cell : (column : Column) (place : RowPlace) (x y : List ℕ) → IsCell column place x
+    → IsCell column place y → x ≡ y
+one_cell (Tag name) place x y first other =
+    one_tag_cell (place.heading.named name.items) x y first other
+one_cell (OfGame own) place x y first other = first ∙ sym other
+one_cell (OfPly own) place x y first other =
+    one_ply_cell own place.replay place.ply x y first other
+
+one_cells : (columns : List Column) (place : RowPlace) (xs ys : List (List ℕ))
+    → AreCells columns place xs → AreCells columns place ys → xs ≡ ys
+one_cells [] place xs ys first other = first ∙ sym other
+one_cells (column ∷ columns) place xs ys (x, more, parts, is, others)
+    (y, rest, split, also, later) =
+    parts ∙ ap (λ (t : List ℕ). t ∷ more) (one_cell column place x y is also)
+    ∙ ap (λ (t : List (List ℕ)). y ∷ t) (one_cells columns place more rest others later) ∙ sym split
+
+-- what is shown of a ply is one thing
+pub one_shown : (line : EntryLine) (place : RowPlace) (x y : Shown) → IsShownBy line place x
+    → IsShownBy line place y → x ≡ y
+one_shown (Marked fields) place x y (text, is, shown) (other, also, seen) =
+    shown ∙ ap AfterPly (one_text fields place.replay place.ply text other is also) ∙ sym seen
+one_shown (InColumns row) place x y (text, (cells, are, is), shown) (other, (others, too, of), seen)
+    =
+    shown ∙ ap AsRow
+    (is ∙ ap (row_text row.format row.columns.items)
+    (one_cells row.columns.items place cells others are too) ∙ sym of) ∙ sym seen
+
+-- Some cell.
+
+some_tag_cell : (contents : Option (List ℕ))
+    → ((own : List ℕ) → contents ≡ Some own → IsContents own)
+    → (cell : List ℕ) × IsTagCell contents cell
+some_tag_cell None good = ([], refl)
+some_tag_cell (Some own) good =
+    let (signs, spells, each) = good own refl in
+    (flat_map value_of_sign signs, (signs, record { spells = spells; each = each; gives = refl }))
+
+some_of_position : (own : PositionColumn) (P : State) → (cell : List ℕ) × IsPositionCell own P cell
+some_of_position Fen P = some_fen P
+some_of_position Turn P = (_, refl)
+some_of_position Number P = (_, refl)
+
+module _ (game : GameText) (good : IsGameText game) (lines : Lines) (replay : Replay)
+    (is : IsReplay lines (tag_in fen_tag game.tags) game.elements replay) (ply : ℕ)
+    (within : ply < length replay.positions) where
+  some_ply_cell : (own : PlyColumn) → (cell : List ℕ) × IsPlyCell own replay ply cell
+  some_ply_cell Ply = (_, refl)
+  some_ply_cell (OfPosition own) =
+      let at = some_position replay.positions ply within in
+      let cell = some_of_position own at.0 in
+      (cell.0, (at.0, at.1, cell.1))
+  some_ply_cell Next = some_move_text lines (tag_in fen_tag game.tags) game.elements replay is ply
+
+  some_cell : (name : Option (List ℕ)) (id : GameId) (column : Column)
+      → (cell : List ℕ) × IsCell column (place_of name id game replay ply) cell
+  some_cell name id (Tag own) =
+      some_tag_cell (tag_in own.items game.tags) (λ contents. good.strings own.items contents)
+  some_cell name id (OfGame own) = (_, refl)
+  some_cell name id (OfPly own) = some_ply_cell own
+
+  some_cells : (name : Option (List ℕ)) (id : GameId) (columns : List Column)
+      → (cells : List (List ℕ)) × AreCells columns (place_of name id game replay ply) cells
+  some_cells name id [] = ([], refl)
+  some_cells name id (column ∷ columns) =
+      let own = some_cell name id column in
+      let more = some_cells name id columns in
+      (own.0 ∷ more.0, (own.0, more.0, refl, own.1, more.1))
+
+  some_of_line : (line : EntryLine) (name : Option (List ℕ)) (id : GameId)
+      → (shown : Shown) × IsShownBy line (place_of name id game replay ply) shown
+  some_of_line (Marked fields) name id =
+      let text = some_fields fields lines (tag_in fen_tag game.tags) game.elements replay is ply
+      within in
+      (AfterPly text.0, (text.0, text.1, refl))
+  some_of_line (InColumns row) name id =
+      let cells = some_cells name id row.columns.items in
+      (AsRow (row_text row.format row.columns.items cells.0), (_, (cells.0, cells.1, refl), refl))
+
+-- and there is one for each ply of a main line
+pub some_shown : (line : EntryLine) (name : Option (List ℕ)) (id : GameId) (game : GameText)
+    → IsGameText game → (lines : Lines) (replay : Replay)
+    → IsReplay lines (tag_in fen_tag game.tags) game.elements replay → (ply : ℕ)
+    → ply < length replay.positions
+    → (shown : Shown) × IsShownBy line (place_of name id game replay ply) shown
+some_shown line name id game good lines replay is ply within =
+    some_of_line game good lines replay is ply within line name id
+
+-- Nothing but the mark and the ply.
+
+pub nothing_shown : (line : EntryLine) → is_bare line ≡ true → (place : RowPlace)
+    → IsShownBy line place (AfterPly [])
+nothing_shown (Marked fields) bare place =
+    ([], no_fields fields bare place.replay place.ply, refl)
+nothing_shown (InColumns row) bare place = absurd (cc)
+
+-- so the name does not matter
+bare_shown : (line : EntryLine) → is_bare line ≡ true → (name other : Option (List ℕ)) (id : GameId)
+    (game : GameText) (replay : Replay) (ply : ℕ) (shown : Shown)
+    → IsShownBy line (place_of name id game replay ply) shown
+    → IsShownBy line (place_of other id game replay ply) shown
+bare_shown (Marked fields) bare name other id game replay ply shown is = is
+bare_shown (InColumns row) bare name other id game replay ply shown is = absurd (cc)
+
+pub listed_bare : (aim : Aim) (name : Option (List ℕ)) (id : GameId) (game : GameText)
+    (replay : Replay) (entries : List Entry) → is_bare aim.line ≡ true
+    → AreListed (record aim { name = name }) id game replay entries
+    → AreListed aim id game replay entries
+listed_bare aim name id game replay entries bare listed =
+    shown_so id (IsEntry aim (heading_of game) replay)
+    (IsShownOf (record aim { name = name }) id game replay) (IsShownOf aim id game replay)
+    (λ ply shown. bare_shown aim.line bare name aim.name id game replay ply shown)
+    (plies_of 0 replay.positions) entries listed

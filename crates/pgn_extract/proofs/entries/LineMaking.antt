@@ -1,0 +1,69 @@
+-- What is shown of an entry is what a maker of lines makes of it.
+use Rattle.std.proofs.Common.{◌≡◌, ◌++◌, ◌∷◌, ℕ, List, [], Option, refl, sym, ap}
+use Rattle.std.proofs.Common.{◌∙◌, subst, length}
+use Rattle.chess.specs.Public.Positions.{State}
+use Rattle.pgn_text.specs.Public.GameTexts.{GameText}
+use Rattle.pgn_game.specs.Public.Replays.{Replay}
+use Rattle.pgn_extract.specs.Public.Aims.{Aim, GameId}
+use Rattle.pgn_extract.specs.Public.Listing.{AfterPly, AsRow, IsShownBy}
+use Rattle.pgn_extract.specs.Public.Listing.{is_bare}
+use Rattle.pgn_extract.specs.Public.Rows.{IsRow, place_of}
+use Rattle.pgn_extract.specs.Private.Lines.{ShowsFields, ShowsValues, ShowsLine, Makes}
+use Rattle.pgn_extract.specs.Private.Lines.{MakesLines, made_line}
+use Rattle.pgn_extract.specs.Private.RowTexts.{MakesRows, ArePlyCells, ArePlainValues, columns_of}
+use Rattle.pgn_extract.specs.Private.RowTexts.{filled, or_quotes}
+use Rattle.pgn_extract.specs.declared.entries.line_maker.LineMaker.{LineMaker}
+use Rattle.pgn_extract.specs.declared.entries.line_maker.LineMaker.TheVariants as maker
+use Rattle.pgn_extract.specs.declared.entries.row_maker.RowMaker.{RowMaker}
+use Rattle.pgn_extract.specs.declared.settings.EntryLine.{EntryLine}
+use Rattle.pgn_extract.specs.declared.settings.EntryLine.TheVariants.{Marked, InColumns}
+use Rattle.pgn_extract.specs.declared.settings.Fields.{Fields}
+use Rattle.pgn_extract.proofs.entries.RowTextFacts.{row_is}
+
+-- something after the mark and the ply
+pub shows_marked : (lines : LineMaker) (fields : Fields) (text : List ℕ) (aim : Aim) (id : GameId)
+    (game : GameText) (before : List State) (P : State) → lines ≡ maker.Fields fields
+    → Makes lines aim id game → ShowsFields fields text aim game before P
+    → ShowsLine (AfterPly text) id aim game before P
+shows_marked lines fields text aim id game before P is makes shows replay own rest parts =
+    let line : aim.line ≡ Marked fields = makes.line ∙ ap made_line is in
+    subst (λ (l : EntryLine).
+    IsShownBy l (place_of aim.name id game replay (length before)) (AfterPly text))
+    (sym line) (text, shows line replay own rest parts, refl)
+
+-- the text that a maker of rows makes
+abbrev pub made_text : RowMaker → List (List ℕ) → List ℕ
+made_text rows values =
+    or_quotes rows.row.now.format (filled rows.parts.items values rows.last.items) ++ 10 ∷ []
+
+row_made : (rows : RowMaker) (name : Option (List ℕ)) (id : GameId) (game : GameText)
+    → MakesRows rows name id game → (replay : Replay) (ply : ℕ) (values : List (List ℕ))
+    → ArePlyCells (columns_of rows.parts.items) replay ply values → ArePlainValues values
+    → IsRow rows.row.now (place_of name id game replay ply) (made_text rows values)
+row_made rows name id game makes replay ply values are plain =
+    let (cells, have, text) = makes replay ply values are plain in
+    let row = rows.row.now in (
+      cells,
+      have,
+      ap (λ t. or_quotes row.format t ++ 10 ∷ []) text
+          ∙ sym (row_is row.format row.columns.items (place_of name id game replay ply) cells have),
+    )
+
+-- a row
+pub shows_row : (lines : LineMaker) (rows : RowMaker) (values : List (List ℕ)) (aim : Aim)
+    (id : GameId) (game : GameText) (before : List State) (P : State)
+    → lines ≡ maker.Rows rows → Makes lines aim id game → ArePlainValues values
+    → ShowsValues (columns_of rows.parts.items) values aim game before P
+    → ShowsLine (AsRow (made_text rows values)) id aim game before P
+shows_row lines rows values aim id game before P is makes plain shows replay own rest parts =
+    let line : aim.line ≡ InColumns rows.row.now = makes.line ∙ ap made_line is in
+    let made : MakesRows rows aim.name id game =
+    subst (λ (l : LineMaker). MakesLines l aim.name id game) is makes.of_game in
+    let are = shows (ap is_bare line) replay own rest parts in
+    subst (λ (l : EntryLine).
+    IsShownBy l (place_of aim.name id game replay (length before))
+    (AsRow (made_text rows values))) (sym line) (
+      made_text rows values,
+      row_made rows aim.name id game made replay (length before) values are plain,
+      refl,
+    )

@@ -1,0 +1,99 @@
+-- Worked examples of rows: cells, strings and members as they are written, names and numbers.
+use Rattle.std.proofs.Common.{◌≡◌, ◌++◌, ℕ, List, [], ◌∷◌, true, false, refl}
+use Rattle.std.specs.Prelude.{codes, decimal, Option, Some, None}
+use Rattle.std.specs.List.{slice_get}
+use Rattle.pgn_game.specs.Public.Replays.{Replay}
+use Rattle.pgn_criteria.specs.Public.Meeting.{Heading}
+use Rattle.pgn_extract.specs.Public.Columns.{column_name, is_number_column}
+use Rattle.pgn_extract.specs.Public.Csv as csv
+use Rattle.pgn_extract.specs.Public.GivenMarks.{game_id}
+use Rattle.pgn_extract.specs.Public.Json as json
+use Rattle.pgn_extract.specs.Public.Rows.{IsMoveCell, IsPlyCell, IsTagCell, game_cell}
+use Rattle.pgn_extract.specs.Public.Rows.{row_text}
+use Rattle.pgn_extract.specs.Public.Tsv as tsv
+use Rattle.pgn_extract.specs.declared.rows.column.Column.TheVariants.{OfGame, OfPly}
+use Rattle.pgn_extract.specs.declared.rows.column.Format.TheVariants.{Csv, Tsv, Jsonl}
+use Rattle.pgn_extract.specs.declared.rows.column.GameColumn.TheVariants.{File, Game, Offset, Id}
+use Rattle.pgn_extract.specs.declared.rows.column.GameColumn.TheVariants.{Result}
+use Rattle.pgn_extract.specs.declared.rows.column.PlyColumn.TheVariants.{Ply, OfPosition, Next}
+use Rattle.pgn_extract.specs.declared.rows.column.PositionColumn.TheVariants.{Fen, Turn, Number}
+
+plain_cell : csv.cell_text (codes "Tal") ≡ codes "Tal"
+plain_cell = refl
+
+cell_with_comma : csv.cell_text (codes "Tal, M") ≡ 34 ∷ codes "Tal, M" ++ 34 ∷ []
+cell_with_comma = refl
+
+-- a"b
+cell_with_quote : csv.cell_text (97 ∷ 34 ∷ 98 ∷ []) ≡ 34 ∷ 97 ∷ 34 ∷ 34 ∷ 98 ∷ 34 ∷ []
+cell_with_quote = refl
+
+cell_with_line_end : csv.cell_text (97 ∷ 13 ∷ []) ≡ 34 ∷ 97 ∷ 13 ∷ 34 ∷ []
+cell_with_line_end = refl
+
+one_empty_cell : csv.row_text ([] ∷ []) ≡ 34 ∷ 34 ∷ 10 ∷ []
+one_empty_cell = refl
+
+two_empty_cells : csv.row_text ([] ∷ [] ∷ []) ≡ 44 ∷ 10 ∷ []
+two_empty_cells = refl
+
+tabbed_row : tsv.row_text ((97 ∷ 9 ∷ []) ∷ (92 ∷ 10 ∷ 13 ∷ []) ∷ [])
+    ≡ 97 ∷ 92 ∷ 116 ∷ 9 ∷ 92 ∷ 92 ∷ 92 ∷ 110 ∷ 92 ∷ 114 ∷ 10 ∷ []
+tabbed_row = refl
+
+-- a quote, a backslash, and the byte 0x1f
+string : json.string_text (34 ∷ 92 ∷ 31 ∷ [])
+    ≡ 34 ∷ 92 ∷ 34 ∷ 92 ∷ 92 ∷ 92 ∷ 117 ∷ 48 ∷ 48 ∷ 49 ∷ 102 ∷ 34 ∷ []
+string = refl
+
+-- 0xe9 as Latin-1 is e with an acute accent
+accent : json.latin 233 ≡ 195 ∷ 169 ∷ []
+accent = refl
+
+-- the columns that are no tags
+names : column_name (OfGame File) ∷ column_name (OfGame Game) ∷ column_name (OfGame Offset)
+    ∷ column_name (OfGame Id) ∷ column_name (OfGame Result) ∷ column_name (OfPly Ply)
+    ∷ column_name (OfPly (OfPosition Fen)) ∷ column_name (OfPly (OfPosition Turn))
+    ∷ column_name (OfPly (OfPosition Number)) ∷ column_name (OfPly Next) ∷ []
+    ≡ codes "@file" ∷ codes "@game" ∷ codes "@offset" ∷ codes "@id" ∷ codes "@result"
+    ∷ codes "@ply" ∷ codes "@fen" ∷ codes "@turn" ∷ codes "@number" ∷ codes "@next" ∷ []
+names = refl
+
+numbers : is_number_column (OfGame File) ∷ is_number_column (OfGame Game)
+    ∷ is_number_column (OfGame Offset) ∷ is_number_column (OfGame Id)
+    ∷ is_number_column (OfGame Result) ∷ is_number_column (OfPly Ply)
+    ∷ is_number_column (OfPly (OfPosition Fen)) ∷ is_number_column (OfPly (OfPosition Turn))
+    ∷ is_number_column (OfPly (OfPosition Number)) ∷ is_number_column (OfPly Next) ∷ []
+    ≡ false ∷ true ∷ true ∷ false ∷ false ∷ true ∷ false ∷ false ∷ true ∷ false ∷ []
+numbers = refl
+
+-- what columns show of the second game, which begins at the byte 22
+game_cells : (tags : List ℕ → Option (List ℕ))
+    → let heading : Heading = record { named = tags; result = codes "1-0" } in
+    game_cell File (Some (codes "a")) (game_id 2 22) heading
+    ∷ game_cell File None (game_id 2 22) heading ∷ game_cell Game None (game_id 2 22) heading
+    ∷ game_cell Offset None (game_id 2 22) heading ∷ game_cell Id None (game_id 2 22) heading
+    ∷ game_cell Result None (game_id 2 22) heading ∷ []
+    ≡ codes "a" ∷ [] ∷ decimal 2 ∷ decimal 22 ∷ (decimal 2 ++ 64 ∷ decimal 22) ∷ codes "1-0" ∷ []
+game_cells tags = refl
+
+no_value_of_no_tag : IsTagCell None (codes "x") → ⊥
+no_value_of_no_tag is = cc
+
+no_move_at_the_end : (replay : Replay) (ply : ℕ) → slice_get replay.played ply ≡ None
+    → IsMoveCell replay ply (codes "-") → ⊥
+no_move_at_the_end replay ply ends is = let none : codes "-" ≡ [] = rw ends at is in cc
+
+the_ply : (replay : Replay) → IsPlyCell Ply replay 3 (decimal 3)
+the_ply replay = refl
+
+-- an object has the names of its columns, and numbers without quotes
+an_object : row_text Jsonl (OfPly Ply ∷ OfGame Result ∷ []) (codes "7" ∷ codes "*" ∷ [])
+    ≡ json.object_text (record { name = codes "@ply"; is_number = true; value = codes "7" }
+    ∷ record { name = codes "@result"; is_number = false; value = codes "*" } ∷ [])
+an_object = refl
+
+two_formats : row_text Csv (OfPly Ply ∷ OfPly Next ∷ []) (codes "7" ∷ codes "e4" ∷ [])
+    ∷ row_text Tsv (OfPly Ply ∷ OfPly Next ∷ []) (codes "7" ∷ codes "e4" ∷ []) ∷ []
+    ≡ codes "7,e4\n" ∷ codes "7\te4\n" ∷ []
+two_formats = refl

@@ -1,0 +1,4 @@
+pub mod ColumnFacts
+pub mod CsvCells
+pub mod JsonCells
+pub mod TsvCells

@@ -1,0 +1,178 @@
+-- The text of a row, part by part: what is made once a game, and what its plies show.
+use Rattle.std.specs.Prelude.{◌≡◌, ◌≢◌, ◌≤◌, ◌<◌, ℕ, Bool, false, not, List, [], ◌∷◌, ◌++◌, map}
+use Rattle.std.specs.Prelude.{Option, if◌then◌else◌}
+use Rattle.pgn_text.specs.Public.GameTexts.{GameText}
+use Rattle.pgn_game.specs.Public.Replays.{Replay}
+use Rattle.pgn_extract.specs.Public.Columns.{column_name, is_number_column, is_number_of_ply}
+use Rattle.pgn_extract.specs.Public.Csv as csv
+use Rattle.pgn_extract.specs.Public.Json as json
+use Rattle.pgn_extract.specs.Public.Rows.{IsPlyCell, IsCell, AreCells, place_of}
+use Rattle.pgn_extract.specs.Public.Tsv as tsv
+use Rattle.pgn_extract.specs.declared.marks.GameId.{GameId}
+use Rattle.pgn_extract.specs.declared.entries.row_maker.RowMaker.{RowMaker}
+use Rattle.pgn_extract.specs.declared.entries.row_maker.RowPart.{RowPart}
+use Rattle.pgn_extract.specs.declared.rows.column.Column.{Column}
+use Rattle.pgn_extract.specs.declared.rows.column.Format.{Format}
+use Rattle.pgn_extract.specs.declared.rows.column.Format.TheVariants.{Csv, Tsv, Jsonl}
+use Rattle.pgn_extract.specs.declared.rows.column.PlyColumn.{PlyColumn}
+
+-- the text of a value
+abbrev pub value_text : Format → Bool → List ℕ → List ℕ
+value_text Csv is_number value = csv.cell_text value
+value_text Tsv is_number value = tsv.cell_text value
+value_text Jsonl is_number value = json.value_text is_number value
+
+-- what stands before it: in an object the name of its column
+abbrev pub key_text : Format → Column → List ℕ
+key_text Csv column = []
+key_text Tsv column = []
+key_text Jsonl column = json.string_text (json.text_of (column_name column)) ++ 58 ∷ []
+
+-- what stands between two cells, before the first and after the last
+abbrev pub gap : Format → List ℕ
+gap Csv = 44 ∷ []
+gap Tsv = 9 ∷ []
+gap Jsonl = 44 ∷ []
+
+abbrev pub front : Format → List ℕ
+front Csv = []
+front Tsv = []
+front Jsonl = 123 ∷ []
+
+abbrev pub back : Format → List ℕ
+back Csv = []
+back Tsv = []
+back Jsonl = 125 ∷ []
+
+-- an empty line of comma-separated values is written as two quotes
+abbrev pub quotes_if_empty : List ℕ → List ℕ
+quotes_if_empty [] = 34 ∷ 34 ∷ []
+quotes_if_empty (b ∷ x) = b ∷ x
+
+abbrev pub or_quotes : Format → List ℕ → List ℕ
+or_quotes Csv line = quotes_if_empty line
+or_quotes Tsv line = line
+or_quotes Jsonl line = line
+
+-- a cell with what stands before its value
+abbrev pub keyed_text : Format → Column → List ℕ → List ℕ
+keyed_text format column cell =
+    key_text format column ++ value_text format (is_number_column column) cell
+
+-- the cells after the first one, and all
+abbrev pub later_text : Format → List Column → List (List ℕ) → List ℕ
+later_text format [] cells = []
+later_text format (column ∷ columns) [] = []
+later_text format (column ∷ columns) (cell ∷ cells) =
+    gap format ++ (keyed_text format column cell ++ later_text format columns cells)
+
+abbrev pub cells_text : Format → List Column → List (List ℕ) → List ℕ
+cells_text format [] cells = []
+cells_text format (column ∷ columns) [] = []
+cells_text format (column ∷ columns) (cell ∷ cells) =
+    keyed_text format column cell ++ later_text format columns cells
+
+-- a value of ASCII that stands for itself in each format, but for quotes around it
+abbrev pub IsPlainByte : ℕ → Type 0
+IsPlainByte b = (32 ≤ b) × (b < 128) × (b ≢ 34) × (b ≢ 44) × (b ≢ 92)
+
+abbrev pub IsPlainValue : List ℕ → Type 0
+IsPlainValue [] = Unit {0}
+IsPlainValue (b ∷ x) = IsPlainByte b × IsPlainValue x
+
+abbrev pub ArePlainValues : List (List ℕ) → Type 0
+ArePlainValues [] = Unit {0}
+ArePlainValues (value ∷ more) = IsPlainValue value × ArePlainValues more
+
+-- values stand in quotes where they are no numbers, in an object
+abbrev pub is_quoted : Format → Bool → Bool
+is_quoted Csv is_number = false
+is_quoted Tsv is_number = false
+is_quoted Jsonl is_number = not is_number
+
+-- what stands before a cell after those of these columns
+abbrev pub gap_after : Format → List Column → List ℕ
+gap_after format [] = []
+gap_after format (column ∷ columns) = gap format
+
+-- the names after the first one, and all
+abbrev pub later_names : Format → List Column → List ℕ
+later_names format [] = []
+later_names format (column ∷ columns) =
+    gap format ++ (value_text format false (column_name column) ++ later_names format columns)
+
+abbrev pub names_text : Format → List Column → List ℕ
+names_text format [] = []
+names_text format (column ∷ columns) =
+    value_text format false (column_name column) ++ later_names format columns
+
+-- the values that columns show of a ply
+abbrev pub ArePlyCells : List PlyColumn → Replay → ℕ → List (List ℕ) → Type 0
+ArePlyCells [] replay ply values = values ≡ []
+ArePlyCells (column ∷ columns) replay ply values =
+    (value : List ℕ) × (more : List (List ℕ)) × (values ≡ value ∷ more)
+    × IsPlyCell column replay ply value × ArePlyCells columns replay ply more
+
+-- the columns of parts
+abbrev pub columns_of : List RowPart → List PlyColumn
+columns_of parts = map (λ part. part.column) parts
+
+-- parts with the values of a ply, and what stands after them
+abbrev pub filled : List RowPart → List (List ℕ) → List ℕ → List ℕ
+filled [] values last = last
+filled (part ∷ parts) [] last = last
+filled (part ∷ parts) (value ∷ values) last =
+    part.before.items ++ (value ++ filled parts values last)
+
+-- whatever the plies show, the parts and what stands after them make the cells of these columns
+abbrev pub MakesCells : Format → List Column → List RowPart → List ℕ → Option (List ℕ) → GameId
+    → GameText → Type 0
+MakesCells format columns parts last name id game =
+    (replay : Replay) (ply : ℕ) (values : List (List ℕ))
+    → ArePlyCells (columns_of parts) replay ply values → ArePlainValues values
+    → (cells : List (List ℕ))
+    × AreCells columns (place_of name id game replay ply) cells
+    × (filled parts values last ≡ front format ++ cells_text format columns cells)
+
+-- the same of all that stands before the end of a row
+abbrev pub MakesRow : Format → List Column → List RowPart → List ℕ → Option (List ℕ) → GameId
+    → GameText → Type 0
+MakesRow format columns parts last name id game =
+    (replay : Replay) (ply : ℕ) (values : List (List ℕ))
+    → ArePlyCells (columns_of parts) replay ply values → ArePlainValues values
+    → (cells : List (List ℕ))
+    × AreCells columns (place_of name id game replay ply) cells
+    × (filled parts values last
+    ≡ front format ++ (cells_text format columns cells ++ back format))
+
+-- rows of this game are made, under this name
+abbrev pub MakesRows : RowMaker → Option (List ℕ) → GameId → GameText → Type 0
+MakesRows maker name id game =
+    MakesRow maker.row.now.format maker.row.now.columns.items maker.parts.items maker.last.items
+    name id game
+
+-- the quotes around the value of a column of the ply
+abbrev pub quote_text : Format → Bool → List ℕ
+quote_text format is_number = if is_quoted format is_number then 34 ∷ [] else []
+
+-- a part ends with a column of the ply: its value stands between quotes where it is quoted
+pub record EndsPart (old new : RowMaker) (column : PlyColumn) : Type 0 where
+  pub row : new.row.now ≡ old.row.now
+  pub part : RowPart
+  pub of_column : part.column ≡ column
+  pub before : part.before.items
+      ≡ old.last.items ++ quote_text old.row.now.format (is_number_of_ply column)
+  pub parts : new.parts.items ≡ old.parts.items ++ part ∷ []
+  pub after : new.last.items ≡ quote_text old.row.now.format (is_number_of_ply column)
+
+-- the cell of a column follows, whatever the ply shows
+abbrev pub AddsCell : RowMaker → RowMaker → Option (List ℕ) → GameId → GameText → Column → Type 0
+AddsCell old new name id game column =
+    (replay : Replay) (ply : ℕ) (values : List (List ℕ))
+    → ArePlyCells (columns_of new.parts.items) replay ply values → ArePlainValues values
+    → (before : List (List ℕ)) × (cell : List ℕ)
+    × ArePlyCells (columns_of old.parts.items) replay ply before × ArePlainValues before
+    × IsCell column (place_of name id game replay ply) cell
+    × (filled new.parts.items values new.last.items
+    ≡ filled old.parts.items before old.last.items
+    ++ keyed_text old.row.now.format column cell)

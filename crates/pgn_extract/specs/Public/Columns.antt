@@ -1,0 +1,131 @@
+-- The columns of a row by their names, and the list of names that is given.
+use Rattle.std.specs.Prelude.{◌≡◌, ◌≢◌, ◌≤◌, ℕ, Bool, true, false, List, [], ◌∷◌, ◌++◌, length}
+use Rattle.std.specs.Prelude.{codes}
+use Rattle.std.specs.Prelude.{IsTrue}
+use Rattle.std.specs.List.{Contains, list_all}
+use Rattle.chess.specs.Public.Fen.{parted_at}
+use Rattle.pgn_text.specs.Public.Bytes.{is_name_byte}
+use Rattle.pgn_extract.specs.declared.rows.column.GameColumn.{GameColumn}
+use Rattle.pgn_extract.specs.declared.rows.column.GameColumn.TheVariants.{File, Game, Offset, Id}
+use Rattle.pgn_extract.specs.declared.rows.column.GameColumn.TheVariants.{Result}
+use Rattle.pgn_extract.specs.declared.rows.column.PlyColumn.{PlyColumn}
+use Rattle.pgn_extract.specs.declared.rows.column.PlyColumn.TheVariants.{Ply, OfPosition, Next}
+use Rattle.pgn_extract.specs.declared.rows.column.PositionColumn.{PositionColumn}
+use Rattle.pgn_extract.specs.declared.rows.column.PositionColumn.TheVariants.{Fen, Turn, Number}
+use Rattle.pgn_extract.specs.declared.rows.column.Column.{Column}
+use Rattle.pgn_extract.specs.declared.rows.column.Column.TheVariants as column
+use Rattle.pgn_extract.specs.declared.rows.list.ColumnsError.{ColumnsError}
+use Rattle.pgn_extract.specs.declared.rows.list.ColumnsError.TheVariants as err
+
+-- the names of the columns that are no tags
+abbrev pub game_column_name : GameColumn → List ℕ
+game_column_name File = codes "@file"
+game_column_name Game = codes "@game"
+game_column_name Offset = codes "@offset"
+game_column_name Id = codes "@id"
+game_column_name Result = codes "@result"
+
+abbrev pub position_column_name : PositionColumn → List ℕ
+position_column_name Fen = codes "@fen"
+position_column_name Turn = codes "@turn"
+position_column_name Number = codes "@number"
+
+abbrev pub ply_column_name : PlyColumn → List ℕ
+ply_column_name Ply = codes "@ply"
+ply_column_name (OfPosition own) = position_column_name own
+ply_column_name Next = codes "@next"
+
+-- the name of a column, as the header and the names of members show it
+abbrev pub column_name : Column → List ℕ
+column_name (column.Tag name) = name.items
+column_name (column.OfGame own) = game_column_name own
+column_name (column.OfPly own) = ply_column_name own
+
+-- the values of the column are numbers
+abbrev pub is_number_of_game : GameColumn → Bool
+is_number_of_game File = false
+is_number_of_game Game = true
+is_number_of_game Offset = true
+is_number_of_game Id = false
+is_number_of_game Result = false
+
+abbrev pub is_number_of_position : PositionColumn → Bool
+is_number_of_position Fen = false
+is_number_of_position Turn = false
+is_number_of_position Number = true
+
+abbrev pub is_number_of_ply : PlyColumn → Bool
+is_number_of_ply Ply = true
+is_number_of_ply (OfPosition own) = is_number_of_position own
+is_number_of_ply Next = false
+
+abbrev pub is_number_column : Column → Bool
+is_number_column (column.Tag name) = false
+is_number_column (column.OfGame own) = is_number_of_game own
+is_number_column (column.OfPly own) = is_number_of_ply own
+
+-- the name of a tag: bytes of names, at least one
+abbrev pub IsTagName : List ℕ → Type 0
+IsTagName name = (name ≢ []) × IsTrue (list_all is_name_byte name)
+
+-- the column has this name; that of a tag is the name of a tag
+abbrev pub IsColumnOf : List ℕ → Column → Type 0
+IsColumnOf name (column.Tag own) = (own.items ≡ name) × IsTagName name
+IsColumnOf name (column.OfGame own) = name ≡ game_column_name own
+IsColumnOf name (column.OfPly own) = name ≡ ply_column_name own
+
+-- no column has this name but maybe that of a tag
+abbrev pub IsNoOwnName : List ℕ → Type 0
+IsNoOwnName name = ((own : GameColumn) → name ≡ game_column_name own → ⊥)
+    × ((own : PlyColumn) → name ≡ ply_column_name own → ⊥)
+
+-- no column is called so, for this reason
+abbrev pub IsColumnFault : List ℕ → ColumnsError → Type 0
+IsColumnFault name err.Empty = name ≡ []
+IsColumnFault name (err.Unknown word) =
+    (word.now ≡ name) × ((rest : List ℕ) × (name ≡ 64 ∷ rest)) × IsNoOwnName name
+IsColumnFault name (err.NoName word) =
+    (word.now ≡ name) × (IsTagName name → ⊥)
+IsColumnFault name (err.Twice word) = ⊥
+IsColumnFault name err.TooMany = ⊥
+IsColumnFault name err.OutOfMemory = Unit {0}
+
+-- no name stands twice
+abbrev pub AreDistinct : List (List ℕ) → Type 0
+AreDistinct [] = Unit {0}
+AreDistinct (name ∷ more) = (Contains more name → ⊥) × AreDistinct more
+
+-- each column has its name
+abbrev pub HaveNames : List (List ℕ) → List Column → Type 0
+HaveNames [] columns = columns ≡ []
+HaveNames (name ∷ names) columns =
+    (column : Column) × (more : List Column) × (columns ≡ column ∷ more) × IsColumnOf name column
+    × HaveNames names more
+
+-- the text lists these columns: each name between its commas, none twice, at most 64
+pub record AreColumns (text : List ℕ) (columns : List Column) : Type 0 where
+  pub named : HaveNames (parted_at 44 text) columns
+  pub distinct : AreDistinct (parted_at 44 text)
+  pub few : length columns ≤ 64
+
+-- so many names are distinct columns, and another one follows
+pub record RefusesAt (text : List ℕ) (before : List (List ℕ)) (columns : List Column)
+    (name : List ℕ) (more : List (List ℕ)) : Type 0 where
+  pub parts : parted_at 44 text ≡ before ++ name ∷ more
+  pub named : HaveNames before columns
+  pub distinct : AreDistinct before
+
+-- this is wrong with a name after those before it
+abbrev pub IsWrongAfter : List (List ℕ) → List ℕ → ColumnsError → Type 0
+IsWrongAfter before name (err.Twice word) = (word.now ≡ name) × Contains before name
+IsWrongAfter before name err.TooMany = length before ≡ 64
+IsWrongAfter before name err.Empty = IsColumnFault name err.Empty
+IsWrongAfter before name (err.Unknown word) = IsColumnFault name (err.Unknown word)
+IsWrongAfter before name (err.NoName word) = IsColumnFault name (err.NoName word)
+IsWrongAfter before name err.OutOfMemory = Unit {0}
+
+-- the text is refused, for the first of its names with which something is wrong
+abbrev pub IsRefusedList : List ℕ → ColumnsError → Type 0
+IsRefusedList text fault =
+    (before : List (List ℕ)) × (columns : List Column) × (name : List ℕ) × (more : List (List ℕ))
+    × RefusesAt text before columns name more × IsWrongAfter before name fault

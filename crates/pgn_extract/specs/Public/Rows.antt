@@ -1,0 +1,136 @@
+-- A row: what is shown of a ply of a game where columns are asked for.
+use Rattle.std.specs.Prelude.{◌≡◌, ℕ, List, [], ◌∷◌, Option, Some, None, MatchOption, decimal}
+use Rattle.std.specs.Prelude.{map}
+use Rattle.std.specs.List.{slice_get}
+use Rattle.chess.specs.Public.Fen.{IsFen, side_text}
+use Rattle.chess.specs.Public.Positions.{State}
+use Rattle.chess.specs.Public.San.{IsSan}
+use Rattle.pgn_text.specs.Public.GameTexts.{GameText}
+use Rattle.pgn_text.specs.Public.Games.{Item}
+use Rattle.pgn_game.specs.Public.Replays.{Replay}
+use Rattle.pgn_game.specs.Public.Starts.{IsValueOf}
+use Rattle.pgn_criteria.specs.Public.Meeting.{Heading, heading_of}
+use Rattle.pgn_extract.specs.Public.Columns.{column_name, is_number_column}
+use Rattle.pgn_extract.specs.Public.Csv as csv
+use Rattle.pgn_extract.specs.Public.Index.{mark}
+use Rattle.pgn_extract.specs.Public.Json.{Member, object_text}
+use Rattle.pgn_extract.specs.Public.Tsv as tsv
+use Rattle.pgn_extract.specs.declared.marks.GameId.{GameId}
+use Rattle.pgn_extract.specs.declared.rows.column.Column.{Column}
+use Rattle.pgn_extract.specs.declared.rows.column.Column.TheVariants.{Tag, OfGame, OfPly}
+use Rattle.pgn_extract.specs.declared.rows.column.Format.{Format}
+use Rattle.pgn_extract.specs.declared.rows.column.Format.TheVariants.{Csv, Tsv, Jsonl}
+use Rattle.pgn_extract.specs.declared.rows.column.GameColumn.{GameColumn}
+use Rattle.pgn_extract.specs.declared.rows.column.GameColumn.TheVariants.{File, Game, Offset, Id}
+use Rattle.pgn_extract.specs.declared.rows.column.GameColumn.TheVariants.{Result}
+use Rattle.pgn_extract.specs.declared.rows.column.PlyColumn.{PlyColumn}
+use Rattle.pgn_extract.specs.declared.rows.column.PlyColumn.TheVariants.{Ply, OfPosition, Next}
+use Rattle.pgn_extract.specs.declared.rows.column.PositionColumn.{PositionColumn}
+use Rattle.pgn_extract.specs.declared.rows.column.PositionColumn.TheVariants.{Fen, Turn, Number}
+use Rattle.pgn_extract.specs.declared.rows.column.Row.{Row}
+
+-- what a row is made of: the name of the file where lines have one, the mark of the game, its
+-- heading and its elements, and a ply of its replay
+pub record RowPlace : Type 0 where
+  pub name : Option (List ℕ)
+  pub id : GameId
+  pub heading : Heading
+  pub items : List Item
+  pub replay : Replay
+  pub ply : ℕ
+
+abbrev pub place_of : Option (List ℕ) → GameId → GameText → Replay → ℕ → RowPlace
+place_of name id game replay ply = record {
+  name = name;
+  id = id;
+  heading = heading_of game;
+  items = game.elements;
+  replay = replay;
+  ply = ply;
+}
+
+-- the value of a tag with these contents, and nothing where the game has none
+abbrev pub IsTagCell : Option (List ℕ) → List ℕ → Type 0
+IsTagCell None cell = cell ≡ []
+IsTagCell (Some contents) cell = IsValueOf contents cell
+
+-- the name of the file, and nothing where lines have none
+abbrev pub name_cell : Option (List ℕ) → List ℕ
+name_cell None = []
+name_cell (Some name) = name
+
+-- what a column shows of the game
+abbrev pub game_cell : GameColumn → Option (List ℕ) → GameId → Heading → List ℕ
+game_cell File name id heading = name_cell name
+game_cell Game name id heading = decimal id.number
+game_cell Offset name id heading = decimal id.offset
+game_cell Id name id heading = mark id
+game_cell Result name id heading = heading.result
+
+-- the position after so many plies has the fact
+abbrev pub IsAt : Replay → ℕ → (State → Type 0) → Type 0
+IsAt replay ply So = (position : State) × (slice_get replay.positions ply ≡ Some position)
+    × So position
+
+-- the move that is played after so many plies, and nothing where none is
+abbrev pub IsMoveCell : Replay → ℕ → List ℕ → Type 0
+IsMoveCell replay ply cell =
+    MatchOption (slice_get replay.played ply) (cell ≡ [])
+    (λ m. IsAt replay ply (λ position. IsSan position m cell))
+
+-- what a column shows of a position
+abbrev pub IsPositionCell : PositionColumn → State → List ℕ → Type 0
+IsPositionCell Fen position cell = IsFen position cell
+IsPositionCell Turn position cell = cell ≡ side_text position.turn
+IsPositionCell Number position cell = cell ≡ decimal position.fullmove_number
+
+-- what a column shows of the ply
+abbrev pub IsPlyCell : PlyColumn → Replay → ℕ → List ℕ → Type 0
+IsPlyCell Ply replay ply cell = cell ≡ decimal ply
+IsPlyCell (OfPosition own) replay ply cell =
+    IsAt replay ply (λ position. IsPositionCell own position cell)
+IsPlyCell Next replay ply cell = IsMoveCell replay ply cell
+
+-- the cell of a column
+abbrev pub IsCell : Column → RowPlace → List ℕ → Type 0
+IsCell (Tag name) place cell = IsTagCell (place.heading.named name.items) cell
+IsCell (OfGame own) place cell = cell ≡ game_cell own place.name place.id place.heading
+IsCell (OfPly own) place cell = IsPlyCell own place.replay place.ply cell
+
+-- the cells of columns, in their order
+abbrev pub AreCells : List Column → RowPlace → List (List ℕ) → Type 0
+AreCells [] place cells = cells ≡ []
+AreCells (column ∷ columns) place cells =
+    (cell : List ℕ) × (more : List (List ℕ)) × (cells ≡ cell ∷ more) × IsCell column place cell
+    × AreCells columns place more
+
+-- the members of an object, one a column
+abbrev pub members : List Column → List (List ℕ) → List Member
+members [] cells = []
+members (column ∷ columns) [] = []
+members (column ∷ columns) (cell ∷ cells) = record {
+  name = column_name column;
+  is_number = is_number_column column;
+  value = cell;
+} ∷ members columns cells
+
+-- the text of cells of these columns in a format
+abbrev pub row_text : Format → List Column → List (List ℕ) → List ℕ
+row_text Csv columns cells = csv.row_text cells
+row_text Tsv columns cells = tsv.row_text cells
+row_text Jsonl columns cells = object_text (members columns cells)
+
+-- the row of a ply
+abbrev pub IsRow : Row → RowPlace → List ℕ → Type 0
+IsRow row place text =
+    (cells : List (List ℕ)) × AreCells row.columns.items place cells
+    × (text ≡ row_text row.format row.columns.items cells)
+
+-- the names of columns, as a row above all others; objects have them in each line
+abbrev pub header_in : Format → List Column → List ℕ
+header_in Csv columns = csv.row_text (map column_name columns)
+header_in Tsv columns = tsv.row_text (map column_name columns)
+header_in Jsonl columns = []
+
+abbrev pub header_text : Row → List ℕ
+header_text row = header_in row.format row.columns.items

@@ -1,0 +1,135 @@
+//! The columns of rows as the arguments list them, and the line of their names.
+ghost use Rattle.std.specs.Prelude.{◌≡◌, ◌↔◌, false, true, IfOk, OnOk, IsErrOf};
+ghost use Rattle.pgn_extract.specs.Public.Requests.{IsAskedRow, asked_header};
+ghost use Rattle.pgn_extract.specs.Public.Runs.{Adds, passage};
+
+use crate::app::messages;
+use crate::app::order::{Order, format_of};
+use crate::output::file_name::shown_bytes;
+use crate::output::outcome::RunError;
+use crate::output::write_all::write_all;
+use crate::rows::column::Row;
+use crate::rows::format::push_header;
+use crate::rows::list::{ColumnsError, parse_columns};
+use crate::settings::{EntryLine, Settings};
+use pgn_text::Tally;
+use std::alloc::{AllocError, Global};
+use std::io::Write;
+use strsim::levenshtein;
+
+/// The names of the columns that are no tags.
+const OWN_NAMES: [&str; 10] = [
+    "@file", "@game", "@offset", "@id", "@ply", "@fen", "@turn", "@number", "@next", "@result",
+];
+
+/// Why the columns are refused: a line of the program, or one that names a column.
+#[derive(Drop)]
+pub enum RefusedColumns {
+    /// A line of the program.
+    Line(&'static str),
+    /// A line that names a column.
+    Named(String),
+    /// Memory ran out.
+    OutOfMemory,
+}
+
+impl From<AllocError> for RefusedColumns {
+    ghost use Rattle.pgn_extract.specs.declared.app.header.RefusedColumns.TheVariants.{OutOfMemory};
+
+    ghost from_gives = { λ _ refused. refused ≡ OutOfMemory };
+
+    fn from(_: AllocError) -> RefusedColumns {
+        RefusedColumns::OutOfMemory
+    }
+}
+
+/// The name of a column that is most like this one.
+fn nearest_name(alloc: Global, name: &str) -> Result<&'static str, AllocError> {
+    let mut nearest = 0;
+    let mut least = usize::MAX;
+    for place in 0..OWN_NAMES.len() {
+        let steps = levenshtein(alloc, name, OWN_NAMES[place])?;
+        if steps < least {
+            least = steps;
+            nearest = place;
+        }
+    }
+    Ok(OWN_NAMES[nearest])
+}
+
+/// The refusal of a column with this name, which no column has.
+fn unknown_column(alloc: Global, name: &[u8]) -> Result<String, AllocError> {
+    let shown = shown_bytes(alloc, name)?;
+    let nearest = nearest_name(alloc, shown.as_str())?;
+    match format!(in alloc;
+        "pgn-extract: --rows: no column is called {shown}; the nearest is {nearest}\n"
+    ) {
+        Ok(line) => Ok(line),
+        Err(_) => Err(AllocError),
+    }
+}
+
+/// The refusal of a column by its name.
+fn named_column(alloc: Global, name: &[u8], fault: &str) -> Result<String, AllocError> {
+    let shown = shown_bytes(alloc, name)?;
+    match format!(in alloc; "pgn-extract: --rows: {shown} {fault}\n") {
+        Ok(line) => Ok(line),
+        Err(_) => Err(AllocError),
+    }
+}
+
+/// The refusal of a list of columns.
+fn refused_columns(alloc: Global, error: &ColumnsError<'_>) -> Result<RefusedColumns, AllocError> {
+    Ok(match error {
+        ColumnsError::Empty => RefusedColumns::Line(messages::COLUMN_WITHOUT_NAME),
+        ColumnsError::TooMany => RefusedColumns::Line(messages::TOO_MANY_COLUMNS),
+        ColumnsError::Unknown(name) => RefusedColumns::Named(unknown_column(alloc, *name)?),
+        ColumnsError::NoName(name) => {
+            RefusedColumns::Named(named_column(alloc, *name, "is no name of a tag")?)
+        }
+        ColumnsError::Twice(name) => {
+            RefusedColumns::Named(named_column(alloc, *name, "stands twice")?)
+        }
+        ColumnsError::OutOfMemory => RefusedColumns::OutOfMemory,
+    })
+}
+
+/// The row that is asked for, if one is.
+pub fn read_row(alloc: Global, order: &Order<'_>) -> Result<Option<Row>, RefusedColumns>
+    ensures { IfOk result (λ row. IsAskedRow order.now.request row) }
+{
+    let Some(text) = order.request.rows else {
+        return Ok(None);
+    };
+    match parse_columns(alloc, text.as_bytes()) {
+        Ok(columns) => Ok(Some(Row {
+            columns,
+            format: format_of(&order.request),
+        })),
+        Err(error) => Err(refused_columns(alloc, &error)?),
+    }
+}
+
+/// Writes the names of the columns where rows begin: at the beginning of the input, unless they are
+/// left out.
+pub fn put_header<O: Write>(
+    alloc: Global,
+    out: &mut Tally<O>,
+    settings: &Settings,
+    left_out: bool,
+) -> Result<(), RunError>
+    requires { out.old.faulted ≡ false }
+    ensures put { OnOk result (Adds (passage O.contents out.old out.new)
+        (asked_header settings.now left_out)) }
+    ensures fault { IsErrOf result RunError.Write ↔ (out.new.faulted ≡ true) }
+{
+    let EntryLine::InColumns(row) = &settings.line else {
+        return Ok(());
+    };
+    if left_out || settings.offset > 0 {
+        return Ok(());
+    }
+    let mut text = Vec::new(alloc);
+    push_header(&mut text, row)?;
+    write_all(out, &text)
+}

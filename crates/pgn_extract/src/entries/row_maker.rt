@@ -1,0 +1,200 @@
+//! The rows of a game: what its plies do not change is made once.
+ghost use Rattle.std.specs.Prelude.{◌≡◌, ◌++◌, ◌∷◌, [], ℕ, List, OnOk, IfErr, IfOk, IfSome};
+ghost use Rattle.std.specs.Prelude.{option_map};
+ghost use Rattle.pgn_extract.specs.Private.Lines.{Where, HasFault, ShowsValues};
+ghost use Rattle.pgn_extract.specs.Private.RowTexts.{MakesRows, EndsPart, AddsCell, or_quotes};
+ghost use Rattle.pgn_extract.specs.Private.RowTexts.{filled, columns_of, ArePlainValues};
+ghost use Rattle.pgn_extract.specs.Private.RowTexts.{quote_text};
+ghost use Rattle.pgn_extract.specs.Public.Columns.{is_number_of_ply};
+ghost use Rattle.pgn_extract.specs.Public.Rows.{game_cell, IsTagCell};
+ghost use Rattle.pgn_criteria.specs.Public.Meeting.{heading_of};
+ghost use Rattle.pgn_text.specs.Public.GameTexts.{tag_in};
+ghost use Rattle.pgn_text.specs.Public.Strings.{IsContents};
+ghost use Rattle.pgn_game.specs.Public.Starts.{IsValueOf};
+
+use crate::entries::GameContext;
+use crate::entries::line::Line;
+use crate::output::texts::{push_mark, push_number};
+use crate::rows::column::{Column, Format, GameColumn, PlyColumn, Row};
+use crate::rows::format::{end_row, push_gap, push_key, push_value};
+use pgn_text::{RawGame, value};
+use std::alloc::{AllocError, Global};
+use std::mem;
+
+/// What stands before the value of a column of the ply.
+#[derive(Drop)]
+pub(crate) struct RowPart {
+    pub(crate) before: Vec<u8>,
+    pub(crate) column: PlyColumn,
+}
+
+/// The rows of a game: the columns, the parts with a value of the ply each, and what stands after
+/// them.
+#[derive(Drop)]
+pub(crate) struct RowMaker<'s> {
+    pub(crate) alloc: Global,
+    pub(crate) row: &'s Row,
+    pub(crate) parts: Vec<RowPart>,
+    pub(crate) last: Vec<u8>,
+}
+
+/// Makes the value of a string with these contents.
+fn put_contents(own: &mut Vec<u8>, contents: &[u8]) -> Result<(), AllocError>
+    requires { IsContents contents.now }
+    ensures { OnOk result (IsValueOf contents.now own.new.items) }
+{
+    own.clear();
+    for byte in value(contents) {
+        own.push(byte)?;
+    }
+    Ok(())
+}
+
+/// Makes the value of a tag with these contents, which is empty where there is no such tag.
+fn put_given(own: &mut Vec<u8>, contents: Option<&[u8]>) -> Result<(), AllocError>
+    requires { IfSome contents (λ text. IsContents text.now) }
+    ensures { OnOk result
+        (IsTagCell (option_map (λ text. text.now) contents.entry) own.new.items) }
+{
+    match contents {
+        Some(contents) => put_contents(own, contents),
+        None => {
+            own.clear();
+            Ok(())
+        }
+    }
+}
+
+/// Makes the value of the tag with this name, which the game may not have.
+fn put_tag(own: &mut Vec<u8>, game: &RawGame<'_>, name: &[u8]) -> Result<(), AllocError>
+    ensures { OnOk result (IsTagCell (tag_in name.now game.now.tags) own.new.items) }
+{
+    let contents = game.tags().get(name).copied();
+    put_given(own, contents)
+}
+
+/// Makes what a column shows of the game.
+fn put_game_value(
+    own: &mut Vec<u8>,
+    context: GameContext<'_>,
+    game: &RawGame<'_>,
+    column: GameColumn,
+) -> Result<(), AllocError>
+    ensures { OnOk result (own.new.items
+        ≡ game_cell column context.entry.settings.now.name context.entry.own
+        (heading_of game.now)) }
+{
+    own.clear();
+    match column {
+        GameColumn::File => match &context.settings.name {
+            Some(name) => own.extend_from_slice(name.bytes()),
+            None => Ok(()),
+        },
+        GameColumn::Game => push_number(own, context.own.number as usize),
+        GameColumn::Offset => push_number(own, context.own.offset as usize),
+        GameColumn::Id => push_mark(own, context.own),
+        GameColumn::Result => own.extend_from_slice(game.result()),
+    }
+}
+
+/// The quotes around the values of a column of the ply, where they have any.
+fn quote_of(format: Format, column: PlyColumn) -> &'static [u8]
+    ensures { result.now ≡ quote_text format (is_number_of_ply column) }
+{
+    if format == Format::Jsonl && !column.is_number() {
+        b"\""
+    } else {
+        b""
+    }
+}
+
+impl<'s> RowMaker<'s> {
+    /// Ends a part with a column of the ply.
+    fn end_part(&mut self, column: PlyColumn) -> Result<(), AllocError>
+        ensures { OnOk result (EndsPart self.old self.new column) }
+    {
+        let quote = quote_of(self.row.format, column);
+        self.last.extend_from_slice(quote)?;
+        let after = Vec::from_slice(self.alloc, quote)?;
+        let before = mem::replace(&mut self.last, after);
+        self.parts.push(RowPart { before, column })?;
+        Ok(())
+    }
+
+    /// Adds a column, of which the value is made in `own` where it is one of the game.
+    fn add_column(
+        &mut self,
+        own: &mut Vec<u8>,
+        context: GameContext<'_>,
+        game: &RawGame<'_>,
+        column: &Column,
+    ) -> Result<(), AllocError>
+        ensures row { OnOk result (self.new.row.now ≡ self.old.row.now) }
+        ensures cell { OnOk result (AddsCell self.old self.new context.entry.settings.now.name
+            context.entry.own game.now column.now) }
+    {
+        let format = self.row.format;
+        push_key(&mut self.last, format, column)?;
+        match column {
+            Column::Tag(name) => {
+                put_tag(own, game, name)?;
+                push_value(&mut self.last, format, false, own)
+            }
+            Column::OfGame(shown) => {
+                put_game_value(own, context, game, *shown)?;
+                push_value(&mut self.last, format, shown.is_number(), own)
+            }
+            Column::OfPly(shown) => self.end_part(*shown),
+        }
+    }
+
+    /// The rows of the game.
+    pub(crate) fn of_game<'a>(
+        context: GameContext<'a>,
+        row: &'s Row,
+        game: &RawGame<'a>,
+    ) -> Result<Self, AllocError>
+        ensures { IfOk result (λ maker. (maker.row.now ≡ row.now)
+            × MakesRows maker context.entry.settings.now.name context.entry.own game.now) }
+    {
+        let alloc = context.alloc;
+        let mut maker = RowMaker {
+            alloc,
+            row,
+            parts: Vec::new(alloc),
+            last: Vec::from_slice(alloc, row.format.front())?,
+        };
+        let mut own = Vec::new(alloc);
+        let mut is_first = true;
+        for column in &row.columns {
+            push_gap(&mut maker.last, row.format, is_first)?;
+            maker.add_column(&mut own, context, game, column)?;
+            is_first = false;
+        }
+        maker.last.extend_from_slice(row.format.back())?;
+        Ok(maker)
+    }
+
+    /// Appends the row of the ply where the line stands.
+    #[inline(always)]
+    pub(crate) fn push_row<L: Line>(&self, text: &mut Vec<u8>, line: &L) -> Result<(), L::Fault>
+        requires { L.Valid line.now }
+        ensures shown { OnOk result ((values : List (List ℕ))
+            × Where (L.At line.now) (ShowsValues (columns_of self.now.parts.items) values)
+            × ArePlainValues values
+            × (text.new.items ≡ text.old.items ++ (or_quotes self.now.row.now.format
+            (filled self.now.parts.items values self.now.last.items) ++ 10 ∷ []))) }
+        ensures fault { IfErr result (λ fault. IfSome (L.fault_of fault)
+            (λ own. Where (L.At line.now) (HasFault own) × (some : List ℕ)
+            × (text.new.items ≡ text.old.items ++ some))) }
+    {
+        let begin = text.len();
+        for part in &self.parts {
+            text.extend_from_slice(&part.before)?;
+            line.push_value(text, part.column)?;
+        }
+        text.extend_from_slice(&self.last)?;
+        end_row(text, self.row.format, begin)?;
+        Ok(())
+    }
+}

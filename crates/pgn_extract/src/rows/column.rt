@@ -1,0 +1,158 @@
+//! The columns of a row.
+ghost use Rattle.std.specs.Prelude.{◌≡◌};
+ghost use Rattle.pgn_extract.specs.Public.Columns.{column_name, game_column_name, ply_column_name};
+ghost use Rattle.pgn_extract.specs.Public.Columns.{position_column_name, is_number_of_game};
+ghost use Rattle.pgn_extract.specs.Public.Columns.{is_number_of_ply, is_number_of_position};
+
+/// How rows are written.
+#[derive(Clone, Copy, Debug, PartialEq, Eq)]
+pub enum Format {
+    /// Comma-separated values.
+    Csv,
+    /// Values parted by tabs.
+    Tsv,
+    /// An object of JSON a line.
+    Jsonl,
+}
+
+/// What a column shows of a game.
+#[derive(Clone, Copy, Debug, PartialEq, Eq)]
+pub enum GameColumn {
+    /// The name of its file; empty where lines have none.
+    File,
+    /// Its number.
+    Game,
+    /// Its offset.
+    Offset,
+    /// Its mark.
+    Id,
+    /// The result that ends its text.
+    Result,
+}
+
+/// What a column shows of a position.
+#[derive(Clone, Copy, Debug, PartialEq, Eq)]
+pub enum PositionColumn {
+    /// Its text in FEN.
+    Fen,
+    /// Which side is to move, as in FEN.
+    Turn,
+    /// The number of the move that is to be played.
+    Number,
+}
+
+/// What a column shows of a ply.
+#[derive(Clone, Copy, Debug, PartialEq, Eq)]
+pub enum PlyColumn {
+    /// How many plies lead there.
+    Ply,
+    /// Something of the position.
+    OfPosition(PositionColumn),
+    /// The move that is played from there; empty at the end.
+    Next,
+}
+
+/// What a column shows.
+#[derive(Debug, Drop)]
+pub enum Column {
+    /// The value of the tag with this name; empty where the game has none.
+    Tag(Vec<u8>),
+    /// Something of the game.
+    OfGame(GameColumn),
+    /// Something of the ply.
+    OfPly(PlyColumn),
+}
+
+/// What a row has, and how it is written.
+#[derive(Debug, Drop)]
+pub struct Row {
+    /// The columns, in their order.
+    pub columns: Vec<Column>,
+    /// How they are written.
+    pub format: Format,
+}
+
+impl GameColumn {
+    /// Its name.
+    pub(crate) fn name(self) -> &'static [u8]
+        ensures { result.now ≡ game_column_name self }
+    {
+        match self {
+            GameColumn::File => b"@file",
+            GameColumn::Game => b"@game",
+            GameColumn::Offset => b"@offset",
+            GameColumn::Id => b"@id",
+            GameColumn::Result => b"@result",
+        }
+    }
+
+    /// Whether its values are numbers.
+    pub(crate) fn is_number(self) -> bool
+        ensures { result ≡ is_number_of_game self }
+    {
+        match self {
+            GameColumn::Game | GameColumn::Offset => true,
+            GameColumn::File | GameColumn::Id | GameColumn::Result => false,
+        }
+    }
+}
+
+impl PositionColumn {
+    /// Its name.
+    fn name(self) -> &'static [u8]
+        ensures { result.now ≡ position_column_name self }
+    {
+        match self {
+            PositionColumn::Fen => b"@fen",
+            PositionColumn::Turn => b"@turn",
+            PositionColumn::Number => b"@number",
+        }
+    }
+
+    /// Whether its values are numbers.
+    fn is_number(self) -> bool
+        ensures { result ≡ is_number_of_position self }
+    {
+        match self {
+            PositionColumn::Number => true,
+            PositionColumn::Fen | PositionColumn::Turn => false,
+        }
+    }
+}
+
+impl PlyColumn {
+    /// Its name.
+    pub(crate) fn name(self) -> &'static [u8]
+        ensures { result.now ≡ ply_column_name self }
+    {
+        match self {
+            PlyColumn::Ply => b"@ply",
+            PlyColumn::OfPosition(own) => own.name(),
+            PlyColumn::Next => b"@next",
+        }
+    }
+
+    /// Whether its values are numbers.
+    pub(crate) fn is_number(self) -> bool
+        ensures { result ≡ is_number_of_ply self }
+    {
+        match self {
+            PlyColumn::Ply => true,
+            PlyColumn::OfPosition(own) => own.is_number(),
+            PlyColumn::Next => false,
+        }
+    }
+}
+
+impl Column {
+    /// The name with which the header shows it.
+    pub(crate) fn name(&self) -> &[u8]
+        ensures { result.now ≡ column_name self.now }
+    {
+        match self {
+            Column::Tag(name) => name,
+            Column::OfGame(own) => own.name(),
+            Column::OfPly(own) => own.name(),
+        }
+    }
+}
