@@ -150,9 +150,10 @@ _pgn_extract_command() {
         mapfile -t COMPREPLY < <(compgen -W "year eco player event White Black Round Site Result" -- "$word")
         return
         ;;
-    --plies | --least | --jobs | --part | --sshlogin) return ;;
+    --plies | --least | --jobs | --part | --sshlogin | --columns | --size | --title) return ;;
     esac
     case ${COMP_WORDS[0]##*/} in
+    pgn-board) options+=' --tsv --jsonl --columns --size --flip --flip=auto --title -o' ;;
     pgn-mend)
         options+=' --dry-run --summary --encoding --latin-1 --language'
         options+=' --no-values --no-tags --no-missing-results --no-byte-order-marks --no-dos-ends'
@@ -172,4 +173,4 @@ _pgn_extract_command() {
     fi
 }
 complete -o filenames -F _pgn_extract pgn-extract pgn-extract-proved
-complete -o filenames -F _pgn_extract_command pgn-extract-parallel pgn-mend pgn-split pgn-tree pgn-unique
+complete -o filenames -F _pgn_extract_command pgn-board pgn-extract-parallel pgn-mend pgn-split pgn-tree pgn-unique

@@ -51,8 +51,8 @@ import make_games  # noqa: E402
 BUILT = TOP / "crates/cli/out/cli"
 # What the commands beside the program share.
 SHARED = TOP / "tools/pgn_tools.py"
-# What pgn-mend has for itself.
-MOVETEXT = TOP / "tools/pgn_movetext.py"
+# All modules beside them: what they share, and what pgn-mend and pgn-board have for themselves.
+MODULES = (SHARED, TOP / "tools/pgn_movetext.py", TOP / "tools/pgn_drawing.py")
 # The variable by which tools are given a program.
 TOOL_VARIABLE = "PGN_EXTRACT"
 # The status of a run that was ended at its time limit, as timeout(1) has it.
@@ -391,7 +391,7 @@ UNSHOWN = b"x\x1b]0;y\x07\x7f\xc2\x9b31m\x9b\xff\r\nz"
 def copy_command(command, target):
     """Copies a command beside the program, and beside it what the commands share."""
     shutil.copy(command, target)
-    for module in (SHARED, MOVETEXT):
+    for module in MODULES:
         shutil.copy(module, Path(target).parent)
 
 

@@ -93,11 +93,12 @@ def reason_of(fault):
 
 
 class Command:
-    """A command beside the program: its own path, what it is called, and what its --help says."""
+    """A command beside the program: its own path, what it is called, what its --help says, and
+    whether it runs the program."""
 
-    def __init__(self, path, name, document):
+    def __init__(self, path, name, document, needs_program=True):
         self.place = os.path.dirname(os.path.realpath(path))
-        self.name, self.document = name, document
+        self.name, self.document, self.needs_program = name, document, needs_program
         # (where nobody catches a fault Python ends with 1, which here means that games are bad)
         sys.excepthook = lambda _kind, fault, _trace: (
             os.write(2, self.report(reason_of(fault))),
@@ -136,9 +137,12 @@ class Command:
         if arguments in (["-h"], ["--help"]):
             write(1, self.document.encode())
             return 0
+        if arguments != ["--version"] and not self.needs_program:
+            return work(None, arguments)
         program, version = self.find_program()
         if arguments == ["--version"]:
-            write(1, f"{self.name} runs {shown(program)}\n".encode() + version)
+            verb = "runs" if self.needs_program else "stands beside"
+            write(1, f"{self.name} {verb} {shown(program)}\n".encode() + version)
             return 0
         return work(program, arguments)
 
@@ -281,6 +285,18 @@ def parser_of(name, **given):
             super().error(shown(message))
 
     return Parser(prog=name, **given)
+
+
+def number_from(least, most):
+    """What reads a number between two others."""
+    import argparse
+
+    def read(text):
+        if not re.fullmatch(r"[0-9]{1,9}", text, re.ASCII) or not least <= int(text) <= most:
+            raise argparse.ArgumentTypeError(f"takes a number from {least} to {most}")
+        return int(text)
+
+    return read
 
 
 def parsed(parser, arguments):
