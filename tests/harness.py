@@ -542,6 +542,11 @@ def filled(tokens):
     return b"".join(it + b"\n" for it in [*lines, b" ".join(line)])
 
 
+# A mode of rows, and the row of names with which its output begins.
+ROWS = ["--rows", "@id,@ply,@turn,@result"]
+HEADER = b"@id,@ply,@turn,@result\n"
+
+
 @dataclass(frozen=True)
 class Sound:
     """What a sound game without a result gives: the plies of its main line, its movetext as tokens, its event, and its other tags in the order of an export."""
@@ -567,8 +572,14 @@ class Sound:
         moves = [it for it in self.tokens if not it.endswith(b".") and it != b"*"]
         return b" ".join([b"%d@%d -" % (number, offset), *moves]) + b"\n"
 
+    def rows(self, number, offset):
+        """What the mode of rows prints of a game that starts as usual."""
+        return b"".join(b"%d@%d,%d,%c,*\n" % (number, offset, ply, b"wb"[ply % 2]) for ply in range(self.plies + 1))
+
     def answer(self, arguments, number, offset):
-        """What the output has of the game: with `--index`, `--list` or `--moves`, or of an export."""
+        """What the output has of the game: with `--index`, `--list`, `--moves` or rows, or of an export."""
+        if arguments[:1] in (ROWS[:1], tuple(ROWS[:1])):
+            return self.rows(number, offset)
         if "--index" in arguments:
             return b"%d@%d\n" % (number, offset)
         if "--moves" in arguments:
