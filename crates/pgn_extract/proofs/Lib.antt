@@ -7,6 +7,7 @@ pub mod ModeOutputs
 pub mod ExactEntries
 pub mod Exported
 pub mod FieldTexts
+pub mod PositionTexts
 pub mod ShownTexts
 pub mod Finds
 pub mod GameExport

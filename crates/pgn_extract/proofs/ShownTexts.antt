@@ -5,9 +5,13 @@ use Rattle.pgn_extract.proofs.Common.{◌∙◌, subst, MatchOption, slice_get, 
 use Rattle.pgn_extract.proofs.Common.{GameText, IsGameText, tag_in, heading_of, IsSan, Replay}
 use Rattle.pgn_extract.proofs.Common.{IsReplay, Lines, Aim, GameId, IsEntry}
 use Rattle.pgn_extract.proofs.Common.{AreListed, Entry, plies_of, fen_tag}
+use Rattle.chess.specs.Public.Placements.{AreOnBoard}
 use Rattle.chess.proofs.FenOneText.{one_fen, some_fen}
 use Rattle.chess.proofs.SanOnce.{one_san}
+use Rattle.pgn_game.proofs.AnAnswer.{start_on_board}
+use Rattle.pgn_game.proofs.OnBoard.{line_on_board}
 use Rattle.pgn_game.proofs.OneReplay.{same_value}
+use Rattle.pgn_game.specs.Public.MainLines.{main_words}
 use Rattle.pgn_text.specs.Public.Strings.{IsContents, value_of_sign}
 use Rattle.pgn_extract.specs.Public.Listing.{Shown, AfterPly, AsRow, IsShownBy, IsShownOf, is_bare}
 use Rattle.pgn_extract.specs.Public.Rows.{RowPlace, place_of, IsTagCell, IsPositionCell}
@@ -18,9 +22,12 @@ use Rattle.pgn_extract.specs.declared.rows.column.PlyColumn.{PlyColumn}
 use Rattle.pgn_extract.specs.declared.rows.column.PlyColumn.TheVariants.{Ply, OfPosition, Next}
 use Rattle.pgn_extract.specs.declared.rows.column.PositionColumn.{PositionColumn}
 use Rattle.pgn_extract.specs.declared.rows.column.PositionColumn.TheVariants.{Fen, Turn, Number}
+use Rattle.pgn_extract.specs.declared.rows.column.PositionColumn.TheVariants.{Men, Check, Material}
 use Rattle.pgn_extract.specs.declared.settings.EntryLine.{EntryLine}
 use Rattle.pgn_extract.specs.declared.settings.EntryLine.TheVariants.{Marked, InColumns}
 use Rattle.pgn_extract.proofs.Chosen.{shown_so}
+use Rattle.pgn_extract.proofs.PositionTexts.{one_men_text, some_men_text, one_check_text}
+use Rattle.pgn_extract.proofs.PositionTexts.{some_check_text}
 use Rattle.pgn_extract.proofs.FieldTexts.{one_text, some_fields, no_fields, some_position}
 use Rattle.pgn_extract.proofs.FieldTexts.{some_move_text}
 
@@ -36,6 +43,9 @@ one_of_position : (own : PositionColumn) (P : State) (x y : List ℕ) → IsPosi
 one_of_position Fen P x y first other = one_fen P x y first other
 one_of_position Turn P x y first other = first ∙ sym other
 one_of_position Number P x y first other = first ∙ sym other
+one_of_position Men P x y first other = one_men_text P x y first other
+one_of_position Check P x y first other = one_check_text P x y first other
+one_of_position Material P x y first other = first ∙ sym other
 
 one_move_cell : (move : Option Move) (replay : Replay) (ply : ℕ) (x y : List ℕ)
     → MatchOption move (x ≡ []) (λ m. IsAt replay ply (λ P. IsSan P m x))
@@ -90,10 +100,14 @@ some_tag_cell (Some own) good =
     let (signs, spells, each) = good own refl in
     (flat_map value_of_sign signs, (signs, record { spells = spells; each = each; gives = refl }))
 
-some_of_position : (own : PositionColumn) (P : State) → (cell : List ℕ) × IsPositionCell own P cell
-some_of_position Fen P = some_fen P
-some_of_position Turn P = (_, refl)
-some_of_position Number P = (_, refl)
+some_of_position : (own : PositionColumn) (P : State) → AreOnBoard P.men
+    → (cell : List ℕ) × IsPositionCell own P cell
+some_of_position Fen P on_board = some_fen P
+some_of_position Turn P on_board = (_, refl)
+some_of_position Number P on_board = (_, refl)
+some_of_position Men P on_board = some_men_text P
+some_of_position Check P on_board = some_check_text P on_board
+some_of_position Material P on_board = (_, refl)
 
 module _ (game : GameText) (good : IsGameText game) (lines : Lines) (replay : Replay)
     (is : IsReplay lines (tag_in fen_tag game.tags) game.elements replay) (ply : ℕ)
@@ -102,7 +116,10 @@ module _ (game : GameText) (good : IsGameText game) (lines : Lines) (replay : Re
   some_ply_cell Ply = (_, refl)
   some_ply_cell (OfPosition own) =
       let at = some_position replay.positions ply within in
-      let cell = some_of_position own at.0 in
+      let start = start_on_board (tag_in fen_tag game.tags) is.start is.is_start in
+      let on_board = line_on_board (main_words game.elements 0) is.start replay.positions
+      replay.played start is.line ply at.0 at.1 in
+      let cell = some_of_position own at.0 on_board in
       (cell.0, (at.0, at.1, cell.1))
   some_ply_cell Next = some_move_text lines (tag_in fen_tag game.tags) game.elements replay is ply
 

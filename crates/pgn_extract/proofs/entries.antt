@@ -6,4 +6,5 @@ pub mod PlainValues
 pub mod RowMaking
 pub mod RowTextFacts
 pub mod PlainTexts
+pub mod PlainCells
 pub mod LineMaking

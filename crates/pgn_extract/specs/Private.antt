@@ -1,6 +1,7 @@
 -- Private words: what the parts of a run do. No public contract cites them.
 pub mod ColumnLists
 pub mod RowTexts
+pub mod PositionSigns
 pub mod EntryRows
 pub mod Blockwise
 pub mod Finding

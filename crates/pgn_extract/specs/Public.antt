@@ -8,6 +8,7 @@ pub mod Csv
 pub mod Tsv
 pub mod Json
 pub mod Columns
+pub mod PositionCells
 pub mod Rows
 pub mod Listing
 pub mod GameReports

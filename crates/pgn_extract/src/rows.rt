@@ -4,4 +4,5 @@ pub(crate) mod csv;
 pub(crate) mod format;
 pub(crate) mod json;
 pub(crate) mod list;
+pub(crate) mod position;
 pub(crate) mod tsv;

@@ -34,10 +34,8 @@ use Rattle.pgn_game.specs.Public.PlayedLines.{IsNextText}
 use Rattle.pgn_game.specs.Public.Replays.{Replay}
 use Rattle.pgn_extract.specs.Private.Finding.{IsDashLeftOut}
 use Rattle.pgn_extract.specs.Public.Listing.{IsNextMove}
-use Rattle.pgn_extract.specs.Public.Rows.{IsPositionCell, IsMoveCell, IsAt}
+use Rattle.pgn_extract.specs.Public.Rows.{IsMoveCell, IsAt}
 use Rattle.pgn_extract.proofs.FieldTexts.{IsTextAt}
-use Rattle.pgn_extract.specs.declared.rows.column.PositionColumn.{PositionColumn}
-use Rattle.pgn_extract.specs.declared.rows.column.PositionColumn.TheVariants.{Fen, Turn, Number}
 
 -- Bytes.
 
@@ -49,10 +47,10 @@ pub high_byte : (b : ℕ) → 93 ≤ b → b < 128 → IsPlainByte b
 high_byte b low high =
     (omega arith, omega arith, λ is. omega arith, λ is. omega arith, λ is. omega arith)
 
-blank_byte : IsPlainByte 32
+pub blank_byte : IsPlainByte 32
 blank_byte = (omega arith, omega arith, λ is. omega arith, λ is. omega arith, λ is. omega arith)
 
-check_byte : (b : ℕ) → (b ≡ 43) ⊎ (b ≡ 35) → IsPlainByte b
+pub check_byte : (b : ℕ) → (b ≡ 43) ⊎ (b ≡ 35) → IsPlainByte b
 check_byte b (inl is) =
     (omega arith, omega arith, λ e. omega arith, λ e. omega arith, λ e. omega arith)
 check_byte b (inr is) =
@@ -78,7 +76,7 @@ digits_plain (b ∷ x) are =
 pub decimal_plain : (n : ℕ) → IsPlainValue (decimal n)
 decimal_plain n = digits_plain (decimal n) (decimal_digits n)
 
-kind_byte : (kind : Kind) → IsPlainByte (kind_letter kind)
+pub kind_byte : (kind : Kind) → IsPlainByte (kind_letter kind)
 kind_byte kind =
     let high = kind_high kind in let low = high.0 in let most = high.1 in
     low_byte (kind_letter kind) (omega arith) (omega arith)
@@ -291,7 +289,7 @@ dash_plain : (x : List ℕ) → IsPlainValue x → IsPlainValue (or_dash x)
 dash_plain [] plain = (low_byte 45 (omega arith) (omega arith), tt)
 dash_plain (b ∷ x) plain = plain
 
-side_plain : (side : Side) → IsPlainValue (side_text side)
+pub side_plain : (side : Side) → IsPlainValue (side_text side)
 side_plain White = (high_byte 119 (omega arith) (omega arith), tt)
 side_plain Black = (high_byte 98 (omega arith) (omega arith), tt)
 
@@ -300,7 +298,7 @@ square_or_dash : (men : Placement) (turn : Side) (square : Option Place)
 square_or_dash men turn None fits = (low_byte 45 (omega arith) (omega arith), tt)
 square_or_dash men turn (Some s) fits = square_plain s fits.on_board
 
-fen_plain : (P : State) (x : List ℕ) → IsSound P → IsFen P x → IsPlainValue x
+pub fen_plain : (P : State) (x : List ℕ) → IsSound P → IsFen P x → IsPlainValue x
 fen_plain P x sound fen =
     subst IsPlainValue (sym fen.text)
     (joined_plain 32 blank_byte
@@ -319,14 +317,6 @@ fen_plain P x sound fen =
         ),
       ),
     ))
-
--- so is what a column shows of a position
-pub position_plain : (own : PositionColumn) (P : State) (x : List ℕ) → IsSound P
-    → IsPositionCell own P x → IsPlainValue x
-position_plain Fen P x sound is = fen_plain P x sound is
-position_plain Turn P x sound is = subst IsPlainValue (sym is) (side_plain P.turn)
-position_plain Number P x sound is =
-    subst IsPlainValue (sym is) (decimal_plain P.fullmove_number)
 
 -- No move is written as a dash.
 

@@ -1,13 +1,17 @@
 -- Worked examples of rows: cells, strings and members as they are written, names and numbers.
-use Rattle.std.proofs.Common.{◌≡◌, ◌++◌, ℕ, List, [], ◌∷◌, true, false, refl}
+use Rattle.std.proofs.Common.{◌≡◌, ◌++◌, ℕ, List, [], ◌∷◌, true, false, inl, inr, refl}
 use Rattle.std.specs.Prelude.{codes, decimal, Option, Some, None}
 use Rattle.std.specs.List.{slice_get}
+use Rattle.chess.specs.Public.Fen.{IsFen}
+use Rattle.chess.specs.Public.Moves.{IsStalemate}
+use Rattle.chess.specs.Public.Positions.{State}
 use Rattle.pgn_game.specs.Public.Replays.{Replay}
 use Rattle.pgn_criteria.specs.Public.Meeting.{Heading}
 use Rattle.pgn_extract.specs.Public.Columns.{column_name, is_number_column}
 use Rattle.pgn_extract.specs.Public.Csv as csv
 use Rattle.pgn_extract.specs.Public.GivenMarks.{game_id}
 use Rattle.pgn_extract.specs.Public.Json as json
+use Rattle.pgn_extract.specs.Public.PositionCells.{IsMenText, IsCheckText, counted_letter}
 use Rattle.pgn_extract.specs.Public.Rows.{IsMoveCell, IsPlyCell, IsTagCell, game_cell}
 use Rattle.pgn_extract.specs.Public.Rows.{row_text}
 use Rattle.pgn_extract.specs.Public.Tsv as tsv
@@ -17,6 +21,7 @@ use Rattle.pgn_extract.specs.declared.rows.column.GameColumn.TheVariants.{File, 
 use Rattle.pgn_extract.specs.declared.rows.column.GameColumn.TheVariants.{Result}
 use Rattle.pgn_extract.specs.declared.rows.column.PlyColumn.TheVariants.{Ply, OfPosition, Next}
 use Rattle.pgn_extract.specs.declared.rows.column.PositionColumn.TheVariants.{Fen, Turn, Number}
+use Rattle.pgn_extract.specs.declared.rows.column.PositionColumn.TheVariants.{Men, Check, Material}
 
 plain_cell : csv.cell_text (codes "Tal") ≡ codes "Tal"
 plain_cell = refl
@@ -54,17 +59,23 @@ accent = refl
 names : column_name (OfGame File) ∷ column_name (OfGame Game) ∷ column_name (OfGame Offset)
     ∷ column_name (OfGame Id) ∷ column_name (OfGame Result) ∷ column_name (OfPly Ply)
     ∷ column_name (OfPly (OfPosition Fen)) ∷ column_name (OfPly (OfPosition Turn))
-    ∷ column_name (OfPly (OfPosition Number)) ∷ column_name (OfPly Next) ∷ []
+    ∷ column_name (OfPly (OfPosition Number)) ∷ column_name (OfPly Next)
+    ∷ column_name (OfPly (OfPosition Men)) ∷ column_name (OfPly (OfPosition Check))
+    ∷ column_name (OfPly (OfPosition Material)) ∷ []
     ≡ codes "@file" ∷ codes "@game" ∷ codes "@offset" ∷ codes "@id" ∷ codes "@result"
-    ∷ codes "@ply" ∷ codes "@fen" ∷ codes "@turn" ∷ codes "@number" ∷ codes "@next" ∷ []
+    ∷ codes "@ply" ∷ codes "@fen" ∷ codes "@turn" ∷ codes "@number" ∷ codes "@next"
+    ∷ codes "@placement" ∷ codes "@check" ∷ codes "@material" ∷ []
 names = refl
 
 numbers : is_number_column (OfGame File) ∷ is_number_column (OfGame Game)
     ∷ is_number_column (OfGame Offset) ∷ is_number_column (OfGame Id)
     ∷ is_number_column (OfGame Result) ∷ is_number_column (OfPly Ply)
     ∷ is_number_column (OfPly (OfPosition Fen)) ∷ is_number_column (OfPly (OfPosition Turn))
-    ∷ is_number_column (OfPly (OfPosition Number)) ∷ is_number_column (OfPly Next) ∷ []
-    ≡ false ∷ true ∷ true ∷ false ∷ false ∷ true ∷ false ∷ false ∷ true ∷ false ∷ []
+    ∷ is_number_column (OfPly (OfPosition Number)) ∷ is_number_column (OfPly Next)
+    ∷ is_number_column (OfPly (OfPosition Men)) ∷ is_number_column (OfPly (OfPosition Check))
+    ∷ is_number_column (OfPly (OfPosition Material)) ∷ []
+    ≡ false ∷ true ∷ true ∷ false ∷ false ∷ true ∷ false ∷ false ∷ true ∷ false ∷ false ∷ false
+    ∷ false ∷ []
 numbers = refl
 
 -- what columns show of the second game, which begins at the byte 22
@@ -97,3 +108,19 @@ two_formats : row_text Csv (OfPly Ply ∷ OfPly Next ∷ []) (codes "7" ∷ code
     ∷ row_text Tsv (OfPly Ply ∷ OfPly Next ∷ []) (codes "7" ∷ codes "e4" ∷ []) ∷ []
     ≡ codes "7,e4\n" ∷ codes "7\te4\n" ∷ []
 two_formats = refl
+
+-- letters of men: none, one, and two or more
+letters_of_men : counted_letter 81 0 ∷ counted_letter 81 1 ∷ counted_letter 80 8
+    ∷ counted_letter 82 10 ∷ []
+    ≡ [] ∷ codes "Q" ∷ (80 ∷ decimal 8) ∷ (82 ∷ decimal 10) ∷ []
+letters_of_men = refl
+
+-- no other sign stands for stalemate, and it stands for nothing else
+no_sign_of_stalemate : (P : State) → IsStalemate P → IsCheckText P [] → ⊥
+no_sign_of_stalemate P still (inl (also, is)) = cc
+no_sign_of_stalemate P still (inr (other, sign)) = other still
+
+-- the first field of a position's text in FEN
+two_kings : (P : State) → IsFen P (codes "k7/8/8/8/8/8/8/7K w - - 0 1")
+    → IsMenText P (codes "k7/8/8/8/8/8/8/7K")
+two_kings P is = (codes "k7/8/8/8/8/8/8/7K w - - 0 1", _, is, refl)

@@ -12,6 +12,7 @@ use Rattle.pgn_extract.specs.declared.rows.column.PlyColumn.{PlyColumn}
 use Rattle.pgn_extract.specs.declared.rows.column.PlyColumn.TheVariants.{Ply, OfPosition, Next}
 use Rattle.pgn_extract.specs.declared.rows.column.PositionColumn.{PositionColumn}
 use Rattle.pgn_extract.specs.declared.rows.column.PositionColumn.TheVariants.{Fen, Turn, Number}
+use Rattle.pgn_extract.specs.declared.rows.column.PositionColumn.TheVariants.{Men, Check, Material}
 use Rattle.pgn_extract.specs.declared.rows.column.Column.{Column}
 use Rattle.pgn_extract.specs.declared.rows.column.Column.TheVariants as column
 use Rattle.pgn_extract.specs.declared.rows.list.ColumnsError.{ColumnsError}
@@ -29,6 +30,9 @@ abbrev pub position_column_name : PositionColumn → List ℕ
 position_column_name Fen = codes "@fen"
 position_column_name Turn = codes "@turn"
 position_column_name Number = codes "@number"
+position_column_name Men = codes "@placement"
+position_column_name Check = codes "@check"
+position_column_name Material = codes "@material"
 
 abbrev pub ply_column_name : PlyColumn → List ℕ
 ply_column_name Ply = codes "@ply"
@@ -53,6 +57,9 @@ abbrev pub is_number_of_position : PositionColumn → Bool
 is_number_of_position Fen = false
 is_number_of_position Turn = false
 is_number_of_position Number = true
+is_number_of_position Men = false
+is_number_of_position Check = false
+is_number_of_position Material = false
 
 abbrev pub is_number_of_ply : PlyColumn → Bool
 is_number_of_ply Ply = true

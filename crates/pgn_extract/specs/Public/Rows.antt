@@ -14,6 +14,7 @@ use Rattle.pgn_extract.specs.Public.Columns.{column_name, is_number_column}
 use Rattle.pgn_extract.specs.Public.Csv as csv
 use Rattle.pgn_extract.specs.Public.Index.{mark}
 use Rattle.pgn_extract.specs.Public.Json.{Member, object_text}
+use Rattle.pgn_extract.specs.Public.PositionCells.{IsMenText, IsCheckText, material_text}
 use Rattle.pgn_extract.specs.Public.Tsv as tsv
 use Rattle.pgn_extract.specs.declared.marks.GameId.{GameId}
 use Rattle.pgn_extract.specs.declared.rows.column.Column.{Column}
@@ -27,6 +28,7 @@ use Rattle.pgn_extract.specs.declared.rows.column.PlyColumn.{PlyColumn}
 use Rattle.pgn_extract.specs.declared.rows.column.PlyColumn.TheVariants.{Ply, OfPosition, Next}
 use Rattle.pgn_extract.specs.declared.rows.column.PositionColumn.{PositionColumn}
 use Rattle.pgn_extract.specs.declared.rows.column.PositionColumn.TheVariants.{Fen, Turn, Number}
+use Rattle.pgn_extract.specs.declared.rows.column.PositionColumn.TheVariants.{Men, Check, Material}
 use Rattle.pgn_extract.specs.declared.rows.column.Row.{Row}
 
 -- what a row is made of: the name of the file where lines have one, the mark of the game, its
@@ -83,6 +85,9 @@ abbrev pub IsPositionCell : PositionColumn → State → List ℕ → Type 0
 IsPositionCell Fen position cell = IsFen position cell
 IsPositionCell Turn position cell = cell ≡ side_text position.turn
 IsPositionCell Number position cell = cell ≡ decimal position.fullmove_number
+IsPositionCell Men position cell = IsMenText position cell
+IsPositionCell Check position cell = IsCheckText position cell
+IsPositionCell Material position cell = cell ≡ material_text position.men
 
 -- what a column shows of the ply
 abbrev pub IsPlyCell : PlyColumn → Replay → ℕ → List ℕ → Type 0

@@ -180,8 +180,9 @@ const MODES: &[Choice] = &[
         "rows",
         Takes::Text("COLUMNS"),
         "A row for each position that --list has: names of\n\
-         tags, and @file @game @offset @id @ply @fen @turn\n\
-         @number @next @result, with commas between",
+         tags, and @file @game @offset @id @ply @fen @placement\n\
+         @turn @number @check @material @next @result, with\n\
+         commas between",
     ),
     choice!("csv", "With --rows, values with commas between [default]"),
     choice!("tsv", "With --rows, values with tabs between"),

@@ -18,8 +18,20 @@ use std::io::Write;
 use strsim::levenshtein;
 
 /// The names of the columns that are no tags.
-const OWN_NAMES: [&str; 10] = [
-    "@file", "@game", "@offset", "@id", "@ply", "@fen", "@turn", "@number", "@next", "@result",
+const OWN_NAMES: [&str; 13] = [
+    "@file",
+    "@game",
+    "@offset",
+    "@id",
+    "@ply",
+    "@fen",
+    "@placement",
+    "@turn",
+    "@number",
+    "@check",
+    "@material",
+    "@next",
+    "@result",
 ];
 
 /// Why the columns are refused: a line of the program, or one that names a column.

@@ -22,6 +22,7 @@ use crate::entries::line::Line;
 use crate::entries::sink::Sink;
 use crate::output::texts::{push_blank, push_number};
 use crate::rows::column::{PlyColumn, PositionColumn};
+use crate::rows::position::{check_sign, push_material, push_men};
 use crate::settings::Fields;
 use chess::Side;
 use pgn_criteria::Search;
@@ -138,6 +139,9 @@ pub(crate) fn push_position_value(
             Side::Black => text.extend_from_slice(b"b"),
         },
         PositionColumn::Number => push_number(text, position.number() as usize),
+        PositionColumn::Men => push_men(text, position),
+        PositionColumn::Check => text.extend_from_slice(check_sign(position)),
+        PositionColumn::Material => push_material(text, position),
     }
 }
 

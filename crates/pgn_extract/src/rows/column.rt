@@ -39,6 +39,12 @@ pub enum PositionColumn {
     Turn,
     /// The number of the move that is to be played.
     Number,
+    /// The men on the board, as the first field of its text in FEN.
+    Men,
+    /// The sign of a check, of mate or of stalemate; else empty.
+    Check,
+    /// How many men of each kind each side has.
+    Material,
 }
 
 /// What a column shows of a ply.
@@ -106,6 +112,9 @@ impl PositionColumn {
             PositionColumn::Fen => b"@fen",
             PositionColumn::Turn => b"@turn",
             PositionColumn::Number => b"@number",
+            PositionColumn::Men => b"@placement",
+            PositionColumn::Check => b"@check",
+            PositionColumn::Material => b"@material",
         }
     }
 
@@ -115,7 +124,11 @@ impl PositionColumn {
     {
         match self {
             PositionColumn::Number => true,
-            PositionColumn::Fen | PositionColumn::Turn => false,
+            PositionColumn::Fen
+            | PositionColumn::Turn
+            | PositionColumn::Men
+            | PositionColumn::Check
+            | PositionColumn::Material => false,
         }
     }
 }

@@ -71,6 +71,9 @@ fn position_column(name: &[u8]) -> Option<PositionColumn>
         b"@fen" => Some(PositionColumn::Fen),
         b"@turn" => Some(PositionColumn::Turn),
         b"@number" => Some(PositionColumn::Number),
+        b"@placement" => Some(PositionColumn::Men),
+        b"@check" => Some(PositionColumn::Check),
+        b"@material" => Some(PositionColumn::Material),
         _ => None,
     }
 }
@@ -125,25 +128,25 @@ fn is_tag_name(text: &[u8]) -> bool
     !text.is_empty() && are_name_bytes(text)
 }
 
-/// The text from the first comma on.
-fn from_comma(text: &[u8]) -> &[u8]
-    ensures { result.now ≡ after_run 44 text.now }
+/// The text from the first of these separators on.
+fn from_separator(text: &[u8], separator: u8) -> &[u8]
+    ensures { result.now ≡ after_run separator text.now }
 {
     let mut rest = text;
     while let [first, after @ ..] = rest
-        && *first != b','
+        && *first != separator
     {
         rest = after;
     }
     rest
 }
 
-/// The bytes before the first comma, and those from it on.
-fn split_run(text: &[u8]) -> (&[u8], &[u8])
-    ensures run { result.0.now ≡ run_of 44 text.now }
-    ensures rest { result.1.now ≡ after_run 44 text.now }
+/// The bytes before the first of these separators, and those from it on.
+pub(crate) fn split_run(text: &[u8], separator: u8) -> (&[u8], &[u8])
+    ensures run { result.0.now ≡ run_of separator text.now }
+    ensures rest { result.1.now ≡ after_run separator text.now }
 {
-    let rest = from_comma(text);
+    let rest = from_separator(text, separator);
     (&text[..text.len() - rest.len()], rest)
 }
 
@@ -152,7 +155,7 @@ fn next_name(text: &[u8]) -> (&[u8], Option<&[u8]>)
     ensures { MatchOption result.1 (parted_at 44 text.now ≡ result.0.now ∷ [])
         (λ rest. parted_at 44 text.now ≡ result.0.now ∷ parted_at 44 rest.now) }
 {
-    let (name, rest) = split_run(text);
+    let (name, rest) = split_run(text, b',');
     match rest {
         [_, after @ ..] => (name, Some(after)),
         [] => (name, None),

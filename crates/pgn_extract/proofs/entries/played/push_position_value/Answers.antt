@@ -1,8 +1,11 @@
 use Rattle.pgn_extract.proofs.Common.{◌++◌, decimal, refl, sym, ap, ◌∙◌, subst, on_ok_weaker}
 use Rattle.pgn_extract.specs.Public.Rows.{IsPositionCell}
 use Rattle.pgn_extract.specs.declared.rows.column.PositionColumn.{PositionColumn}
-use Rattle.pgn_extract.specs.declared.rows.column.PositionColumn.TheVariants.{Fen}
-use Rattle.pgn_extract.proofs.entries.PlainTexts.{position_plain, decimal_plain}
+use Rattle.pgn_extract.specs.declared.rows.column.PositionColumn.TheVariants.{Fen, Men, Check, Material}
+use Rattle.pgn_extract.specs.Public.PositionCells.{material_text}
+use Rattle.pgn_game.proofs.StartTexts.{on_ok_if}
+use Rattle.pgn_extract.proofs.entries.PlainCells.{position_plain}
+use Rattle.pgn_extract.proofs.entries.PlainTexts.{decimal_plain}
 use Rattle.pgn_extract.proofs.entries.played.push_position_value.Goals as goal
 
 pub returns-in_ok-extend_from_slice-in-Fen : goal.returns-in_ok-extend_from_slice-in-Fen
@@ -30,3 +33,44 @@ returns-in-Number c =
       items ∙ ap (λ n. old ++ decimal n) c.number.ensures,
     ))
     c.push_number.ensures
+
+pub returns-in-Men : goal.returns-in-Men
+returns-in-Men c =
+    let P = c.args.position.now in
+    on_ok_weaker c.push_men.result
+    (λ (men, is, items). (
+      men,
+      position_plain Men P men c.invariant.ensures is,
+      subst (λ (k : PositionColumn). IsPositionCell k P men) (sym c.in-Men.is) is,
+      items,
+    ))
+    c.push_men.ensures
+
+pub returns-in-Check : goal.returns-in-Check
+returns-in-Check c =
+    let P = c.args.position.now in
+    let sign = c.check_sign.result.now in
+    let is = c.check_sign.ensures in
+    on_ok_weaker c.extend_from_slice-in-Check.result
+    (λ items. (
+      sign,
+      position_plain Check P sign c.invariant.ensures is,
+      subst (λ (k : PositionColumn). IsPositionCell k P sign) (sym c.in-Check.is) is,
+      items,
+    ))
+    (on_ok_if c.extend_from_slice-in-Check.result c.extend_from_slice-in-Check.new.self.items
+    (c.args.text.now.items ++ sign) c.args.text.now.items
+    c.extend_from_slice-in-Check.ensures.items)
+
+pub returns-in-Material : goal.returns-in-Material
+returns-in-Material c =
+    let P = c.args.position.now in
+    let text = material_text P.men in
+    on_ok_weaker c.push_material.result
+    (λ items. (
+      text,
+      position_plain Material P text c.invariant.ensures refl,
+      subst (λ (k : PositionColumn). IsPositionCell k P text) (sym c.in-Material.is) refl,
+      items,
+    ))
+    c.push_material.ensures
