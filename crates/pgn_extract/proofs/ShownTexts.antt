@@ -20,6 +20,7 @@ use Rattle.pgn_extract.specs.declared.rows.column.Column.{Column}
 use Rattle.pgn_extract.specs.declared.rows.column.Column.TheVariants.{Tag, OfGame, OfPly}
 use Rattle.pgn_extract.specs.declared.rows.column.PlyColumn.{PlyColumn}
 use Rattle.pgn_extract.specs.declared.rows.column.PlyColumn.TheVariants.{Ply, OfPosition, Next}
+use Rattle.pgn_extract.specs.declared.rows.column.PlyColumn.TheVariants.{NextUci}
 use Rattle.pgn_extract.specs.declared.rows.column.PositionColumn.{PositionColumn}
 use Rattle.pgn_extract.specs.declared.rows.column.PositionColumn.TheVariants.{Fen, Turn, Number}
 use Rattle.pgn_extract.specs.declared.rows.column.PositionColumn.TheVariants.{Men, Check, Material}
@@ -62,6 +63,7 @@ one_ply_cell (OfPosition own) replay ply x y (P, here, is) (Q, there, of) =
     (subst (λ R. IsPositionCell own R y) (same_Some Q P (sym there ∙ here)) of)
 one_ply_cell Next replay ply x y first other =
     one_move_cell (slice_get replay.played ply) replay ply x y first other
+one_ply_cell NextUci replay ply x y first other = first ∙ sym other
 
 one_cell : (column : Column) (place : RowPlace) (x y : List ℕ) → IsCell column place x
     → IsCell column place y → x ≡ y
@@ -122,6 +124,7 @@ module _ (game : GameText) (good : IsGameText game) (lines : Lines) (replay : Re
       let cell = some_of_position own at.0 on_board in
       (cell.0, (at.0, at.1, cell.1))
   some_ply_cell Next = some_move_text lines (tag_in fen_tag game.tags) game.elements replay is ply
+  some_ply_cell NextUci = (_, refl)
 
   some_cell : (name : Option (List ℕ)) (id : GameId) (column : Column)
       → (cell : List ℕ) × IsCell column (place_of name id game replay ply) cell

@@ -7,4 +7,5 @@ pub mod RowMaking
 pub mod RowTextFacts
 pub mod PlainTexts
 pub mod PlainCells
+pub mod UciTexts
 pub mod LineMaking

@@ -6,3 +6,4 @@ pub(crate) mod json;
 pub(crate) mod list;
 pub(crate) mod position;
 pub(crate) mod tsv;
+pub(crate) mod uci;

@@ -22,9 +22,10 @@ use Rattle.pgn_criteria.proofs.OpeningFacts.{met_alike}
 use Rattle.pgn_extract.proofs.FieldTexts.{IsTextAt}
 use Rattle.pgn_extract.specs.Private.Lines.{ShowsValue, Where}
 use Rattle.pgn_extract.specs.Public.Listing.{IsShownOf}
-use Rattle.pgn_extract.specs.Public.Rows.{IsPlyCell, IsMoveCell, IsAt}
+use Rattle.pgn_extract.specs.Public.Rows.{IsPlyCell, IsMoveCell, IsAt, uci_cell}
 use Rattle.pgn_extract.specs.declared.rows.column.PlyColumn.{PlyColumn}
 use Rattle.pgn_extract.specs.declared.rows.column.PlyColumn.TheVariants.{Ply, OfPosition, Next}
+use Rattle.pgn_extract.specs.declared.rows.column.PlyColumn.TheVariants.{NextUci}
 
 -- replays with the same positions and moves meet the same criteria
 pub met_there : (criteria : Option (List Conditions)) (heading : Heading) (kept other : Replay)
@@ -181,6 +182,8 @@ value_alike Next kept other positions played ply value is =
     (λ m. (P : State) × (slice_get other.positions ply ≡ Some P) × IsSan P m value)) played
     (subst (λ ps. MatchOption (slice_get kept.played ply) (value ≡ [])
     (λ m. (P : State) × (slice_get ps ply ≡ Some P) × IsSan P m value)) positions is)
+value_alike NextUci kept other positions played ply value is =
+    is ∙ ap (λ ms. uci_cell (slice_get ms ply)) played
 
 pub shows_kept_value : (kept : Replay) (met : List Bool) (ply : ℕ) (own : PlyColumn)
     (value : List ℕ) → IsPlyCell own kept ply value

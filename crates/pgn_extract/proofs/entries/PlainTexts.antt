@@ -81,7 +81,7 @@ kind_byte kind =
     let high = kind_high kind in let low = high.0 in let most = high.1 in
     low_byte (kind_letter kind) (omega arith) (omega arith)
 
-square_plain : (s : Place) → IsOnBoard s → IsPlainValue (square_text s)
+pub square_plain : (s : Place) → IsOnBoard s → IsPlainValue (square_text s)
 square_plain s on =
     let a = on.file_low in let b = on.file_high in let c = on.rank_low in let d = on.rank_high in (
       high_byte (96 + s.file) (omega arith) (omega arith),
@@ -343,7 +343,7 @@ body_begins P m None Rook x (origin, by, is) = (82, _, is, omega arith)
 body_begins P m None Bishop x (origin, by, is) = (66, _, is, omega arith)
 body_begins P m None Knight x (origin, by, is) = (78, _, is, omega arith)
 
-no_dash : (P : State) (m : Move) (x : List ℕ) → IsSan P m x → x ≡ codes "-" → ⊥
+pub no_dash : (P : State) (m : Move) (x : List ℕ) → IsSan P m x → x ≡ codes "-" → ⊥
 no_dash P m x san dash =
     let (b, rest, begins, high) = body_begins P m m.castle san.man.kind san.body san.body_is in
     let same : 45 ≡ b = heads (sym dash ∙ san.text ∙ ap (λ t. t ++ san.mark) begins) in

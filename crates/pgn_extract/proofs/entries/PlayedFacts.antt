@@ -142,7 +142,7 @@ next_left P (word ∷ words) later more text (m, rest, others, later_is, more_is
       subst (λ k. IsSan P k text) (one_move P word own m also named) spells,
     )
 
-at_end : {A : Type 0} (before more : List A)
+pub at_end : {A : Type 0} (before more : List A)
     → slice_get (before ++ more) (length before) ≡ slice_get more 0
 at_end [] more = refl
 at_end (first ∷ before) more = at_end before more
@@ -291,7 +291,7 @@ shows_fields fields line asked shown here aim game before P at same replay own r
     ∙ ap (λ (Q : State). before ++ Q ∷ rest) at.here) shown here
 
 -- and so is the value of a column
-abbrev ShowsThere : PlayedLine → List Conditions → PlyColumn → List ℕ → Type 0
+abbrev pub ShowsThere : PlayedLine → List Conditions → PlyColumn → List ℕ → Type 0
 ShowsThere line asked column value =
     Where (λ aim game before P. IsPlayedWith line asked aim game before P)
     (ShowsValue column value)

@@ -20,6 +20,7 @@ use Rattle.pgn_extract.specs.declared.rows.column.Format.TheVariants.{Csv, Tsv, 
 use Rattle.pgn_extract.specs.declared.rows.column.GameColumn.TheVariants.{File, Game, Offset, Id}
 use Rattle.pgn_extract.specs.declared.rows.column.GameColumn.TheVariants.{Result}
 use Rattle.pgn_extract.specs.declared.rows.column.PlyColumn.TheVariants.{Ply, OfPosition, Next}
+use Rattle.pgn_extract.specs.declared.rows.column.PlyColumn.TheVariants.{NextUci}
 use Rattle.pgn_extract.specs.declared.rows.column.PositionColumn.TheVariants.{Fen, Turn, Number}
 use Rattle.pgn_extract.specs.declared.rows.column.PositionColumn.TheVariants.{Men, Check, Material}
 
@@ -61,10 +62,10 @@ names : column_name (OfGame File) ∷ column_name (OfGame Game) ∷ column_name 
     ∷ column_name (OfPly (OfPosition Fen)) ∷ column_name (OfPly (OfPosition Turn))
     ∷ column_name (OfPly (OfPosition Number)) ∷ column_name (OfPly Next)
     ∷ column_name (OfPly (OfPosition Men)) ∷ column_name (OfPly (OfPosition Check))
-    ∷ column_name (OfPly (OfPosition Material)) ∷ []
+    ∷ column_name (OfPly (OfPosition Material)) ∷ column_name (OfPly NextUci) ∷ []
     ≡ codes "@file" ∷ codes "@game" ∷ codes "@offset" ∷ codes "@id" ∷ codes "@result"
     ∷ codes "@ply" ∷ codes "@fen" ∷ codes "@turn" ∷ codes "@number" ∷ codes "@next"
-    ∷ codes "@placement" ∷ codes "@check" ∷ codes "@material" ∷ []
+    ∷ codes "@placement" ∷ codes "@check" ∷ codes "@material" ∷ codes "@next-uci" ∷ []
 names = refl
 
 numbers : is_number_column (OfGame File) ∷ is_number_column (OfGame Game)
@@ -73,9 +74,9 @@ numbers : is_number_column (OfGame File) ∷ is_number_column (OfGame Game)
     ∷ is_number_column (OfPly (OfPosition Fen)) ∷ is_number_column (OfPly (OfPosition Turn))
     ∷ is_number_column (OfPly (OfPosition Number)) ∷ is_number_column (OfPly Next)
     ∷ is_number_column (OfPly (OfPosition Men)) ∷ is_number_column (OfPly (OfPosition Check))
-    ∷ is_number_column (OfPly (OfPosition Material)) ∷ []
+    ∷ is_number_column (OfPly (OfPosition Material)) ∷ is_number_column (OfPly NextUci) ∷ []
     ≡ false ∷ true ∷ true ∷ false ∷ false ∷ true ∷ false ∷ false ∷ true ∷ false ∷ false ∷ false
-    ∷ false ∷ []
+    ∷ false ∷ false ∷ []
 numbers = refl
 
 -- what columns show of the second game, which begins at the byte 22
@@ -94,6 +95,11 @@ no_value_of_no_tag is = cc
 no_move_at_the_end : (replay : Replay) (ply : ℕ) → slice_get replay.played ply ≡ None
     → IsMoveCell replay ply (codes "-") → ⊥
 no_move_at_the_end replay ply ends is = let none : codes "-" ≡ [] = rw ends at is in cc
+
+no_uci_at_the_end : (replay : Replay) (ply : ℕ) → slice_get replay.played ply ≡ None
+    → IsPlyCell NextUci replay ply (codes "e2e4") → ⊥
+no_uci_at_the_end replay ply ends is =
+    let none : codes "e2e4" ≡ [] = rw ends at is in cc
 
 the_ply : (replay : Replay) → IsPlyCell Ply replay 3 (decimal 3)
 the_ply replay = refl

@@ -5,10 +5,12 @@ use Rattle.std.specs.Prelude.{length}
 use Rattle.std.specs.Prelude.{Option, IsTrue, codes}
 use Rattle.chess.specs.Public.Fen.{IsFen}
 use Rattle.chess.specs.Public.Positions.{State}
+use Rattle.chess.specs.Public.San.{IsOnlyNamed}
 use Rattle.chess.specs.declared.moves.Move.{Move}
 use Rattle.pgn_text.specs.Public.GameTexts.{GameText, tag_in}
 use Rattle.pgn_text.specs.Public.Games.{Item}
 use Rattle.pgn_game.specs.Public.Faults.{Fault, IsMoveFault, IsFault}
+use Rattle.pgn_game.specs.Public.GameLines.{uci_text}
 use Rattle.pgn_game.specs.Public.MainLines.{main_words, IsMainLine}
 use Rattle.pgn_game.specs.Public.PlayedLines.{PlayedLine, IsNextText}
 use Rattle.pgn_game.specs.Public.Replays.{Replay, IsReplay, IsSomeReplay, IsSoundGame}
@@ -57,6 +59,11 @@ IsDashLeftOut text value = ((text ≡ codes "-") × (value ≡ []))
 abbrev pub IsNextValue : PlayedLine → List ℕ → Type 0
 IsNextValue line value =
     (text : List ℕ) × IsNextText line.position line.words text × IsDashLeftOut text value
+
+-- the move that the first of the words names as `--uci` writes it, and nothing where none is left
+abbrev pub IsNextUci : State → List (List ℕ) → List ℕ → Type 0
+IsNextUci now [] value = value ≡ []
+IsNextUci now (word ∷ words) value = (m : Move) × IsOnlyNamed now word m × (value ≡ uci_text m)
 
 -- what is shown where the line stands
 abbrev pub ShowsHere : Fields → PlayedLine → List ℕ → Type 0

@@ -10,6 +10,7 @@ use Rattle.pgn_extract.specs.declared.rows.column.GameColumn.TheVariants.{File, 
 use Rattle.pgn_extract.specs.declared.rows.column.GameColumn.TheVariants.{Result}
 use Rattle.pgn_extract.specs.declared.rows.column.PlyColumn.{PlyColumn}
 use Rattle.pgn_extract.specs.declared.rows.column.PlyColumn.TheVariants.{Ply, OfPosition, Next}
+use Rattle.pgn_extract.specs.declared.rows.column.PlyColumn.TheVariants.{NextUci}
 use Rattle.pgn_extract.specs.declared.rows.column.PositionColumn.{PositionColumn}
 use Rattle.pgn_extract.specs.declared.rows.column.PositionColumn.TheVariants.{Fen, Turn, Number}
 use Rattle.pgn_extract.specs.declared.rows.column.PositionColumn.TheVariants.{Men, Check, Material}
@@ -38,6 +39,7 @@ abbrev pub ply_column_name : PlyColumn → List ℕ
 ply_column_name Ply = codes "@ply"
 ply_column_name (OfPosition own) = position_column_name own
 ply_column_name Next = codes "@next"
+ply_column_name NextUci = codes "@next-uci"
 
 -- the name of a column, as the header and the names of members show it
 abbrev pub column_name : Column → List ℕ
@@ -65,6 +67,7 @@ abbrev pub is_number_of_ply : PlyColumn → Bool
 is_number_of_ply Ply = true
 is_number_of_ply (OfPosition own) = is_number_of_position own
 is_number_of_ply Next = false
+is_number_of_ply NextUci = false
 
 abbrev pub is_number_column : Column → Bool
 is_number_column (column.Tag name) = false

@@ -5,8 +5,10 @@ use Rattle.std.specs.List.{slice_get}
 use Rattle.chess.specs.Public.Fen.{IsFen, side_text}
 use Rattle.chess.specs.Public.Positions.{State}
 use Rattle.chess.specs.Public.San.{IsSan}
+use Rattle.chess.specs.declared.moves.Move.{Move}
 use Rattle.pgn_text.specs.Public.GameTexts.{GameText}
 use Rattle.pgn_text.specs.Public.Games.{Item}
+use Rattle.pgn_game.specs.Public.GameLines.{uci_text}
 use Rattle.pgn_game.specs.Public.Replays.{Replay}
 use Rattle.pgn_game.specs.Public.Starts.{IsValueOf}
 use Rattle.pgn_criteria.specs.Public.Meeting.{Heading, heading_of}
@@ -26,6 +28,7 @@ use Rattle.pgn_extract.specs.declared.rows.column.GameColumn.TheVariants.{File, 
 use Rattle.pgn_extract.specs.declared.rows.column.GameColumn.TheVariants.{Result}
 use Rattle.pgn_extract.specs.declared.rows.column.PlyColumn.{PlyColumn}
 use Rattle.pgn_extract.specs.declared.rows.column.PlyColumn.TheVariants.{Ply, OfPosition, Next}
+use Rattle.pgn_extract.specs.declared.rows.column.PlyColumn.TheVariants.{NextUci}
 use Rattle.pgn_extract.specs.declared.rows.column.PositionColumn.{PositionColumn}
 use Rattle.pgn_extract.specs.declared.rows.column.PositionColumn.TheVariants.{Fen, Turn, Number}
 use Rattle.pgn_extract.specs.declared.rows.column.PositionColumn.TheVariants.{Men, Check, Material}
@@ -80,6 +83,11 @@ IsMoveCell replay ply cell =
     MatchOption (slice_get replay.played ply) (cell ≡ [])
     (λ m. IsAt replay ply (λ position. IsSan position m cell))
 
+-- that move as `--uci` writes it
+abbrev pub uci_cell : Option Move → List ℕ
+uci_cell None = []
+uci_cell (Some m) = uci_text m
+
 -- what a column shows of a position
 abbrev pub IsPositionCell : PositionColumn → State → List ℕ → Type 0
 IsPositionCell Fen position cell = IsFen position cell
@@ -95,6 +103,7 @@ IsPlyCell Ply replay ply cell = cell ≡ decimal ply
 IsPlyCell (OfPosition own) replay ply cell =
     IsAt replay ply (λ position. IsPositionCell own position cell)
 IsPlyCell Next replay ply cell = IsMoveCell replay ply cell
+IsPlyCell NextUci replay ply cell = cell ≡ uci_cell (slice_get replay.played ply)
 
 -- the cell of a column
 abbrev pub IsCell : Column → RowPlace → List ℕ → Type 0

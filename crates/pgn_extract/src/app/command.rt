@@ -181,8 +181,8 @@ const MODES: &[Choice] = &[
         Takes::Text("COLUMNS"),
         "A row for each position that --list has: names of\n\
          tags, and @file @game @offset @id @ply @fen @placement\n\
-         @turn @number @check @material @next @result, with\n\
-         commas between",
+         @turn @number @check @material @next @next-uci\n\
+         @result, with commas between",
     ),
     choice!("csv", "With --rows, values with commas between [default]"),
     choice!("tsv", "With --rows, values with tabs between"),

@@ -18,7 +18,7 @@ use std::io::Write;
 use strsim::levenshtein;
 
 /// The names of the columns that are no tags.
-const OWN_NAMES: [&str; 13] = [
+const OWN_NAMES: [&str; 14] = [
     "@file",
     "@game",
     "@offset",
@@ -31,6 +31,7 @@ const OWN_NAMES: [&str; 13] = [
     "@check",
     "@material",
     "@next",
+    "@next-uci",
     "@result",
 ];
 

@@ -14,12 +14,14 @@ ghost use Rattle.pgn_extract.specs.Private.Finding.{IsChosen};
 ghost use Rattle.pgn_extract.specs.Private.KeptLines.{IsKeptWith};
 ghost use Rattle.pgn_extract.specs.Public.Listing.{IsNextField};
 ghost use Rattle.pgn_extract.specs.Private.RowTexts.{IsPlainValue};
-ghost use Rattle.pgn_extract.specs.Public.Rows.{IsMoveCell};
+ghost use Rattle.pgn_extract.specs.Public.Rows.{IsMoveCell, uci_cell};
+ghost use Rattle.std.specs.List.{slice_get};
 
 use crate::entries::line::Line;
 use crate::entries::played::{push_fen, push_position_value};
 use crate::output::texts::push_number;
 use crate::rows::column::PlyColumn;
+use crate::rows::uci::push_uci;
 use crate::settings::{Fields, Settings};
 use chess::san;
 use pgn_criteria::Criteria;
@@ -67,6 +69,21 @@ fn push_played_value(text: &mut Vec<u8>, replayed: &Replayed, ply: usize) -> Res
     position.invariant();
     text.extend_from_slice(san(position, replayed.played(ply)).as_bytes())?;
     Ok(())
+}
+
+/// Appends the move that is played after so many plies as `--uci` writes it, and nothing where none
+/// is.
+fn push_played_uci(text: &mut Vec<u8>, replayed: &Replayed, ply: usize) -> Result<(), AllocError>
+    requires within { ply ≤ length replayed.now.played }
+    requires legal { (start : State) × IsLegalLine start replayed.now }
+    ensures { OnOk result ((value : List ℕ) × IsPlainValue value
+        × (value ≡ uci_cell (slice_get replayed.now.played ply))
+        × (text.new.items ≡ text.old.items ++ value)) }
+{
+    if ply == replayed.plies() {
+        return Ok(());
+    }
+    push_uci(text, replayed.played(ply))
 }
 
 /// A main line that is kept, with what is known of each of its positions: whether it is met.
@@ -139,6 +156,7 @@ impl Line for Kept {
                 push_position_value(text, self.replayed.position(self.ply), own)
             }
             PlyColumn::Next => push_played_value(text, &self.replayed, self.ply),
+            PlyColumn::NextUci => push_played_uci(text, &self.replayed, self.ply),
         }
     }
 

@@ -2,6 +2,8 @@
 ghost use Rattle.std.specs.Prelude.{◌≡◌, ◌↔◌, ◌++◌, ℕ, List, false, Option, IsTrue, IfErr, IfSome};
 ghost use Rattle.std.specs.Prelude.{◌≤◌, OnOk, codes, length};
 ghost use Rattle.std.proofs.Common.{ap};
+ghost use Rattle.chess.specs.Public.San.{IsOnlyNamed};
+ghost use Rattle.chess.specs.declared.moves.Move.{Move};
 ghost use Rattle.pgn_text.specs.Public.GameTexts.{tag_in};
 ghost use Rattle.pgn_game.specs.Public.Faults.{IsFault};
 ghost use Rattle.pgn_game.specs.Public.Starts.{fen_tag};
@@ -12,7 +14,7 @@ ghost use Rattle.pgn_criteria.specs.Public.Meeting.{Heading, SomeHold};
 ghost use Rattle.pgn_criteria.specs.Public.Conditions.{Conditions};
 ghost use Rattle.pgn_game.specs.Public.Replays.{Replay, fault_of};
 ghost use Rattle.pgn_extract.specs.Private.Finding.{AsksFor, StopsInLine, ShowsPosition, ShowsNext};
-ghost use Rattle.pgn_extract.specs.Private.Finding.{IsDashLeftOut, IsNextValue};
+ghost use Rattle.pgn_extract.specs.Private.Finding.{IsDashLeftOut, IsNextValue, IsNextUci};
 ghost use Rattle.pgn_extract.specs.Private.RowTexts.{IsPlainValue};
 ghost use Rattle.pgn_extract.specs.Public.Rows.{IsPositionCell};
 ghost use Rattle.pgn_extract.specs.Private.PlayedLines.{IsPlayedWith};
@@ -23,8 +25,9 @@ use crate::entries::sink::Sink;
 use crate::output::texts::{push_blank, push_number};
 use crate::rows::column::{PlyColumn, PositionColumn};
 use crate::rows::position::{check_sign, push_material, push_men};
+use crate::rows::uci::push_uci;
 use crate::settings::Fields;
-use chess::Side;
+use chess::{Move, Side, resolve};
 use pgn_criteria::Search;
 use pgn_game::{GameFault, GamePosition, MainLine};
 use pgn_text::RawGame;
@@ -179,6 +182,39 @@ fn push_next_value<'a>(text: &mut Vec<u8>, line: &MainLine<'_, 'a>) -> Result<()
     Ok(())
 }
 
+/// The move of which this is the text.
+fn move_of(position: &GamePosition, text: &[u8]) -> Move
+    requires { (m : Move) × IsOnlyNamed position.now text.now m }
+    ensures { IsOnlyNamed position.now text.now result }
+{
+    match resolve(position, text) {
+        Ok(m) => m,
+        Err(_) => unreachable!(),
+    }
+}
+
+/// Appends the next move as `--uci` writes it, and nothing where there is none. A move that cannot
+/// be played is answered as a fault.
+fn push_next_uci<'a>(text: &mut Vec<u8>, line: &MainLine<'_, 'a>) -> Result<(), GameFault<'a>>
+    ensures shown { OnOk result ((value : List ℕ) × IsPlainValue value
+        × IsNextUci line.now.position line.now.words value
+        × (text.new.items ≡ text.old.items ++ value)) }
+    ensures fault { IfErr result (λ fault.
+        IfSome (fault_of fault) (StopsInLine line.now text.old.items text.new.items)) }
+{
+    line.position().invariant();
+    let from = text.len();
+    line.push_next(text)?;
+    if is_dash(&text[from..]) {
+        text.truncate(from);
+        return Ok(());
+    }
+    let m = move_of(line.position(), &text[from..]);
+    text.truncate(from);
+    push_uci(text, m)?;
+    Ok(())
+}
+
 /// A main line while it is played.
 #[derive(Drop)]
 pub(crate) struct Played<'g, 'a, Q: Question> {
@@ -225,6 +261,7 @@ impl<'g, 'a, Q: Question> Line for Played<'g, 'a, Q> {
                 Ok(())
             }
             PlyColumn::Next => push_next_value(text, &self.line),
+            PlyColumn::NextUci => push_next_uci(text, &self.line),
         }
     }
 

@@ -56,6 +56,8 @@ pub enum PlyColumn {
     OfPosition(PositionColumn),
     /// The move that is played from there; empty at the end.
     Next,
+    /// That move as `--uci` writes it.
+    NextUci,
 }
 
 /// What a column shows.
@@ -142,6 +144,7 @@ impl PlyColumn {
             PlyColumn::Ply => b"@ply",
             PlyColumn::OfPosition(own) => own.name(),
             PlyColumn::Next => b"@next",
+            PlyColumn::NextUci => b"@next-uci",
         }
     }
 
@@ -152,7 +155,7 @@ impl PlyColumn {
         match self {
             PlyColumn::Ply => true,
             PlyColumn::OfPosition(own) => own.is_number(),
-            PlyColumn::Next => false,
+            PlyColumn::Next | PlyColumn::NextUci => false,
         }
     }
 }

@@ -87,6 +87,7 @@ fn ply_column(name: &[u8]) -> Option<PlyColumn>
     match name {
         b"@ply" => Some(PlyColumn::Ply),
         b"@next" => Some(PlyColumn::Next),
+        b"@next-uci" => Some(PlyColumn::NextUci),
         _ => match position_column(name) {
             Some(own) => Some(PlyColumn::OfPosition(own)),
             None => None,

@@ -3,6 +3,7 @@ use Rattle.pgn_extract.proofs.Common.{on_ok_weaker}
 use Rattle.pgn_extract.specs.Private.Lines.{ShowsValue}
 use Rattle.pgn_extract.specs.declared.rows.column.PlyColumn.{PlyColumn}
 use Rattle.pgn_extract.specs.declared.rows.column.PlyColumn.TheVariants.{Ply, OfPosition, Next}
+use Rattle.pgn_extract.specs.declared.rows.column.PlyColumn.TheVariants.{NextUci}
 use Rattle.pgn_extract.proofs.entries.KeptLines.{shows_kept_value}
 use Rattle.pgn_extract.proofs.entries.PlainTexts.{decimal_plain}
 use Rattle.pgn_extract.proofs.entries.kept.KeptLine.push_value.Goals as goal
@@ -55,3 +56,19 @@ returns-in-Next-clause-shown c =
       items,
     ))
     c.push_played_value.ensures
+
+pub returns-in-NextUci-clause-shown : goal.returns-in-NextUci-clause-shown
+returns-in-NextUci-clause-shown c =
+    let kept = c.args.self.now.replayed in
+    let met = c.args.self.now.met.items in
+    let ply = c.args.self.now.ply in
+    on_ok_weaker c.push_played_uci.result
+    (λ (value, plain, is, items). (
+      value,
+      plain,
+      λ aim game before P at. subst (λ (k : PlyColumn). ShowsValue k value aim game before P)
+          (sym c.in-NextUci.is)
+          (shows_kept_value kept met ply NextUci value is aim game before P at),
+      items,
+    ))
+    c.push_played_uci.ensures

@@ -6,6 +6,7 @@ use Rattle.pgn_extract.specs.Public.Rows.{IsPositionCell}
 use Rattle.pgn_extract.specs.declared.rows.column.PlyColumn.{PlyColumn}
 use Rattle.pgn_extract.proofs.entries.PlainTexts.{decimal_plain}
 use Rattle.pgn_extract.proofs.entries.PlayedFacts.{shows_ply, shows_position, shows_next, fails_at}
+use Rattle.pgn_extract.proofs.entries.UciTexts.{shows_next_uci}
 use Rattle.pgn_extract.proofs.entries.played.PlayedLine.push_value.Goals as goal
 
 pub returns-in_ok-push_number-in-Ply-clause-shown :
@@ -60,3 +61,26 @@ returns-in-Next-clause-fault g c =
     MatchResult-weaker c.push_next_value.result c.push_next_value.ensures.fault (λ done none. tt)
     (λ fault met. IfSome_then _ met
     (fails_at line asked old [] old c.push_next_value.new.text.items (sym (append-nil old))))
+
+pub returns-in-NextUci-clause-shown : goal.returns-in-NextUci-clause-shown
+returns-in-NextUci-clause-shown g c =
+    let line = c.args.self.now.line in
+    let asked = g.Q.Question.asked c.args.self.now.question in
+    on_ok_weaker c.push_next_uci.result
+    (λ (value, plain, is, items). (
+      value,
+      plain,
+      λ aim game before P at. subst (λ (k : PlyColumn). ShowsValue k value aim game before P)
+          (sym c.in-NextUci.is) (shows_next_uci line asked value is aim game before P at),
+      items,
+    ))
+    c.push_next_uci.ensures.shown
+
+pub returns-in-NextUci-clause-fault : goal.returns-in-NextUci-clause-fault
+returns-in-NextUci-clause-fault g c =
+    let line = c.args.self.now.line in
+    let asked = g.Q.Question.asked c.args.self.now.question in
+    let old = c.args.text.now.items in
+    MatchResult-weaker c.push_next_uci.result c.push_next_uci.ensures.fault (λ done none. tt)
+    (λ fault met. IfSome_then _ met
+    (fails_at line asked old [] old c.push_next_uci.new.text.items (sym (append-nil old))))
