@@ -24,7 +24,7 @@ abbrev pub IsCheckText : State → List ℕ → Type 0
 IsCheckText P text = (IsStalemate P × (text ≡ codes "="))
     ⊎ ((¬ IsStalemate P) × IsCheckSign P text)
 
--- the letter of so many men of a kind, with their number behind it where there are two or more
+-- the letter of so many men of a kind, with their number after it where there are two or more
 abbrev pub counted_letter : ℕ → ℕ → List ℕ
 counted_letter letter count = if count == 0 then []
     else letter ∷ (if count == 1 then [] else decimal count)

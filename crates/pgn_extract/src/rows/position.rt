@@ -38,7 +38,7 @@ pub(crate) fn check_sign(position: &GamePosition) -> &'static [u8]
     sign_of(position.in_check(), position.has_move())
 }
 
-/// Appends the letter of so many men of a kind, with their number behind it where there are two or
+/// Appends the letter of so many men of a kind, with their number after it where there are two or
 /// more.
 fn push_counted(text: &mut Vec<u8>, letter: u8, count: u32) -> Result<(), AllocError>
     ensures { OnOk result (text.new.items ≡ text.old.items ++ counted_letter letter count) }

@@ -1,7 +1,8 @@
 use Rattle.pgn_extract.proofs.Common.{◌++◌, decimal, refl, sym, ap, ◌∙◌, subst, on_ok_weaker}
 use Rattle.pgn_extract.specs.Public.Rows.{IsPositionCell}
 use Rattle.pgn_extract.specs.declared.rows.column.PositionColumn.{PositionColumn}
-use Rattle.pgn_extract.specs.declared.rows.column.PositionColumn.TheVariants.{Fen, Men, Check, Material}
+use Rattle.pgn_extract.specs.declared.rows.column.PositionColumn.TheVariants.{Fen, Men, Check}
+use Rattle.pgn_extract.specs.declared.rows.column.PositionColumn.TheVariants.{Material}
 use Rattle.pgn_extract.specs.Public.PositionCells.{material_text}
 use Rattle.pgn_game.proofs.StartTexts.{on_ok_if}
 use Rattle.pgn_extract.proofs.entries.PlainCells.{position_plain}
