@@ -19,8 +19,8 @@ pub use Rattle.pgn_extract.specs.Private.Blockwise.{NamesBlockStop, Passes, Repo
 pub use Rattle.pgn_extract.specs.Private.Blockwise.{StopsIn, WritesBlock, by_itself, id_at}
 pub use Rattle.pgn_extract.specs.Private.Blockwise.{lines_from, too_long_piece}
 pub use Rattle.pgn_extract.specs.Private.EntryRows.{AreEntryRows, AreGameEntries, ArePieceEntries}
-pub use Rattle.pgn_extract.specs.Private.Finding.{AddsEntries, AsksFor, IsOfGame, ShowsNext}
-pub use Rattle.pgn_extract.specs.Private.Finding.{ShowsPosition, StopsAtFault, named_mark}
+pub use Rattle.pgn_extract.specs.Private.Finding.{AddsEntries, AsksFor, IsOfGame}
+pub use Rattle.pgn_extract.specs.Private.Finding.{StopsAtFault, named_mark}
 pub use Rattle.pgn_extract.specs.Private.Lines.{Fails, GoesTo, HandsOn, HasFault, IsNeverMet}
 pub use Rattle.pgn_extract.specs.Private.Lines.{MeetsHere, NoneAfter, NoneBefore, ShowsFields}
 pub use Rattle.pgn_extract.specs.Private.Lines.{Stands, Where, aim_with, marked_lines, or_some}

@@ -8,6 +8,7 @@ pub mod ExactEntries
 pub mod Exported
 pub mod FieldTexts
 pub mod PositionTexts
+pub mod MoveCells
 pub mod ShownTexts
 pub mod Finds
 pub mod GameExport

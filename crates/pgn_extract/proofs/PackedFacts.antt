@@ -1,6 +1,9 @@
 -- What is known of the games that have a record.
 use Rattle.std.specs.Prelude.{◌==◌, ◌/◌, ◌%◌}
-use Rattle.pgn_extract.proofs.Common.{◌≡◌, ◌⊎◌, ℕ, ◌+◌, ◌*◌, inl, inr, List, [], ◌∷◌, ◌++◌, length}
+use Rattle.pgn_extract.proofs.Common.{◌≡◌, ◌⊎◌, ℕ, ◌+◌, ◌*◌, ◌<◌, inl, inr, List, [], ◌∷◌}
+use Rattle.pgn_extract.proofs.Common.{◌++◌, length, false, IsTrue, or_some, false≢true, decimal}
+use Rattle.pgn_extract.proofs.Common.{length-append, GameId, Option, AreChosen, plies_of, none}
+use Rattle.pgn_extract.proofs.Common.{keep, leave, Bool, not, ◌&&◌, refl, aim_of}
 use Rattle.pgn_extract.proofs.Common.{Some, sym, ap, ◌∙◌, subst, append-nil, arith, slice_get}
 use Rattle.pgn_extract.proofs.Common.{same_Some, State, Move, GameText, tag_in, main_words}
 use Rattle.pgn_extract.proofs.Common.{IsMainLine, RawRecord, raw_of, PackedGame, FitsRecord}
@@ -13,9 +16,14 @@ use Rattle.pgn_extract.proofs.Common.{true, AreRecordLines, IsOfNoGame, IsRecord
 use Rattle.pgn_game.proofs.RecordFacts.{plies_size}
 use Rattle.pgn_game.proofs.RecordWriting.{codes_count}
 use Rattle.pgn_extract.specs.Private.Packed.{PutsRecord, HasItsMarks, Grows, ListsRecord}
-use Rattle.pgn_extract.specs.Public.Listing.{IsShownOf, is_bare}
-use Rattle.pgn_extract.proofs.ShownTexts.{listed_bare}
-use Rattle.pgn_extract.proofs.Finds.{adds_lines}
+use Rattle.pgn_extract.specs.Private.Packed.{HasNoEntry, bare_aim}
+use Rattle.pgn_extract.specs.Public.Listing.{IsShownOf, IsShownBy, Shown, AfterPly, AsRow, is_bare}
+use Rattle.pgn_extract.specs.Public.Rows.{RowPlace, place_of}
+use Rattle.pgn_extract.specs.declared.settings.EntryLine.{EntryLine}
+use Rattle.pgn_extract.specs.declared.settings.EntryLine.TheVariants.{Marked, InColumns}
+use Rattle.pgn_extract.specs.declared.settings.Fields.{Fields}
+use Rattle.pgn_extract.specs.declared.settings.Settings.{Settings}
+use Rattle.pgn_extract.proofs.Finds.{adds_lines, some_chosen}
 use Rattle.pgn_extract.proofs.Picks.{leaves_all}
 use Rattle.pgn_extract.specs.declared.settings.Mode.TheVariants as modes
 
@@ -75,11 +83,10 @@ module _ {raw : RawRecord} {game : GameText} {replay : Replay} {packed : PackedG
 
 -- the entries that are handed on as lines are those of the record
 pub lists_record : (aim : Aim) (raw : RawRecord) (mark old new : List ℕ)
-    → is_bare aim.line ≡ true
     → mark ≡ named_mark raw.name (raw_id raw) → Grows old new
     → EachOfRecord raw (λ game replay packed. HandsOn (record_aim aim raw) (raw_id raw) game
     (λ got. new ≡ old ++ marked_lines mark got)) → ListsRecord aim raw old new
-lists_record aim raw mark old new bare marked grows hands = (
+lists_record aim raw mark old new marked grows hands = (
   grows,
   λ game replay packed own.
       let (other, is, entries, listed, added) =
@@ -88,26 +95,99 @@ lists_record aim raw mark old new bare marked grows hands = (
       let same : other ≡ replay =
       one_replay Main (tag_in fen_tag game.tags) game.elements other replay is own.is_replay in (
         entries,
-        subst (λ r. AreListed aim (raw_id raw) game r entries) same
-            (listed_bare aim raw.name (raw_id raw) game other entries bare listed),
+        subst (λ r. AreListed (record_aim aim raw) (raw_id raw) game r entries) same listed,
         added,
       ),
 )
 
--- where no ply is wanted nothing is added
-pub lists_none : (aim : Aim) (raw : RawRecord) (text : List ℕ) → NoneInRecord aim raw
+-- the text of an entry after a mark and a ply is never empty
+abbrev IsMarkedText : Shown → Type 0
+IsMarkedText (AfterPly text) = Unit {0}
+IsMarkedText (AsRow text) = ⊥
+
+is_marked : (line : EntryLine) (fields : Fields) → line ≡ Marked fields → (place : RowPlace)
+    (shown : Shown) → IsShownBy line place shown → IsMarkedText shown
+is_marked line fields is place shown shows =
+    let (text, are, after) = subst (λ (l : EntryLine). IsShownBy l place shown) is shows in
+    subst IsMarkedText (sym after) tt
+
+some_line : (own ply text rest : List ℕ) → own ++ 32 ∷ ply ++ text ++ rest ≡ [] → ⊥
+some_line [] ply text rest empty = cc
+some_line (b ∷ own) ply text rest empty = cc
+
+no_line : (name : Option (List ℕ)) (id : GameId) (ply : ℕ) (shown : Shown) (more : List Entry)
+    → IsMarkedText shown
+    → listing name (record { id = id; ply = ply; shown = shown } ∷ more) ≡ [] → ⊥
+no_line name id ply (AfterPly text) more marked empty =
+    some_line (named_mark name id) (decimal ply) (text ++ 10 ∷ []) (listing name more) empty
+no_line name id ply (AsRow text) more marked empty = absurd marked
+
+-- so lines that are empty are those of no entry
+no_lines : (name : Option (List ℕ)) (id : GameId) (P : ℕ → Type 0) (S : ℕ → Shown → Type 0)
+    → ((ply : ℕ) (shown : Shown) → S ply shown → IsMarkedText shown)
+    → (plies : List ℕ) (entries : List Entry) → AreChosen id P S plies entries
+    → listing name entries ≡ [] → IsTrue (or_some false entries) → ⊥
+no_lines name id P S marked plies entries none empty some = absurd (false≢true some)
+no_lines name id P S marked plies entries (keep ply shown all chosen is shows more) empty some =
+    no_line name id ply shown chosen (marked ply shown shows) empty
+no_lines name id P S marked plies entries (leave ply all chosen fails more) empty some =
+    no_lines name id P S marked all chosen more empty some
+
+-- where there is no entry nothing is added
+pub lists_no_entry : (aim : Aim) (raw : RawRecord) (text : List ℕ) → HasNoEntry aim raw
     → ListsRecord aim raw text text
-lists_none aim raw text none = (
+lists_no_entry aim raw text absent = (
   ([], sym (append-nil text)),
   λ game replay packed own. (
     [],
     leaves_all (raw_id raw) (IsEntry aim (heading_of game) replay)
-        (IsShownOf aim (raw_id raw) game replay) 0
+        (IsShownOf (record_aim aim raw) (raw_id raw) game replay) 0
         replay.positions
-        (λ n low high entry. none game replay packed own n (omega (arith, high)) entry.0),
+        (λ n low high entry. absent game replay packed own n (omega (arith, high)) entry),
     sym (append-nil text),
   ),
 )
+
+-- and where nothing was added there is none
+pub none_listed : (aim : Aim) (raw : RawRecord) → (fields : Fields) → aim.line ≡ Marked fields
+    → ListsRecord aim raw [] [] → HasNoEntry aim raw
+none_listed aim raw fields line lists game replay packed own n within entry =
+    let (entries, listed, text) = lists.1 game replay packed own in
+    let some = some_chosen (raw_id raw) (IsEntry aim (heading_of game) replay)
+    (IsShownOf (record_aim aim raw) (raw_id raw) game replay) 0 replay.positions entries listed in
+    no_lines raw.name (raw_id raw) (IsEntry aim (heading_of game) replay)
+    (IsShownOf (record_aim aim raw) (raw_id raw) game replay)
+    (λ ply shown is. is_marked aim.line fields line (place_of raw.name (raw_id raw) game replay ply)
+    shown is)
+    (plies_of 0 replay.positions) entries listed (sym text)
+    (some.1 (n, omega arith, omega (arith, within), entry))
+
+-- where no ply is wanted nothing is added
+pub lists_none : (aim : Aim) (raw : RawRecord) (text : List ℕ) → NoneInRecord aim raw
+    → ListsRecord aim raw text text
+lists_none aim raw text absent =
+    lists_no_entry aim raw text (λ game replay packed own n within entry.
+    absent game replay packed own n within entry.0)
+
+-- a line that is the mark and the ply alone is that without fields
+no_field : (fen next : Bool) → not fen && not next ≡ true
+    → Marked (record { fen = fen; next = next }) ≡ Marked (record { fen = false; next = false })
+no_field false false bare = refl
+no_field false true bare = absurd (cc)
+no_field true next bare = absurd (cc)
+
+bare_line : (line : EntryLine) → is_bare line ≡ true
+    → line ≡ Marked (record { fen = false; next = false })
+bare_line (Marked fields) bare = no_field fields.fen fields.next bare
+bare_line (InColumns row) bare = absurd (cc)
+
+-- so marks and plies are listed where no more is asked for
+pub lists_bare : (settings : Settings) (raw : RawRecord) (old new : List ℕ)
+    → is_bare settings.line ≡ true → ListsRecord (bare_aim settings) raw old new
+    → ListsRecord (aim_of settings) raw old new
+lists_bare settings raw old new bare lists =
+    subst (λ (line : EntryLine). ListsRecord (record (aim_of settings) { line = line }) raw old new)
+    (sym (bare_line settings.line bare)) lists
 
 appended_same : (old own other : List ℕ) → old ++ own ≡ old ++ other → own ≡ other
 appended_same [] own other is = is
@@ -135,10 +215,10 @@ puts_record aim raw old new mode lists = (
       record { fits = fits; shows = shows; text = text; is_replay = is_replay; kept = kept } in
       let of = lists.1 game replay packed own in
       let there : (entries : List Entry)
-      × AreListed aim (raw_id (raw_of packed)) game replay entries
+      × AreListed (record_aim aim (raw_of packed)) (raw_id (raw_of packed)) game replay entries
       × (new ≡ old ++ listing (raw_of packed).name entries) =
       subst (λ (r : RawRecord). (entries : List Entry)
-      × AreListed aim (raw_id r) game replay entries
+      × AreListed (record_aim aim r) (raw_id r) game replay entries
       × (new ≡ old ++ listing r.name entries)) (sym shows) of in (
         there.0,
         there.1,
@@ -149,8 +229,8 @@ puts_record aim raw old new mode lists = (
 -- and where there is no such game, the record is that of none
 pub leaves_record : (raw : RawRecord) → HasNoText raw → (packed : PackedGame) → FitsRecord packed
     → raw_of packed ≡ raw → IsOfNoGame packed
-leaves_record raw none packed fits shows game replay text is_replay kept =
-    none game replay packed
+leaves_record raw absent packed fits shows game replay text is_replay kept =
+    absent game replay packed
     (record { fits = fits; shows = shows; text = text; is_replay = is_replay; kept = kept })
 
 -- ---- how many plies

@@ -20,7 +20,7 @@ use Rattle.pgn_extract.specs.declared.rows.column.Column.{Column}
 use Rattle.pgn_extract.specs.declared.rows.column.Column.TheVariants.{Tag, OfGame, OfPly}
 use Rattle.pgn_extract.specs.declared.rows.column.PlyColumn.{PlyColumn}
 use Rattle.pgn_extract.specs.declared.rows.column.PlyColumn.TheVariants.{Ply, OfPosition, Next}
-use Rattle.pgn_extract.specs.declared.rows.column.PlyColumn.TheVariants.{NextUci}
+use Rattle.pgn_extract.specs.declared.rows.column.PlyColumn.TheVariants.{NextUci, OfLine}
 use Rattle.pgn_extract.specs.declared.rows.column.PositionColumn.{PositionColumn}
 use Rattle.pgn_extract.specs.declared.rows.column.PositionColumn.TheVariants.{Fen, Turn, Number}
 use Rattle.pgn_extract.specs.declared.rows.column.PositionColumn.TheVariants.{Men, Check, Material}
@@ -31,6 +31,7 @@ use Rattle.pgn_extract.proofs.PositionTexts.{one_men_text, some_men_text, one_ch
 use Rattle.pgn_extract.proofs.PositionTexts.{some_check_text}
 use Rattle.pgn_extract.proofs.FieldTexts.{one_text, some_fields, no_fields, some_position}
 use Rattle.pgn_extract.proofs.FieldTexts.{some_move_text}
+use Rattle.pgn_extract.proofs.MoveCells.{one_line_cell, some_line_cell}
 
 -- One cell.
 
@@ -61,6 +62,8 @@ one_ply_cell Ply replay ply x y first other = first ∙ sym other
 one_ply_cell (OfPosition own) replay ply x y (P, here, is) (Q, there, of) =
     one_of_position own P x y is
     (subst (λ R. IsPositionCell own R y) (same_Some Q P (sym there ∙ here)) of)
+one_ply_cell (OfLine own) replay ply x y first other =
+    one_line_cell own replay ply x y first other
 one_ply_cell Next replay ply x y first other =
     one_move_cell (slice_get replay.played ply) replay ply x y first other
 one_ply_cell NextUci replay ply x y first other = first ∙ sym other
@@ -123,6 +126,8 @@ module _ (game : GameText) (good : IsGameText game) (lines : Lines) (replay : Re
       replay.played start is.line ply at.0 at.1 in
       let cell = some_of_position own at.0 on_board in
       (cell.0, (at.0, at.1, cell.1))
+  some_ply_cell (OfLine own) =
+      some_line_cell lines (tag_in fen_tag game.tags) game.elements replay is own ply
   some_ply_cell Next = some_move_text lines (tag_in fen_tag game.tags) game.elements replay is ply
   some_ply_cell NextUci = (_, refl)
 

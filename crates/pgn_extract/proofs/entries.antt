@@ -1,9 +1,11 @@
 pub mod EachPly
+pub mod FieldFacts
 pub mod KeptLines
 pub mod PlayedFacts
 pub mod TenLines
 pub mod PlainValues
 pub mod RowMaking
+pub mod LineValues
 pub mod RowTextFacts
 pub mod PlainTexts
 pub mod PlainCells

@@ -2,6 +2,7 @@
 pub mod ColumnLists
 pub mod RowTexts
 pub mod PositionSigns
+pub mod RowGames
 pub mod EntryRows
 pub mod Blockwise
 pub mod Finding

@@ -26,7 +26,7 @@ use crate::app::endings::{
 };
 use crate::app::files::{Files, Task, Total, name_file, run_files, run_input};
 use crate::app::header::{RefusedColumns, put_header, read_row};
-use crate::app::order::{Order, accept, has_names, packed_settings, settings_of};
+use crate::app::order::{Order, accept, has_names, settings_of};
 use crate::app::outputs::refuse_outputs;
 use crate::app::packs::{PackTask, search_packs};
 use crate::app::prefix::read_prefix;
@@ -324,10 +324,10 @@ where
         files.show_progress(request.progress);
     }
     if request.packed {
-        let settings = packed_settings(&order, criteria);
         let task = PackTask {
             alloc,
-            settings,
+            settings: settings_of(&order, row, criteria, None),
+            no_header: request.no_header,
             paths: &request.files,
             summary: request.summary,
             explain: order.noted,

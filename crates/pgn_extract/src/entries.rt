@@ -9,20 +9,24 @@ ghost use Rattle.pgn_criteria.specs.Public.Meeting.{heading_of};
 ghost use Rattle.pgn_extract.specs.Public.Aims.{HasNoChance, IsRuledOut, aim_of};
 ghost use Rattle.pgn_extract.specs.Private.Finding.{AddsEntries, StopsAtFault, IsChosen};
 
+mod fields;
 pub(crate) mod finding;
 pub(crate) mod kept;
 pub(crate) mod line;
 pub(crate) mod line_maker;
+mod line_value;
 pub(crate) mod listing;
 mod played;
+pub(crate) mod row_game;
 pub(crate) mod row_maker;
 mod sink;
 mod ten_lines;
 
 use crate::entries::finding::Finder;
-use crate::entries::kept::{Kept, has_kept};
+use crate::entries::kept::{find_kept, has_kept};
 use crate::entries::line_maker::LineMaker;
 use crate::entries::played::{Anything, find_played};
+use crate::entries::row_game::RowGame;
 use crate::marks::GameId;
 use crate::output::texts::{MARK_ROOM, push_named_mark};
 use crate::settings::{Fields, Select, Settings};
@@ -43,7 +47,8 @@ pub struct GameContext<'a> {
 }
 
 /// Adds the lines of the entries of a game, or answers its fault. Each position is asked as it is
-/// reached, and none is kept, unless the criteria speak of the moves at each ply.
+/// reached, and none is kept, unless the criteria speak of the moves at each ply or a row shows
+/// something of the whole main line.
 pub fn push_entries<'a>(
     text: &mut Vec<u8>,
     context: GameContext<'a>,
@@ -64,16 +69,17 @@ pub fn push_entries<'a>(
     let finder = Finder {
         settings,
         first: settings.first,
-        lines: LineMaker::of_game(context, game)?,
+        lines: LineMaker::of_game(alloc, &settings.line, RowGame::in_text(context, game))?,
         mark,
     };
+    if finder.lines.needs_line() {
+        return find_kept(&finder, alloc, game, text);
+    }
     let Some(criteria) = &settings.criteria else {
         return find_played(&finder, alloc, game, Anything, text);
     };
     let Some(question) = criteria.watch(alloc, game)? else {
-        let mut line = Kept::of_game(alloc, criteria, game)?;
-        finder.find(&mut line, text, true)?;
-        return Ok(());
+        return find_kept(&finder, alloc, game, text);
     };
     find_played(&finder, alloc, game, question, text)
 }

@@ -15,7 +15,7 @@ ghost use Rattle.pgn_extract.specs.Public.Listing.{listing};
 ghost use Rattle.pgn_extract.specs.Public.Resuming.{IsMarkAmong, verdicts_at_least};
 ghost use Rattle.pgn_extract.specs.Public.Runs.{ArePieces, job_of};
 ghost use Rattle.pgn_extract.specs.Public.Searching.{ArePackLines, HasNoGame, IsIndexOfSoundGames};
-ghost use Rattle.pgn_extract.specs.Public.Searching.{IsPackOf, of_all};
+ghost use Rattle.pgn_extract.specs.Public.Searching.{IsPackOf, of_all, named};
 ghost use Rattle.pgn_extract.specs.Public.Several.{IsReport, NamesUnopened};
 ghost use Rattle.pgn_extract.specs.Public.Verdicts.{Verdict, AreVerdicts, IsSameReport};
 ghost use Rattle.pgn_extract.specs.Public.Verdicts.{fault_lines, is_faulty, output_text};
@@ -269,11 +269,10 @@ pub fn report_some<'a>(
 /// listing, or the index of its sound games. Bytes that are no pack are refused at the first record
 /// of no game.
 pub fn search_pack(alloc: Global, bytes: &[u8], settings: &Settings) -> Result<Vec<u8>, SearchError>
-    requires plain { is_bare settings.now.line ≡ true }
     ensures listed { IfOk result (λ out. settings.now.mode ≡ Mode.List
         → (name : Option (List ℕ)) (number : ℕ) (pieces : List MarkedPiece)
         → IsPackOf name number pieces bytes.now → (entries : List Entry)
-        → AreEntries (of_all (aim_of settings.now)) number pieces entries
+        → AreEntries (named name (of_all (aim_of settings.now))) number pieces entries
         → out.items ≡ listing name entries) }
     ensures indexed { IfOk result (λ out. settings.now.mode ≡ Mode.Index
         → (name : Option (List ℕ)) (number : ℕ) (pieces : List MarkedPiece)
@@ -301,7 +300,6 @@ pub fn search_records<'a>(
     settings: &Settings,
 ) -> Result<Searched, SearchError>
     requires sound { (input.old.faulted ≡ false) × (out.old.faulted ≡ false) }
-    requires plain { is_bare settings.now.line ≡ true }
     // Each record is counted, and its lines are written.
     ensures searched { IfOk result (λ searched. (records : List PackedGame) × (text : List ℕ)
         × (input.old.inner.now ≡ pack_bytes records)

@@ -1,6 +1,6 @@
 //! The entries of a packed game: a walk over the codes of its plies shows its positions.
-ghost use Rattle.std.specs.Prelude.{◌≡◌, ◌≢◌, ◌++◌, true, Some, None, codes, OnOk, IfOk, IfErr};
-ghost use Rattle.std.specs.Prelude.{MatchOption};
+ghost use Rattle.std.specs.Prelude.{◌≡◌, ◌≢◌, ◌++◌, true, false, Some, None, codes};
+ghost use Rattle.std.specs.Prelude.{MatchOption, OnOk, IfOk, IfErr};
 ghost use Rattle.pgn_text.specs.Public.GameTexts.{tag_in};
 ghost use Rattle.pgn_game.specs.Public.Faults.{Fault};
 ghost use Rattle.pgn_game.specs.Public.Replays.{fault_of};
@@ -14,7 +14,8 @@ ghost use Rattle.pgn_criteria.specs.Public.Meeting.{heading_of};
 ghost use Rattle.pgn_criteria.specs.Public.Prefilters.{codes_in};
 ghost use Rattle.pgn_extract.specs.Private.Packed.{raw_id, PutsRecord, LeavesRecord, EachOfRecord};
 ghost use Rattle.pgn_extract.specs.Private.Packed.{HasNoText, ShowsInitial, StartsThere};
-ghost use Rattle.pgn_extract.specs.Private.Packed.{StartsWith};
+ghost use Rattle.pgn_extract.specs.Private.Packed.{StartsWith, bare_aim, aim_making, HasNoEntry};
+ghost use Rattle.pgn_extract.specs.Private.Lines.{IsEnoughFor, MakesLines};
 ghost use Rattle.pgn_extract.specs.Private.Packed.{NoneInRecord, StandsInRecord, ListsRecord};
 ghost use Rattle.pgn_extract.specs.Private.WalkedLines.{AreMetWith, IsMarkedWith};
 
@@ -137,27 +138,45 @@ fn begin(alloc: Global, walk: &mut Walk<Bits>, record: &RawRecord<'_>) -> Result
     }
 }
 
-/// Goes through the line of a packed game, and adds the lines of its entries.
+/// What is asked of a packed game, and its record.
+#[derive(Clone, Copy)]
+pub(crate) struct RecordContext<'s, 'r, 'a> {
+    /// The memory that it takes.
+    pub(crate) alloc: Global,
+    /// What is asked.
+    pub(crate) settings: &'s Settings,
+    /// Its record.
+    pub(crate) record: &'r RawRecord<'a>,
+}
+
+/// Goes through the line of a packed game, and adds the lines of its entries, as they are made.
 #[inline(never)]
 fn push_found<L: Line + Drop>(
     text: &mut Vec<u8>,
-    alloc: Global,
-    settings: &Settings,
-    record: &RawRecord<'_>,
+    context: RecordContext<'_, '_, '_>,
+    lines: LineMaker<'_>,
     start: L,
 ) -> Result<(), L::Fault>
     requires valid { L.Valid start }
-    requires plain { is_bare settings.now.line ≡ true }
-    requires stands { StandsInRecord (L.At start) (aim_of settings.now) record.now }
-    ensures { OnOk result
-        (ListsRecord (aim_of settings.now) record.now text.old.items text.new.items) }
+    requires shows { IsEnoughFor L.Shows lines }
+    requires makes { EachOfRecord context.record.now (λ game replay packed.
+        MakesLines lines context.record.now.name (raw_id context.record.now) game) }
+    requires stands { StandsInRecord (L.At start) (aim_making context.settings.now lines)
+        context.record.now }
+    ensures { OnOk result (ListsRecord (aim_making context.entry.settings.now lines.entry)
+        context.entry.record.now text.old.items text.new.items) }
 {
+    let RecordContext {
+        alloc,
+        settings,
+        record,
+    } = context;
     let mut mark = Vec::with_capacity(alloc, MARK_ROOM)?;
     push_record_mark(&mut mark, record)?;
     let finder = Finder {
         settings,
         first: settings.first,
-        lines: LineMaker::Fields(Fields::NONE),
+        lines,
         mark,
     };
     let mut line = start;
@@ -216,56 +235,56 @@ fn first_marked<'p>(marks: MarkSet, turn: Side, record: &RawRecord<'p>) -> Optio
     })
 }
 
-/// Adds the lines of the entries of a packed game whose positions meet the criteria where they have
-/// these marks.
+/// Adds the mark and the ply of each entry of a packed game whose positions meet the criteria where
+/// they have these marks.
 fn push_marked(
     text: &mut Vec<u8>,
-    alloc: Global,
-    settings: &Settings,
+    context: RecordContext<'_, '_, '_>,
     marks: MarkSet,
-    record: &RawRecord<'_>,
 ) -> Result<(), PackedFault>
-    requires plain { is_bare settings.now.line ≡ true }
-    requires met { EachOfRecord record.now (λ game replay packed.
-        AreMetWith marks.flags (heading_of game) settings.now.criteria) }
-    ensures ok { OnOk result
-        (ListsRecord (aim_of settings.now) record.now text.old.items text.new.items) }
+    requires met { EachOfRecord context.record.now (λ game replay packed.
+        AreMetWith marks.flags (heading_of game) context.settings.now.criteria) }
+    ensures ok { OnOk result (ListsRecord (bare_aim context.entry.settings.now)
+        context.entry.record.now text.old.items text.new.items) }
     ensures err { IfErr result (λ fault. fault ≡ PackedFault.NoGame
-        → (text.new.items ≡ text.old.items) × HasNoText record.now) }
+        → (text.new.items ≡ text.old.items) × HasNoText context.entry.record.now) }
 {
-    let turn = match side_at_start(alloc, record) {
+    let turn = match side_at_start(context.alloc, context.record) {
         Ok(turn) => turn,
         Err(fault) => return Err(fault),
     };
-    let Some(line) = first_marked(marks, turn, record) else {
+    let Some(line) = first_marked(marks, turn, context.record) else {
         return Ok(());
     };
-    push_found(text, alloc, settings, record, line)?;
+    push_found(text, context, LineMaker::Fields(Fields::NONE), line)?;
     Ok(())
 }
 
-/// Adds the lines of the entries of a packed game by criteria. Where these speak of its moves or of
-/// several plies, its line is replayed.
-fn push_walked<'a>(
+/// Adds the mark and the ply of each entry of a packed game by criteria. Answers `false`, and adds
+/// nothing, where its line has to be replayed, since they speak of its moves or of several plies.
+fn push_seen<'a>(
     text: &mut Vec<u8>,
-    alloc: Global,
-    settings: &'a Settings,
+    context: RecordContext<'a, '_, 'a>,
     criteria: &'a Criteria,
-    record: &RawRecord<'a>,
-) -> Result<(), PackedFault>
-    requires plain { is_bare settings.now.line ≡ true }
-    requires criteria { settings.now.criteria ≡ Some criteria.now }
-    requires shows { IsRawOfGame record.now }
-    ensures ok { OnOk result
-        (ListsRecord (aim_of settings.now) record.now text.old.items text.new.items) }
+) -> Result<bool, PackedFault>
+    requires criteria { context.settings.now.criteria ≡ Some criteria.now }
+    requires shows { IsRawOfGame context.record.now }
+    ensures seen { IfOk result (λ seen. seen ≡ true
+        → ListsRecord (bare_aim context.entry.settings.now)
+        context.entry.record.now text.old.items text.new.items) }
+    ensures unseen { IfOk result (λ seen. seen ≡ false → text.new.items ≡ text.old.items) }
     ensures err { IfErr result (λ fault. fault ≡ PackedFault.NoGame
-        → (text.new.items ≡ text.old.items) × HasNoText record.now) }
+        → (text.new.items ≡ text.old.items) × HasNoText context.entry.record.now) }
 {
+    let RecordContext { alloc, record, .. } = context;
     if let Some(marks) = criteria.marks_packed(record) {
-        return push_marked(text, alloc, settings, marks, record);
+        return match push_marked(text, context, marks) {
+            Ok(()) => Ok(true),
+            Err(fault) => Err(fault),
+        };
     }
     let Some(search) = criteria.watch_packed(alloc, record)? else {
-        return push_kept_record(text, alloc, settings, criteria, record);
+        return Ok(false);
     };
     let (check, stuck) = (record.in_check(), record.is_stuck());
     let mut walk = Walk::new(Bits::initial(), Side::White, check, stuck);
@@ -273,7 +292,7 @@ fn push_walked<'a>(
         return Err(fault);
     }
     if !search.may_be_met(&walk, record.plies()) {
-        return Ok(());
+        return Ok(true);
     }
     let line = Walked {
         walk,
@@ -281,24 +300,79 @@ fn push_walked<'a>(
         left: record.plies(),
         ply: 0,
     };
-    push_found(text, alloc, settings, record, line)?;
-    Ok(())
+    push_found(text, context, LineMaker::Fields(Fields::NONE), line)?;
+    Ok(true)
 }
 
-/// Adds the lines of the entries of a packed game, where there are no criteria. It is not walked.
-fn push_plain(
-    text: &mut Vec<u8>,
-    alloc: Global,
-    settings: &Settings,
-    record: &RawRecord<'_>,
-) -> Result<(), PackedFault>
-    requires plain { is_bare settings.now.line ≡ true }
-    requires criteria { settings.now.criteria ≡ None }
-    requires shows { IsRawOfGame record.now }
-    ensures ok { OnOk result
-        (ListsRecord (aim_of settings.now) record.now text.old.items text.new.items) }
-    ensures err { IfErr result (λ fault. fault ≢ PackedFault.NoGame) }
+/// Whether a packed game may have an entry by criteria: not where its positions tell of none.
+fn may_have_entry<'a>(
+    context: RecordContext<'a, '_, 'a>,
+    criteria: &'a Criteria,
+) -> Result<bool, PackedFault>
+    requires criteria { context.settings.now.criteria ≡ Some criteria.now }
+    requires shows { IsRawOfGame context.record.now }
+    ensures none { IfOk result (λ may. may ≡ false
+        → HasNoEntry (bare_aim context.entry.settings.now) context.entry.record.now) }
+    ensures err { IfErr result (λ fault. fault ≡ PackedFault.NoGame
+        → HasNoText context.entry.record.now) }
 {
+    let mut found = Vec::new(context.alloc);
+    let is_seen = match push_seen(&mut found, context, criteria) {
+        Ok(is_seen) => is_seen,
+        Err(fault) => return Err(fault),
+    };
+    if is_seen && found.is_empty() {
+        return Ok(false);
+    }
+    Ok(true)
+}
+
+/// Adds the lines of the entries of a packed game by criteria. Where more than marks and plies is
+/// shown, its line is replayed only if it has an entry.
+fn push_met<'a>(
+    text: &mut Vec<u8>,
+    context: RecordContext<'a, '_, 'a>,
+    criteria: &'a Criteria,
+) -> Result<(), PackedFault>
+    requires criteria { context.settings.now.criteria ≡ Some criteria.now }
+    requires shows { IsRawOfGame context.record.now }
+    ensures ok { OnOk result (ListsRecord (aim_of context.entry.settings.now)
+        context.entry.record.now text.old.items text.new.items) }
+    ensures err { IfErr result (λ fault. fault ≡ PackedFault.NoGame
+        → (text.new.items ≡ text.old.items) × HasNoText context.entry.record.now) }
+{
+    if context.settings.line.is_bare() {
+        return match push_seen(text, context, criteria) {
+            Ok(true) => Ok(()),
+            Ok(false) => push_kept_record(text, context),
+            Err(fault) => Err(fault),
+        };
+    }
+    match may_have_entry(context, criteria) {
+        Ok(true) => push_kept_record(text, context),
+        Ok(false) => Ok(()),
+        Err(fault) => Err(fault),
+    }
+}
+
+/// Adds the lines of the entries of a packed game, where there are no criteria. Where they are
+/// marks and plies, it is not replayed.
+fn push_plain(text: &mut Vec<u8>, context: RecordContext<'_, '_, '_>) -> Result<(), PackedFault>
+    requires criteria { context.settings.now.criteria ≡ None }
+    requires shows { IsRawOfGame context.record.now }
+    ensures ok { OnOk result (ListsRecord (aim_of context.entry.settings.now)
+        context.entry.record.now text.old.items text.new.items) }
+    ensures err { IfErr result (λ fault. fault ≡ PackedFault.NoGame
+        → (text.new.items ≡ text.old.items) × HasNoText context.entry.record.now) }
+{
+    let RecordContext {
+        alloc,
+        settings,
+        record,
+    } = context;
+    if !settings.line.is_bare() {
+        return push_kept_record(text, context);
+    }
     let mut mark = Vec::with_capacity(alloc, MARK_ROOM)?;
     push_record_mark(&mut mark, record)?;
     push_lines(text, alloc, settings, &mark, record.plies().len() / 3)?;
@@ -309,20 +383,17 @@ fn push_plain(
 /// nothing is added.
 fn push_entries<'a>(
     text: &mut Vec<u8>,
-    alloc: Global,
-    settings: &'a Settings,
-    record: &RawRecord<'a>,
+    context: RecordContext<'a, '_, 'a>,
 ) -> Result<(), PackedFault>
-    requires plain { is_bare settings.now.line ≡ true }
-    requires shows { IsRawOfGame record.now }
-    ensures ok { OnOk result
-        (ListsRecord (aim_of settings.now) record.now text.old.items text.new.items) }
+    requires shows { IsRawOfGame context.record.now }
+    ensures ok { OnOk result (ListsRecord (aim_of context.entry.settings.now)
+        context.entry.record.now text.old.items text.new.items) }
     ensures err { IfErr result (λ fault. fault ≡ PackedFault.NoGame
-        → (text.new.items ≡ text.old.items) × HasNoText record.now) }
+        → (text.new.items ≡ text.old.items) × HasNoText context.entry.record.now) }
 {
-    match &settings.criteria {
-        Some(criteria) => push_walked(text, alloc, settings, criteria, record),
-        None => push_plain(text, alloc, settings, record),
+    match &context.settings.criteria {
+        Some(criteria) => push_met(text, context, criteria),
+        None => push_plain(text, context),
     }
 }
 
@@ -344,18 +415,22 @@ pub fn push_packed<'a>(
     settings: &'a Settings,
     record: &RawRecord<'a>,
 ) -> Result<(), PackedFault>
-    requires plain { is_bare settings.now.line ≡ true }
     requires shows { IsRawOfGame record.now }
     ensures ok { OnOk result
         (PutsRecord (aim_of settings.now) record.now text.old.items text.new.items) }
     ensures err { IfErr result (λ fault. fault ≡ PackedFault.NoGame
         → LeavesRecord record.now text.old.items text.new.items) }
 {
+    let context = RecordContext {
+        alloc,
+        settings,
+        record,
+    };
     match settings.mode {
         Mode::Index => {
             push_record_line(text, record)?;
             Ok(())
         }
-        Mode::List | Mode::Export => push_entries(text, alloc, settings, record),
+        Mode::List | Mode::Export => push_entries(text, context),
     }
 }

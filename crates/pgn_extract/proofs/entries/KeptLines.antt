@@ -1,15 +1,15 @@
 -- A line that is kept stands at a position of the game, and goes on by one ply.
-use Rattle.std.proofs.lemmas.Option.{same_Some, slice_get_within, slice_get_past}
-use Rattle.std.specs.Prelude.{is_some, codes}
+use Rattle.std.proofs.lemmas.Option.{same_Some, slice_get_within}
+use Rattle.std.specs.Prelude.{is_some}
 use Rattle.pgn_extract.proofs.Common.{◌≡◌, ◌↔◌, ◌+◌, ◌-◌, ◌<◌, ◌≤◌, ℕ, zero, suc, List, [], ◌∷◌}
 use Rattle.pgn_extract.proofs.Common.{◌++◌, length, Option, Some, Bool, true, false, IsTrue, refl}
 use Rattle.pgn_extract.proofs.Common.{sym, ap, ◌∙◌, subst, append_assoc, length-append, arith, None}
 use Rattle.pgn_extract.proofs.Common.{slice_get, after, IsLegal, State, Move, GameText, tag_in}
 use Rattle.pgn_extract.proofs.Common.{positions_from, main_words, Replay, IsReplay, fen_tag, Main}
 use Rattle.pgn_extract.proofs.Common.{line_legal, line_positions, heading_of, Heading, Meets, Aim}
-use Rattle.pgn_extract.proofs.Common.{GameId, IsMet, IsWanted, IsEntry, AreFields, IsFenField}
-use Rattle.pgn_extract.proofs.Common.{IsNextMove, IsNextField, IsOfGame, ShowsPosition, GoesTo}
-use Rattle.pgn_extract.proofs.Common.{MeetsHere, ShowsFields, HandsOn, or_some, Fields, false≢true}
+use Rattle.pgn_extract.proofs.Common.{GameId, IsMet, IsWanted, IsEntry}
+use Rattle.pgn_extract.proofs.Common.{IsOfGame, GoesTo}
+use Rattle.pgn_extract.proofs.Common.{MeetsHere, HandsOn, or_some, false≢true}
 use Rattle.pgn_extract.proofs.Common.{MatchOption, IsSan, Conditions, HasEntry}
 use Rattle.pgn_game.specs.Public.CodeLines.{AreLegalMoves, IsLegalLine}
 use Rattle.pgn_criteria.specs.Public.Meeting.{IsFirst}
@@ -19,13 +19,13 @@ use Rattle.pgn_extract.proofs.Finds.{some_chosen}
 use Rattle.pgn_extract.proofs.PackedFacts.{line_begins}
 use Rattle.pgn_extract.proofs.OneMain.{one_main, stands_main}
 use Rattle.pgn_criteria.proofs.OpeningFacts.{met_alike}
-use Rattle.pgn_extract.proofs.FieldTexts.{IsTextAt}
 use Rattle.pgn_extract.specs.Private.Lines.{ShowsValue, Where}
 use Rattle.pgn_extract.specs.Public.Listing.{IsShownOf}
 use Rattle.pgn_extract.specs.Public.Rows.{IsPlyCell, IsMoveCell, IsAt, uci_cell}
 use Rattle.pgn_extract.specs.declared.rows.column.PlyColumn.{PlyColumn}
 use Rattle.pgn_extract.specs.declared.rows.column.PlyColumn.TheVariants.{Ply, OfPosition, Next}
-use Rattle.pgn_extract.specs.declared.rows.column.PlyColumn.TheVariants.{NextUci}
+use Rattle.pgn_extract.specs.declared.rows.column.PlyColumn.TheVariants.{NextUci, OfLine}
+use Rattle.pgn_extract.proofs.entries.LineValues.{line_alike}
 
 -- replays with the same positions and moves meet the same criteria
 pub met_there : (criteria : Option (List Conditions)) (heading : Heading) (kept other : Replay)
@@ -35,51 +35,6 @@ met_there None heading kept other positions played ply met = tt
 met_there (Some alternatives) heading kept other positions played ply met =
     met_alike heading kept other positions played ply alternatives met
 
--- and show the same
-fen_alike : (fen : Bool) (kept other : Replay) → kept.positions ≡ other.positions
-    → (ply : ℕ) (shown : List ℕ) → IsFenField fen kept ply shown → IsFenField fen other ply shown
-fen_alike false kept other same ply shown bare = bare
-fen_alike true kept other same ply shown (position, text, here, is, whole) =
-    (position, text, ap (λ ps. slice_get ps ply) (sym same) ∙ here, is, whole)
-
-next_alike : (next : Bool) (kept other : Replay) → kept.positions ≡ other.positions
-    → kept.played ≡ other.played → (ply : ℕ) (shown : List ℕ) → IsNextField next kept ply shown
-    → IsNextField next other ply shown
-next_alike false kept other positions played ply shown bare = bare
-next_alike true kept other positions played ply shown (text, is, whole) = (
-  text,
-  subst (λ ms. IsNextMove other.positions ms ply text) played
-      (subst (λ ps. IsNextMove ps kept.played ply text) positions is),
-  whole,
-)
-
-pub fields_there : (fields : Fields) (kept other : Replay) → kept.positions ≡ other.positions
-    → kept.played ≡ other.played → (ply : ℕ) (shown : List ℕ) → AreFields fields kept ply shown
-    → AreFields fields other ply shown
-fields_there fields kept other positions played ply shown (fen, next, of_fen, of_next, whole) = (
-  fen,
-  next,
-  fen_alike fields.fen kept other positions ply fen of_fen,
-  next_alike fields.next kept other positions played ply next of_next,
-  whole,
-)
-
--- what is shown of a position that is kept, and of the move that is played there or of none
-pub position_shown : (fen : Bool) (replay : Replay) (ply : ℕ) (P : State) (shown : List ℕ)
-    → slice_get replay.positions ply ≡ Some P
-    → ShowsPosition fen P shown → IsFenField fen replay ply shown
-position_shown false replay ply P shown here bare = bare
-position_shown true replay ply P shown here (text, of, whole) = (P, text, here, of, whole)
-
-pub next_played : (replay : Replay) (ply : ℕ) (P : State) (m : Move) (text : List ℕ)
-    → slice_get replay.positions ply ≡ Some P
-    → slice_get replay.played ply ≡ Some m → IsSan P m text
-    → IsNextMove replay.positions replay.played ply text
-next_played replay ply P m text here played san =
-    subst (λ (o : Option Move).
-    MatchOption o (text ≡ codes "-") (IsTextAt replay.positions ply text)) (sym played)
-    (P, here, san)
-
 -- the value of the column of the move that is played there
 pub cell_played : (replay : Replay) (ply : ℕ) (P : State) (m : Move) (value : List ℕ)
     → slice_get replay.positions ply ≡ Some P
@@ -88,13 +43,6 @@ cell_played replay ply P m value here played san =
     subst (λ (o : Option Move).
     MatchOption o (value ≡ []) (λ n. IsAt replay ply (λ Q. IsSan Q n value))) (sym played)
     (P, here, san)
-
-pub none_played : (replay : Replay) (ply : ℕ) → length replay.played ≤ ply
-    → IsNextMove replay.positions replay.played ply (codes "-")
-none_played replay ply past =
-    subst (λ (o : Option Move).
-    MatchOption o (codes "-" ≡ codes "-") (IsTextAt replay.positions ply (codes "-")))
-    (sym (slice_get_past replay.played ply past)) refl
 
 -- each move of a legal line is legal in the position before it
 pub legal_at : (start : State) (moves : List Move) (n : ℕ) (P : State) (m : Move)
@@ -160,23 +108,15 @@ reports_there kept met ply aim game before P r at here replay own rest is =
           (met_there aim.criteria (heading_of game) replay kept back.0 back.1 (length before) met)),
     )
 
--- so is what is shown of it
-pub shows_kept : (kept : Replay) (met : List Bool) (ply : ℕ) (fields : Fields) (shown : List ℕ)
-    (aim : Aim) (game : GameText)
-    (before : List State) (P : State) → IsKeptWith kept met ply aim game before P
-    → AreFields fields kept ply shown → ShowsFields fields shown aim game before P
-shows_kept kept met ply fields shown aim game before P at of same replay own rest is =
-    let alike = one_main game kept replay (Main, at.is_replay) own in
-    fields_there fields kept replay alike.0 alike.1 (length before) shown
-    (subst (λ n. AreFields fields kept n shown) (sym at.count) of)
-
--- and the value of a column
+-- so is the value of a column
 value_alike : (own : PlyColumn) (kept other : Replay) → kept.positions ≡ other.positions
     → kept.played ≡ other.played → (ply : ℕ) (value : List ℕ) → IsPlyCell own kept ply value
     → IsPlyCell own other ply value
 value_alike Ply kept other positions played ply value is = is
 value_alike (OfPosition own) kept other positions played ply value (P, here, is) =
     (P, ap (λ ps. slice_get ps ply) (sym positions) ∙ here, is)
+value_alike (OfLine own) kept other positions played ply value is =
+    line_alike own kept other positions played ply value is
 value_alike Next kept other positions played ply value is =
     subst (λ ms. MatchOption (slice_get ms ply) (value ≡ [])
     (λ m. (P : State) × (slice_get other.positions ply ≡ Some P) × IsSan P m value)) played

@@ -10,10 +10,12 @@ use Rattle.pgn_extract.specs.Public.Listing.{is_bare}
 use Rattle.pgn_extract.specs.Public.Rows.{IsRow, place_of}
 use Rattle.pgn_extract.specs.Private.Lines.{ShowsFields, ShowsValues, ShowsLine, Makes}
 use Rattle.pgn_extract.specs.Private.Lines.{MakesLines, made_line}
+use Rattle.pgn_extract.specs.Private.RowGames.{name_of}
 use Rattle.pgn_extract.specs.Private.RowTexts.{MakesRows, ArePlyCells, ArePlainValues, columns_of}
 use Rattle.pgn_extract.specs.Private.RowTexts.{filled, or_quotes}
 use Rattle.pgn_extract.specs.declared.entries.line_maker.LineMaker.{LineMaker}
 use Rattle.pgn_extract.specs.declared.entries.line_maker.LineMaker.TheVariants as maker
+use Rattle.pgn_extract.specs.declared.entries.row_game.RowGame.{RowGame}
 use Rattle.pgn_extract.specs.declared.entries.row_maker.RowMaker.{RowMaker}
 use Rattle.pgn_extract.specs.declared.settings.EntryLine.{EntryLine}
 use Rattle.pgn_extract.specs.declared.settings.EntryLine.TheVariants.{Marked, InColumns}
@@ -67,3 +69,11 @@ shows_row lines rows values aim id game before P is makes plain shows replay own
       row_made rows aim.name id game made replay (length before) values are plain,
       refl,
     )
+
+-- a maker of the lines of a game makes them under the name and the mark that the game has
+pub makes_named : (lines : LineMaker) (own : RowGame) (name : Option (List ℕ)) (id : GameId)
+    (game : GameText) → name_of own ≡ name → own.id ≡ id
+    → MakesLines lines (name_of own) own.id game → MakesLines lines name id game
+makes_named lines own name id game named marked makes =
+    subst (λ n. MakesLines lines n id game) named
+    (subst (λ i. MakesLines lines (name_of own) i game) marked makes)

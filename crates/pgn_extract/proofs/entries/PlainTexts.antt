@@ -333,8 +333,8 @@ pawn_begins false from to rest = (96 + to, _, refl, omega arith)
 
 body_begins : (P : State) (m : Move) (castle : Option Wing) (kind : Kind) (x : List ℕ)
     → IsBody P m castle kind x → BeginsHigh x
-body_begins P m (Some KingSide) kind x is = (79, _, is, omega arith)
-body_begins P m (Some QueenSide) kind x is = (79, _, is, omega arith)
+body_begins P m (Some KingSide) _ x is = (79, _, is, omega arith)
+body_begins P m (Some QueenSide) _ x is = (79, _, is, omega arith)
 body_begins P m None Pawn x is =
     subst BeginsHigh (sym is) (pawn_begins (is_capture P m) m.from.file m.to.file _)
 body_begins P m None King x (origin, by, is) = (75, _, is, omega arith)
@@ -348,6 +348,12 @@ no_dash P m x san dash =
     let (b, rest, begins, high) = body_begins P m m.castle san.man.kind san.body san.body_is in
     let same : 45 ≡ b = heads (sym dash ∙ san.text ∙ ap (λ t. t ++ san.mark) begins) in
     omega arith
+
+-- nor as nothing
+pub san_some : (P : State) (m : Move) (x : List ℕ) → IsSan P m x → x ≡ [] → ⊥
+san_some P m x san none =
+    let (b, rest, begins, high) = body_begins P m m.castle san.man.kind san.body san.body_is in
+    let empty = sym none ∙ san.text ∙ ap (λ t. t ++ san.mark) begins in absurd (cc)
 
 -- so the dash that stands for none tells that there is none
 value_by : (move : Option Move) (replay : Replay) (ply : ℕ) (text value : List ℕ)

@@ -5,15 +5,15 @@ use Rattle.pgn_extract.proofs.Common.{false, Bool, refl, sym, ap, ◌∙◌, sub
 use Rattle.pgn_extract.proofs.Common.{append-nil, length-append, inr, arith, Some, State, Move}
 use Rattle.pgn_extract.proofs.Common.{GameText, tag_in, Item, IsMainLine, main_words, Replay}
 use Rattle.pgn_extract.proofs.Common.{IsReplay, fen_tag, Main, heading_of, SomeHold, Conditions}
-use Rattle.pgn_extract.proofs.Common.{Aim, AsksFor, ShowsPosition, ShowsNext, Stands, GoesTo}
-use Rattle.pgn_extract.proofs.Common.{NoneAfter, Where, ShowsFields, HasFault, IsNeverMet, Fails}
-use Rattle.pgn_extract.proofs.Common.{aim_with, AreFields, IsFenField, IsNextMove, IsNextField}
-use Rattle.pgn_extract.proofs.Common.{Fields, slice_get, MatchOption, after, IsSan, one_start}
+use Rattle.pgn_extract.proofs.Common.{Aim, AsksFor, Stands, GoesTo}
+use Rattle.pgn_extract.proofs.Common.{NoneAfter, Where, HasFault, IsNeverMet, Fails}
+use Rattle.pgn_extract.proofs.Common.{aim_with, IsNextMove}
+use Rattle.pgn_extract.proofs.Common.{slice_get, MatchOption, after, IsSan, one_start}
 use Rattle.pgn_game.specs.Public.Faults.{Fault, IsMoveFault, IsFault}
 use Rattle.pgn_game.specs.Public.PlayedLines.{PlayedLine, PlaysWord, HasEnded, HasAdvanced, IsBegun}
 use Rattle.pgn_game.specs.Public.PlayedLines.{IsNextText}
 use Rattle.pgn_game.specs.Public.Replays.{IsSomeReplay}
-use Rattle.pgn_extract.specs.Private.Finding.{IsPlayedTo, ShowsHere, StopsInLine, GoesOnWith}
+use Rattle.pgn_extract.specs.Private.Finding.{IsPlayedTo, StopsInLine, GoesOnWith}
 use Rattle.pgn_extract.specs.declared.entries.finding.Finder.{Finder}
 use Rattle.pgn_extract.specs.Private.PlayedLines.{IsPlayedWith}
 use Rattle.pgn_extract.proofs.Finds.{at_seam}
@@ -120,14 +120,6 @@ played_all {fen} {items} {line} {before} {played} to ends = record {
   turns = refl;
 }
 
--- what is shown of a position that is reached is shown of its ply
-fen_there : (fen : Bool) (replay : Replay) (before : List State) (P : State) (rest : List State)
-    (shown : List ℕ) → replay.positions ≡ before ++ P ∷ rest
-    → ShowsPosition fen P shown → IsFenField fen replay (length before) shown
-fen_there false replay before P rest shown is bare = bare
-fen_there true replay before P rest shown is (text, of, whole) =
-    (P, text, ap (λ ps. slice_get ps (length before)) is ∙ at_seam before P rest, of, whole)
-
 -- the first move that is left of a line is the one that its next word names
 next_left : (P : State) (words : List (List ℕ)) (later : List State) (more : List Move)
     (text : List ℕ) → IsMainLine P words later more
@@ -183,29 +175,6 @@ next_text_there {line = line} {before = before} {played = played} to replay own 
     subst (λ (ms : List Move). IsNextMove replay.positions ms (length before) text) (sym left.4)
     (subst (λ (ps : List State). IsNextMove ps (played ++ left.1) (length before) text)
     (sym left.3) here)
-
-next_there : (next : Bool) {fen : Option (List ℕ)} {items : List Item} {line : PlayedLine}
-    {before : List State} {played : List Move}
-    → IsPlayedTo fen items line before played → (replay : Replay) → IsSomeReplay fen items replay
-    → (shown : List ℕ) → ShowsNext next line shown → IsNextField next replay (length before) shown
-next_there false to replay own shown bare = bare
-next_there true to replay own shown (text, of, whole) =
-    (text, next_text_there to replay own text of, whole)
-
--- what is shown where the line stands is what its ply shows
-pub shows_there : (fields : Fields) {fen : Option (List ℕ)} {items : List Item} {line : PlayedLine}
-    {before : List State} {played : List Move}
-    → IsPlayedTo fen items line before played → (replay : Replay) → IsSomeReplay fen items replay
-    → (rest : List State) → replay.positions ≡ before ++ line.position ∷ rest → (shown : List ℕ)
-    → ShowsHere fields line shown → AreFields fields replay (length before) shown
-shows_there fields {line = line} {before =
-    before} to replay own rest is shown (fen, next, of_fen, of_next, whole) = (
-      fen,
-      next,
-      fen_there fields.fen replay before line.position rest fen is of_fen,
-      next_there fields.next to replay own next of_next,
-      whole,
-    )
 
 -- each replay of the game has the positions up to the one that is reached
 pub stands_there : (game : GameText) (line : PlayedLine) (before : List State) (played : List Move)
@@ -281,16 +250,7 @@ module _ (asked : List Conditions) (old new : PlayedLine) (on : Bool) (aim : Aim
           ∙ length-append before (old.position ∷ []) in
           absurd (omega (arith, size, low, within))
 
--- what is shown where the line stands is what its ply shows
-pub shows_fields : (fields : Fields) (line : PlayedLine) (asked : List Conditions) (shown : List ℕ)
-    → ShowsHere fields line shown
-    → Where (λ aim game before P.
-    IsPlayedWith line asked aim game before P) (ShowsFields fields shown)
-shows_fields fields line asked shown here aim game before P at same replay own rest is =
-    shows_there fields at.to replay own rest (is
-    ∙ ap (λ (Q : State). before ++ Q ∷ rest) at.here) shown here
-
--- and so is the value of a column
+-- what a column shows where the line stands is what it shows of its ply
 abbrev pub ShowsThere : PlayedLine → List Conditions → PlyColumn → List ℕ → Type 0
 ShowsThere line asked column value =
     Where (λ aim game before P. IsPlayedWith line asked aim game before P)

@@ -79,15 +79,15 @@ abbrev both_modes : List ℕ
 both_modes = codes "pgn-extract: --list and --index exclude each other\n"
 
 abbrev packs_give_lines : List ℕ
-packs_give_lines = codes "pgn-extract: --packed goes with --list or --index\n"
+packs_give_lines = codes "pgn-extract: --packed goes with --list, --rows or --index\n"
 
 abbrev packs_are_plain : List ℕ
 packs_are_plain =
-    codes "pgn-extract: --packed goes with none of --fen, --next, --from, --until, --at, --with-names and --no-names\n"
+    codes "pgn-extract: --packed goes with none of --from, --until, --at, --with-names and --no-names\n"
 
 abbrev rows_alone : List ℕ
 rows_alone =
-    codes "pgn-extract: --rows goes with none of --list, --index, --packed, --fen, --next, --others, --faulty, --as-is, --pack, --moves and --uci\n"
+    codes "pgn-extract: --rows goes with none of --list, --index, --fen, --next, --others, --faulty, --as-is, --pack, --moves and --uci\n"
 
 abbrev no_rows : List ℕ
 no_rows = codes "pgn-extract: --csv, --tsv, --jsonl and --no-header go with --rows\n"
@@ -133,14 +133,16 @@ marks_take_one_file = codes "pgn-extract: --from, --until and --at take one FILE
 abbrev RefusedWith : Request → List ℕ → Type 0
 RefusedWith request line = first_line (option_refusals request) ≡ Some line
 
+-- none of them is refused
+abbrev IsTaken : Request → Type 0
+IsTaken request = first_line (option_refusals request) ≡ None
+
 -- each pair of options has its line
 each_pair : (request : Request)
     → RefusedWith (record (plain request) { list = true; index = true }) both_modes
     × RefusedWith (record (plain request) { packed = true }) packs_give_lines
-    × RefusedWith (record (plain request) { list = true; packed = true; fen = true })
-    packs_are_plain
-    × RefusedWith (record (plain request) { list = true; packed = true; next = true })
-    packs_are_plain
+    × IsTaken (record (plain request) { list = true; packed = true; fen = true })
+    × IsTaken (record (plain request) { list = true; packed = true; next = true })
     × RefusedWith (record (plain request) { index = true; packed = true; with_names = true })
     packs_are_plain
     × RefusedWith (record (plain request) { list = true; packed = true; no_names = true })
@@ -206,7 +208,7 @@ in_rows request columns = record (plain request) { rows = Some columns }
 each_of_rows : (request : Request) (columns : Bor (List ℕ))
     → RefusedWith (record (in_rows request columns) { list = true }) rows_alone
     × RefusedWith (record (in_rows request columns) { index = true }) rows_alone
-    × RefusedWith (record (in_rows request columns) { packed = true }) rows_alone
+    × IsTaken (record (in_rows request columns) { packed = true })
     × RefusedWith (record (in_rows request columns) { fen = true }) rows_alone
     × RefusedWith (record (in_rows request columns) { next = true }) rows_alone
     × RefusedWith (record (in_rows request columns) { others = true }) rows_alone
@@ -222,7 +224,7 @@ each_of_rows : (request : Request) (columns : Bor (List ℕ))
     × RefusedWith (record (in_rows request columns) { csv = true; tsv = true }) several_formats
     × RefusedWith (record (in_rows request columns) { csv = true; jsonl = true }) several_formats
     × RefusedWith (record (in_rows request columns) { tsv = true; jsonl = true }) several_formats
-    × (first_line (option_refusals (record (in_rows request columns) { tsv = true })) ≡ None)
+    × IsTaken (record (in_rows request columns) { tsv = true })
 each_of_rows request columns = (
   refl,
   refl,
@@ -250,7 +252,7 @@ the_first_pair : (request : Request)
     → RefusedWith (record (plain request) { list = true; index = true; packed = true; fen = true })
     both_modes × RefusedWith (record (plain request) { packed = true; fen = true }) packs_give_lines
     × RefusedWith (record (plain request) { index = true; packed = true; fen = true })
-    packs_are_plain
+    no_entries_listed
     × RefusedWith (record (plain request) {
       index = true;
       packed = true;

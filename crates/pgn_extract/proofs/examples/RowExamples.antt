@@ -6,21 +6,24 @@ use Rattle.chess.specs.Public.Fen.{IsFen}
 use Rattle.chess.specs.Public.Moves.{IsStalemate}
 use Rattle.chess.specs.Public.Positions.{State}
 use Rattle.pgn_game.specs.Public.Replays.{Replay}
+use Rattle.pgn_game.specs.declared.exports.notation.Notation.{Notation}
+use Rattle.pgn_game.specs.declared.exports.notation.Notation.TheVariants.{San, Uci}
 use Rattle.pgn_criteria.specs.Public.Meeting.{Heading}
 use Rattle.pgn_extract.specs.Public.Columns.{column_name, is_number_column}
 use Rattle.pgn_extract.specs.Public.Csv as csv
 use Rattle.pgn_extract.specs.Public.GivenMarks.{game_id}
 use Rattle.pgn_extract.specs.Public.Json as json
 use Rattle.pgn_extract.specs.Public.PositionCells.{IsMenText, IsCheckText, counted_letter}
-use Rattle.pgn_extract.specs.Public.Rows.{IsMoveCell, IsPlyCell, IsTagCell, game_cell}
+use Rattle.pgn_extract.specs.Public.Rows.{IsLineCell, IsMoveCell, IsPlyCell, IsTagCell, game_cell}
 use Rattle.pgn_extract.specs.Public.Rows.{row_text}
 use Rattle.pgn_extract.specs.Public.Tsv as tsv
 use Rattle.pgn_extract.specs.declared.rows.column.Column.TheVariants.{OfGame, OfPly}
 use Rattle.pgn_extract.specs.declared.rows.column.Format.TheVariants.{Csv, Tsv, Jsonl}
 use Rattle.pgn_extract.specs.declared.rows.column.GameColumn.TheVariants.{File, Game, Offset, Id}
 use Rattle.pgn_extract.specs.declared.rows.column.GameColumn.TheVariants.{Result}
+use Rattle.pgn_extract.specs.declared.rows.column.LineColumn.TheVariants.{Plies, Last, Moves}
 use Rattle.pgn_extract.specs.declared.rows.column.PlyColumn.TheVariants.{Ply, OfPosition, Next}
-use Rattle.pgn_extract.specs.declared.rows.column.PlyColumn.TheVariants.{NextUci}
+use Rattle.pgn_extract.specs.declared.rows.column.PlyColumn.TheVariants.{NextUci, OfLine}
 use Rattle.pgn_extract.specs.declared.rows.column.PositionColumn.TheVariants.{Fen, Turn, Number}
 use Rattle.pgn_extract.specs.declared.rows.column.PositionColumn.TheVariants.{Men, Check, Material}
 
@@ -103,6 +106,26 @@ no_uci_at_the_end replay ply ends is =
 
 the_ply : (replay : Replay) → IsPlyCell Ply replay 3 (decimal 3)
 the_ply replay = refl
+
+-- the columns for which the main line is kept
+line_names : column_name (OfPly (OfLine Plies)) ∷ column_name (OfPly (OfLine (Last San)))
+    ∷ column_name (OfPly (OfLine (Last Uci))) ∷ column_name (OfPly (OfLine (Moves San)))
+    ∷ column_name (OfPly (OfLine (Moves Uci))) ∷ []
+    ≡ codes "@plies" ∷ codes "@last" ∷ codes "@last-uci" ∷ codes "@moves"
+    ∷ codes "@uci" ∷ []
+line_names = refl
+
+line_numbers : is_number_column (OfPly (OfLine Plies))
+    ∷ is_number_column (OfPly (OfLine (Last Uci))) ∷ [] ≡ true ∷ false ∷ []
+line_numbers = refl
+
+-- a main line without a move, whatever its position
+no_plies : (replay : Replay) → replay.played ≡ [] → IsLineCell Plies replay 0 (decimal 0)
+no_plies replay none = rw none refl
+
+no_last_move_at_the_start : (notation : Notation) (replay : Replay)
+    → IsLineCell (Last notation) replay 0 (codes "e4") → ⊥
+no_last_move_at_the_start notation replay is = cc
 
 -- an object has the names of its columns, and numbers without quotes
 an_object : row_text Jsonl (OfPly Ply ∷ OfGame Result ∷ []) (codes "7" ∷ codes "*" ∷ [])

@@ -33,6 +33,7 @@ use Rattle.pgn_extract.specs.Public.Requests.{option_refusals, refusals, text_re
 use Rattle.pgn_extract.specs.Public.Resuming.{WritesRest, IsMarkAmong}
 use Rattle.pgn_extract.specs.Public.Runs.{AreWritten, Completed, OnInput, stream_of, IsCompleteOf}
 use Rattle.pgn_extract.specs.Public.Runs.{Listed, Stopped}
+use Rattle.pgn_extract.specs.Public.Searching.{named}
 use Rattle.pgn_extract.specs.Public.Searching.AreGameRecords.{sound as sound_record}
 use Rattle.pgn_extract.specs.Public.Searching.AreGameRecords.{faulty as faulty_record}
 use Rattle.pgn_extract.specs.Public.Several.{StopsInFile, WritesRead}
@@ -499,15 +500,15 @@ no_other_entries_of_a_record : (aim : Aim) (packed : PackedGame) (text : List �
     (game : GameText) (replay : Replay) → IsGameText game → IsReplayOf Main game replay
     → IsPacked packed.name packed.number packed.offset game replay packed
     → ((entries : List Entry)
-    → AreListed aim (game_id packed.number packed.offset) game replay entries → ⊥)
-    → IsRecordListing aim packed text → ⊥
+    → AreListed (named packed.name aim) (game_id packed.number packed.offset) game replay entries
+    → ⊥) → IsRecordListing aim packed text → ⊥
 no_other_entries_of_a_record aim packed text game replay sound is_replay is_packed none is =
     let lines = is game replay sound is_replay is_packed in none lines.0 lines.1
 
 no_other_listing_is_found : (aim : Aim) (whole : List ℕ) (out out' : Option (List ℕ))
     (name : Option (List ℕ)) (number : ℕ) (pieces : List MarkedPiece) (entries : List Entry)
     → aim.mode ≡ modes.List → IsPackOf name number pieces whole
-    → AreEntries (of_all aim) number pieces entries
+    → AreEntries (named name (of_all aim)) number pieces entries
     → (Appends out out' (listing name entries) → ⊥) → ListsWhatWasPacked aim whole out out' → ⊥
 no_other_listing_is_found aim whole out out' name number pieces entries list is are none lists =
     none (lists list name number pieces is entries are)

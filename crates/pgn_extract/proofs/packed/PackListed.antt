@@ -13,7 +13,7 @@ use Rattle.pgn_extract.proofs.Common.{ArePackLines, BeginsWithRecords, IsIndexOf
 use Rattle.pgn_extract.proofs.Common.{game_id, id_of}
 use Rattle.pgn_game.proofs.PackOnce.{one_pack}
 use Rattle.pgn_extract.specs.Private.EntryRows.{sound as sound_rows, faulty as faulty_rows}
-use Rattle.pgn_extract.specs.Public.Searching.{faulty, sound, keep, leave, none as no_pieces}
+use Rattle.pgn_extract.specs.Public.Searching.{named, faulty, sound, keep, leave, none as no_pieces}
 use Rattle.pgn_extract.proofs.ExactEntries.{are_entries}
 use Rattle.pgn_extract.proofs.GameExport.{one_game}
 use Rattle.pgn_extract.proofs.ModeOutputs.{listing-append}
@@ -54,7 +54,8 @@ game_rows : (aim : Aim) → aim.mode ≡ modes.List
     → (name : Option (List ℕ)) (id : GameId) (game : GameText) → IsGameText game
     → (own : List PackedGame) (text : List ℕ)
     → AreGameRecords name id game own → ArePackLines aim own text
-    → (rows : List Entry) × AreGameEntries (of_all aim) id game rows × (text ≡ listing name rows)
+    → (rows : List Entry) × AreGameEntries (named name (of_all aim)) id game rows
+    × (text ≡ listing name rows)
 game_rows aim list name id game good own text (sound replay packed is packs one) listed =
     let (lines, others, parted, of, none) = subst (λ r. ArePackLines aim r text) one listed in
     let own_mark : IsPacked packed.name packed.number packed.offset game replay packed = record {
@@ -71,9 +72,12 @@ game_rows aim list name id game good own text (sound replay packed is packs one)
     let here : IsRecordListing aim packed lines =
     subst (λ (m : Mode). AreRecordLines m aim packed lines) list of in
     let found = here game replay good is own_mark in
-    let marked : AreListed aim id game replay found.0 =
-    subst (λ (i : GameId). AreListed aim i game replay found.0)
-    (ap₂ game_id packs.number packs.offset) found.1 in (
+    let marked : AreListed (named name aim) id game replay found.0 =
+    subst (λ (i : GameId). AreListed (named name aim) i game replay found.0)
+    (ap₂ game_id packs.number packs.offset)
+    (subst (λ (title : Option (List ℕ)).
+    AreListed (named title aim) (game_id packed.number packed.offset) game replay found.0)
+    packs.name found.1) in (
       found.0,
       sound_rows replay is marked,
       parted ∙ ap (λ t. lines ++ t) none ∙ append-nil lines ∙ found.2
@@ -85,7 +89,8 @@ game_rows aim list name id game good own text (faulty fault is none) listed =
 piece_rows : (aim : Aim) → aim.mode ≡ modes.List
     → (name : Option (List ℕ)) (kind : PieceKind) (id : GameId) (own : List PackedGame)
     (text : List ℕ) → ArePieceRecords name kind id own → ArePackLines aim own text
-    → (rows : List Entry) × ArePieceEntries (of_all aim) kind id rows × (text ≡ listing name rows)
+    → (rows : List Entry) × ArePieceEntries (named name (of_all aim)) kind id rows
+    × (text ≡ listing name rows)
 piece_rows aim list name (ReadableGame parts) id own text (game, made, are) listed =
     let rows = game_rows aim list name id game made.0 own text are listed in
     (rows.0, (game, made, rows.1), rows.2)
@@ -97,7 +102,7 @@ piece_rows aim list name TooLongBlock id own text none listed =
 all_rows : (aim : Aim) → aim.mode ≡ modes.List
     → (name : Option (List ℕ)) (number : ℕ) (pieces : List MarkedPiece) (records : List PackedGame)
     (text : List ℕ) → AreRecords name number pieces records → ArePackLines aim records text
-    → (rows : List Entry) × AreEntryRows (of_all aim) number pieces rows
+    → (rows : List Entry) × AreEntryRows (named name (of_all aim)) number pieces rows
     × (text ≡ listing name rows)
 all_rows aim list name number [] records text none listed =
     ([], refl, subst (λ r. ArePackLines aim r text) none listed)
@@ -126,15 +131,15 @@ pub packed_listing : (aim : Aim) → aim.mode ≡ modes.List
     → BeginsWithRecords aim whole records [] text
     → (name : Option (List ℕ)) (number : ℕ) (pieces : List MarkedPiece)
     → IsPackOf name number pieces whole
-    → (entries : List Entry) → AreEntries (of_all aim) number pieces entries
+    → (entries : List Entry) → AreEntries (named name (of_all aim)) number pieces entries
     → text ≡ listing name entries
 packed_listing aim list whole records text read name number pieces pack entries are =
     let same = same_records aim whole records text read name number pieces pack in
     let rows = all_rows aim list name number pieces records text
     (subst (AreRecords name number pieces) same pack.are) read.lines in
     rows.2 ∙ ap (listing name)
-    (one_listing (of_all aim) number pieces rows.0 entries
-    (are_entries (of_all aim) number pieces rows.0 rows.1) are)
+    (one_listing (named name (of_all aim)) number pieces rows.0 entries
+    (are_entries (named name (of_all aim)) number pieces rows.0 rows.1) are)
 
 -- ---- the index
 

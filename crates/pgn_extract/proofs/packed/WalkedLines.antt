@@ -9,8 +9,8 @@ use Rattle.pgn_extract.proofs.Common.{IsMainLine, RawRecord, raw_of, PackedGame,
 use Rattle.pgn_extract.proofs.Common.{AreMarks, Replay, Main, same_first, same_rest, head_shows}
 use Rattle.pgn_extract.proofs.Common.{has_marks, NoneMeets, IsNextMet, Conditions, heading_of}
 use Rattle.pgn_extract.proofs.Common.{SomeHold, MeetsSeen, NowhereSeen, codes_in, Sight, IsSightOf}
-use Rattle.pgn_extract.proofs.Common.{Aim, IsMet, IsWanted, Fields, IsOfGame, AsksFor}
-use Rattle.pgn_extract.proofs.Common.{GoesTo, MeetsHere, NoneAfter, ShowsFields, IsOfRecord}
+use Rattle.pgn_extract.proofs.Common.{Aim, IsMet, IsWanted, IsOfGame, AsksFor}
+use Rattle.pgn_extract.proofs.Common.{GoesTo, MeetsHere, NoneAfter, IsOfRecord}
 use Rattle.pgn_extract.proofs.Common.{EachOfRecord, NoneInRecord, record_aim, IsWalkedWith}
 use Rattle.chess.specs.Public.Moves.{IsPseudoLegal}
 use Rattle.chess.specs.Public.Placements.{opposite}
@@ -25,7 +25,6 @@ use Rattle.pgn_extract.specs.Public.Listing.{is_bare}
 use Rattle.pgn_extract.specs.Private.Lines.{ShowsValue}
 use Rattle.pgn_extract.specs.declared.rows.column.PlyColumn.{PlyColumn}
 use Rattle.pgn_extract.proofs.Common.{false≢true}
-use Rattle.pgn_extract.proofs.FieldTexts.{no_fields}
 use Rattle.pgn_extract.proofs.Finds.{at_seam, seam_within, none_yet, not_wanted}
 use Rattle.pgn_extract.proofs.OneMain.{one_main, stands_main}
 use Rattle.pgn_extract.proofs.PackedFacts.{begins, first_is, kept_start, line_begins}
@@ -211,13 +210,7 @@ module _ (aim : Aim) (game : GameText) (So : Sight → List PlyCode → Type 0)
             (subst (IsWanted aim (heading_of game) replay) same wanted)
       ]
 
--- no field is shown
-pub shows_none : (fields : Fields) (aim : Aim) (game : GameText) (before : List State) (P : State)
-    → is_bare aim.line ≡ true → ShowsFields fields [] aim game before P
-shows_none fields aim game before P bare same replay own rest is =
-    no_fields fields (ap is_bare (sym same) ∙ bare) replay (length before)
-
--- no column is
+-- no column is shown
 pub shows_no_value : (column : PlyColumn) (aim : Aim) (game : GameText) (before : List State)
     (P : State) → is_bare aim.line ≡ true → ShowsValue column [] aim game before P
 shows_no_value column aim game before P bare rows =

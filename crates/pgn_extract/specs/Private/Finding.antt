@@ -1,9 +1,8 @@
 -- The entries of a game, found while its main line is played: what is found so far, and what is
 -- left completes the whole.
-use Rattle.std.specs.Prelude.{◌≡◌, ◌≢◌, ◌⊎◌, ◌↔◌, ◌<◌, ◌++◌, ◌∷◌, ℕ, Bool, true, false, List, []}
+use Rattle.std.specs.Prelude.{◌≡◌, ◌≢◌, ◌⊎◌, ◌↔◌, ◌<◌, ◌++◌, ◌∷◌, ℕ, Bool, List, []}
 use Rattle.std.specs.Prelude.{length}
 use Rattle.std.specs.Prelude.{Option, IsTrue, codes}
-use Rattle.chess.specs.Public.Fen.{IsFen}
 use Rattle.chess.specs.Public.Positions.{State}
 use Rattle.chess.specs.Public.San.{IsOnlyNamed}
 use Rattle.chess.specs.declared.moves.Move.{Move}
@@ -23,7 +22,6 @@ use Rattle.pgn_extract.specs.Public.Exports.{HasEntry}
 use Rattle.pgn_extract.specs.Public.GameReports.{AreListed}
 use Rattle.pgn_extract.specs.Public.Index.{mark, titled}
 use Rattle.pgn_extract.specs.Public.Listing.{Entry, listing}
-use Rattle.pgn_extract.specs.declared.settings.Fields.{Fields}
 
 -- the mark that a line begins with, after the name of its file where lines have one: `NAME:N@O`
 abbrev pub named_mark : Option (List ℕ) → GameId → List ℕ
@@ -39,17 +37,6 @@ AsksFor aim game asked =
     (replay : Replay) → IsOfGame game replay → (ply : ℕ) → ply < length replay.positions
     → Meets (heading_of game) replay ply asked ↔ IsMet aim.criteria (heading_of game) replay ply
 
--- what is shown of a position where its text is asked for
-abbrev pub ShowsPosition : Bool → State → List ℕ → Type 0
-ShowsPosition false P shown = shown ≡ []
-ShowsPosition true P shown = (text : List ℕ) × IsFen P text × (shown ≡ 32 ∷ text)
-
--- what is shown of the next move where it is asked for
-abbrev pub ShowsNext : Bool → PlayedLine → List ℕ → Type 0
-ShowsNext false line shown = shown ≡ []
-ShowsNext true line shown = (text : List ℕ) × IsNextText line.position line.words text
-    × (shown ≡ 32 ∷ text)
-
 -- the text of a move, and nothing for the dash that stands for none
 abbrev pub IsDashLeftOut : List ℕ → List ℕ → Type 0
 IsDashLeftOut text value = ((text ≡ codes "-") × (value ≡ []))
@@ -64,12 +51,6 @@ IsNextValue line value =
 abbrev pub IsNextUci : State → List (List ℕ) → List ℕ → Type 0
 IsNextUci now [] value = value ≡ []
 IsNextUci now (word ∷ words) value = (m : Move) × IsOnlyNamed now word m × (value ≡ uci_text m)
-
--- what is shown where the line stands
-abbrev pub ShowsHere : Fields → PlayedLine → List ℕ → Type 0
-ShowsHere fields line shown = (fen : List ℕ) × (next : List ℕ)
-    × ShowsPosition fields.fen line.position fen × ShowsNext fields.next line next
-    × (shown ≡ fen ++ next)
 
 -- the rest of the line has the fault, and something may be added already
 abbrev pub StopsInLine : PlayedLine → List ℕ → List ℕ → Fault → Type 0

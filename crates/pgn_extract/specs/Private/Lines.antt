@@ -12,16 +12,18 @@ use Rattle.pgn_criteria.specs.Public.Meeting.{heading_of}
 use Rattle.pgn_extract.specs.Public.Aims.{Aim, GameId, IsMet, IsWanted, IsEntry, aim_of}
 use Rattle.pgn_extract.specs.Public.GameReports.{plies_of, AreChosen, AreListed}
 use Rattle.pgn_extract.specs.Public.Listing.{Entry, Shown, AreFields, IsShownOf, is_bare}
-use Rattle.pgn_extract.specs.Public.Listing.{shown_line}
+use Rattle.pgn_extract.specs.Public.Listing.{shown_line, IsFenField, IsNextField}
 use Rattle.pgn_extract.specs.declared.entries.line_maker.LineMaker.{LineMaker}
 use Rattle.pgn_extract.specs.declared.entries.line_maker.LineMaker.TheVariants as maker
 use Rattle.pgn_extract.specs.declared.rows.column.PlyColumn.{PlyColumn}
+use Rattle.pgn_extract.specs.declared.rows.column.PlyColumn.TheVariants.{OfPosition, Next}
+use Rattle.pgn_extract.specs.declared.rows.column.PositionColumn.TheVariants.{Fen}
 use Rattle.pgn_extract.specs.declared.settings.EntryLine.{EntryLine}
 use Rattle.pgn_extract.specs.declared.settings.EntryLine.TheVariants.{Marked, InColumns}
 use Rattle.pgn_extract.specs.declared.settings.Fields.{Fields}
 use Rattle.pgn_extract.specs.declared.entries.finding.Finder.{Finder}
 use Rattle.pgn_extract.specs.Private.Finding.{IsOfGame}
-use Rattle.pgn_extract.specs.Private.RowTexts.{ArePlyCells, MakesRows}
+use Rattle.pgn_extract.specs.Private.RowTexts.{ArePlyCells, MakesRows, EachColumn, need_line}
 use Rattle.pgn_extract.specs.Public.Rows.{IsPlyCell}
 
 -- so it is of each replay of the game that has these positions, then this one, and then others
@@ -56,20 +58,32 @@ ShowsFields fields shown aim game before P =
     aim.line ≡ Marked fields
     → EachReplay game before P (λ replay. AreFields fields replay (length before) shown)
 
--- entries have rows
-abbrev pub HasRows : Aim → Type 0
-HasRows aim = is_bare aim.line ≡ false
+-- more is shown than the mark and the ply
+abbrev pub ShowsMore : Aim → Type 0
+ShowsMore aim = is_bare aim.line ≡ false
 
 -- this is the value that the column shows there, and these are those of several columns
 abbrev pub ShowsValue : PlyColumn → List ℕ → Aim → GameText → List State → State → Type 0
 ShowsValue column value aim game before P =
-    HasRows aim → EachReplay game before P (λ replay. IsPlyCell column replay (length before) value)
+    ShowsMore aim
+    → EachReplay game before P (λ replay. IsPlyCell column replay (length before) value)
 
 abbrev pub ShowsValues : List PlyColumn → List (List ℕ) → Aim → GameText → List State → State
     → Type 0
 ShowsValues columns values aim game before P =
-    HasRows aim
+    ShowsMore aim
     → EachReplay game before P (λ replay. ArePlyCells columns replay (length before) values)
+
+-- this is shown there of the text of the position, where it is asked for, and of the next move
+abbrev pub ShowsFen : Bool → List ℕ → Aim → GameText → List State → State → Type 0
+ShowsFen asked shown aim game before P =
+    (asked ≡ true → ShowsMore aim)
+    → EachReplay game before P (λ replay. IsFenField asked replay (length before) shown)
+
+abbrev pub ShowsNext : Bool → List ℕ → Aim → GameText → List State → State → Type 0
+ShowsNext asked shown aim game before P =
+    (asked ≡ true → ShowsMore aim)
+    → EachReplay game before P (λ replay. IsNextField asked replay (length before) shown)
 
 -- the lines that a maker makes
 abbrev pub made_line : LineMaker → EntryLine
@@ -80,6 +94,17 @@ made_line (maker.Rows rows) = InColumns rows.row.now
 abbrev pub MakesLines : LineMaker → Option (List ℕ) → GameId → GameText → Type 0
 MakesLines (maker.Fields fields) name id game = Unit {0}
 MakesLines (maker.Rows rows) name id game = MakesRows rows name id game
+
+-- a line that shows these columns is enough for it
+abbrev pub IsEnoughFor : (PlyColumn → Type 0) → LineMaker → Type 0
+IsEnoughFor Shows (maker.Fields fields) =
+    (fields.fen ≡ true → Shows (OfPosition Fen)) × (fields.next ≡ true → Shows Next)
+IsEnoughFor Shows (maker.Rows rows) = EachColumn Shows rows.parts.items
+
+-- the whole main line is kept for it
+abbrev pub keeps_line : LineMaker → Bool
+keeps_line (maker.Fields fields) = false
+keeps_line (maker.Rows rows) = need_line rows.parts.items
 
 -- it makes what the aim asks for
 pub record Makes (lines : LineMaker) (aim : Aim) (id : GameId) (game : GameText) : Type 0 where

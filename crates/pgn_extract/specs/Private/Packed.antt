@@ -1,6 +1,6 @@
 -- The lines of a packed game: in the mode of the index its mark, else those of the entries of the
 -- text that it was packed from.
-use Rattle.std.specs.Prelude.{◌≡◌, ◌<◌, ◌++◌, ℕ, List, length, Some, ◌==◌, ◌/◌, ◌%◌}
+use Rattle.std.specs.Prelude.{◌≡◌, ◌<◌, ◌++◌, ℕ, List, length, Some, ◌==◌, ◌/◌, ◌%◌, false}
 use Rattle.std.specs.List.{slice_get}
 use Rattle.chess.specs.Public.Positions.{State}
 use Rattle.chess.specs.Public.Start.{initial}
@@ -13,8 +13,11 @@ use Rattle.pgn_game.specs.Public.Starts.{fen_tag}
 use Rattle.pgn_game.specs.declared.replays.replayer.Lines.TheVariants.{Main}
 use Rattle.pgn_criteria.specs.Public.Meeting.{heading_of}
 use Rattle.pgn_criteria.specs.Public.Walks.{Sight, IsSightOf}
-use Rattle.pgn_extract.specs.Public.Aims.{Aim, GameId, IsWanted}
-use Rattle.pgn_extract.specs.Private.Lines.{NoneBefore}
+use Rattle.pgn_extract.specs.Public.Aims.{Aim, GameId, IsWanted, IsEntry, aim_of}
+use Rattle.pgn_extract.specs.declared.settings.EntryLine.TheVariants.{Marked}
+use Rattle.pgn_extract.specs.declared.settings.Settings.{Settings}
+use Rattle.pgn_extract.specs.Private.Lines.{NoneBefore, made_line}
+use Rattle.pgn_extract.specs.declared.entries.line_maker.LineMaker.{LineMaker}
 use Rattle.pgn_extract.specs.Public.GameReports.{AreListed}
 use Rattle.pgn_extract.specs.Public.Listing.{Entry, listing}
 use Rattle.pgn_extract.specs.Public.Searching.{AreRecordLines, IsOfNoGame}
@@ -60,6 +63,14 @@ HasNoText raw = EachOfRecord raw (λ game replay packed. ⊥)
 abbrev pub record_aim : Aim → RawRecord → Aim
 record_aim aim raw = record aim { name = raw.name }
 
+-- what the settings ask for, with the lines that are made; and with the mark and the ply alone
+abbrev pub aim_making : Settings → LineMaker → Aim
+aim_making settings lines = record (aim_of settings) { line = made_line lines }
+
+abbrev pub bare_aim : Settings → Aim
+bare_aim settings =
+    record (aim_of settings) { line = Marked (record { fen = false; next = false }) }
+
 -- the text grew at its end
 abbrev pub Grows : List ℕ → List ℕ → Type 0
 Grows old new = (own : List ℕ) × (new ≡ old ++ own)
@@ -91,7 +102,7 @@ StartsThere raw sight =
 abbrev pub ListsRecord : Aim → RawRecord → List ℕ → List ℕ → Type 0
 ListsRecord aim raw old new =
     Grows old new × EachOfRecord raw (λ game replay packed.
-    (entries : List Entry) × AreListed aim (raw_id raw) game replay entries
+    (entries : List Entry) × AreListed (record_aim aim raw) (raw_id raw) game replay entries
     × (new ≡ old ++ listing raw.name entries))
 
 -- the line stands at a position of each game that has the record, and none is wanted before it
@@ -106,3 +117,9 @@ abbrev pub NoneInRecord : Aim → RawRecord → Type 0
 NoneInRecord aim raw =
     EachOfRecord raw (λ game replay packed. (n : ℕ) → n < length replay.positions
     → IsWanted aim (heading_of game) replay n → ⊥)
+
+-- no ply of a game that has the record is an entry
+abbrev pub HasNoEntry : Aim → RawRecord → Type 0
+HasNoEntry aim raw =
+    EachOfRecord raw (λ game replay packed. (n : ℕ) → n < length replay.positions
+    → IsEntry aim (heading_of game) replay n → ⊥)

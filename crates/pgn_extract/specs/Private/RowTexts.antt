@@ -1,6 +1,8 @@
 -- The text of a row, part by part: what is made once a game, and what its plies show.
-use Rattle.std.specs.Prelude.{◌≡◌, ◌≢◌, ◌≤◌, ◌<◌, ℕ, Bool, false, not, List, [], ◌∷◌, ◌++◌, map}
+use Rattle.std.specs.Prelude.{◌≡◌, ◌≢◌, ◌≤◌, ◌<◌, ℕ, Bool, true, false, not, List, [], ◌∷◌, ◌++◌}
+use Rattle.std.specs.Prelude.{map}
 use Rattle.std.specs.Prelude.{Option, if◌then◌else◌}
+use Rattle.std.specs.List.{list_any}
 use Rattle.pgn_text.specs.Public.GameTexts.{GameText}
 use Rattle.pgn_game.specs.Public.Replays.{Replay}
 use Rattle.pgn_extract.specs.Public.Columns.{column_name, is_number_column, is_number_of_ply}
@@ -15,6 +17,8 @@ use Rattle.pgn_extract.specs.declared.rows.column.Column.{Column}
 use Rattle.pgn_extract.specs.declared.rows.column.Format.{Format}
 use Rattle.pgn_extract.specs.declared.rows.column.Format.TheVariants.{Csv, Tsv, Jsonl}
 use Rattle.pgn_extract.specs.declared.rows.column.PlyColumn.{PlyColumn}
+use Rattle.pgn_extract.specs.declared.rows.column.PlyColumn.TheVariants.{Ply, OfPosition, Next}
+use Rattle.pgn_extract.specs.declared.rows.column.PlyColumn.TheVariants.{NextUci, OfLine}
 
 -- the text of a value
 abbrev pub value_text : Format → Bool → List ℕ → List ℕ
@@ -112,6 +116,22 @@ ArePlyCells [] replay ply values = values ≡ []
 ArePlyCells (column ∷ columns) replay ply values =
     (value : List ℕ) × (more : List (List ℕ)) × (values ≡ value ∷ more)
     × IsPlyCell column replay ply value × ArePlyCells columns replay ply more
+
+-- the whole main line is kept for the column, and for one of the parts
+abbrev pub needs_line : PlyColumn → Bool
+needs_line Ply = false
+needs_line (OfPosition own) = false
+needs_line Next = false
+needs_line NextUci = false
+needs_line (OfLine own) = true
+
+abbrev pub need_line : List RowPart → Bool
+need_line parts = list_any (λ part. needs_line part.column) parts
+
+-- each of the parts has a column with the fact
+abbrev pub EachColumn : (PlyColumn → Type 0) → List RowPart → Type 0
+EachColumn So [] = Unit {0}
+EachColumn So (part ∷ parts) = So part.column × EachColumn So parts
 
 -- the columns of parts
 abbrev pub columns_of : List RowPart → List PlyColumn

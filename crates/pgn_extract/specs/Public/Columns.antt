@@ -4,13 +4,16 @@ use Rattle.std.specs.Prelude.{codes}
 use Rattle.std.specs.Prelude.{IsTrue}
 use Rattle.std.specs.List.{Contains, list_all}
 use Rattle.chess.specs.Public.Fen.{parted_at}
+use Rattle.pgn_game.specs.declared.exports.notation.Notation.TheVariants.{San, Uci}
 use Rattle.pgn_text.specs.Public.Bytes.{is_name_byte}
 use Rattle.pgn_extract.specs.declared.rows.column.GameColumn.{GameColumn}
 use Rattle.pgn_extract.specs.declared.rows.column.GameColumn.TheVariants.{File, Game, Offset, Id}
 use Rattle.pgn_extract.specs.declared.rows.column.GameColumn.TheVariants.{Result}
+use Rattle.pgn_extract.specs.declared.rows.column.LineColumn.{LineColumn}
+use Rattle.pgn_extract.specs.declared.rows.column.LineColumn.TheVariants.{Plies, Last, Moves}
 use Rattle.pgn_extract.specs.declared.rows.column.PlyColumn.{PlyColumn}
 use Rattle.pgn_extract.specs.declared.rows.column.PlyColumn.TheVariants.{Ply, OfPosition, Next}
-use Rattle.pgn_extract.specs.declared.rows.column.PlyColumn.TheVariants.{NextUci}
+use Rattle.pgn_extract.specs.declared.rows.column.PlyColumn.TheVariants.{NextUci, OfLine}
 use Rattle.pgn_extract.specs.declared.rows.column.PositionColumn.{PositionColumn}
 use Rattle.pgn_extract.specs.declared.rows.column.PositionColumn.TheVariants.{Fen, Turn, Number}
 use Rattle.pgn_extract.specs.declared.rows.column.PositionColumn.TheVariants.{Men, Check, Material}
@@ -35,11 +38,19 @@ position_column_name Men = codes "@placement"
 position_column_name Check = codes "@check"
 position_column_name Material = codes "@material"
 
+abbrev pub line_column_name : LineColumn → List ℕ
+line_column_name Plies = codes "@plies"
+line_column_name (Last San) = codes "@last"
+line_column_name (Last Uci) = codes "@last-uci"
+line_column_name (Moves San) = codes "@moves"
+line_column_name (Moves Uci) = codes "@uci"
+
 abbrev pub ply_column_name : PlyColumn → List ℕ
 ply_column_name Ply = codes "@ply"
 ply_column_name (OfPosition own) = position_column_name own
 ply_column_name Next = codes "@next"
 ply_column_name NextUci = codes "@next-uci"
+ply_column_name (OfLine own) = line_column_name own
 
 -- the name of a column, as the header and the names of members show it
 abbrev pub column_name : Column → List ℕ
@@ -63,11 +74,17 @@ is_number_of_position Men = false
 is_number_of_position Check = false
 is_number_of_position Material = false
 
+abbrev pub is_number_of_line : LineColumn → Bool
+is_number_of_line Plies = true
+is_number_of_line (Last notation) = false
+is_number_of_line (Moves notation) = false
+
 abbrev pub is_number_of_ply : PlyColumn → Bool
 is_number_of_ply Ply = true
 is_number_of_ply (OfPosition own) = is_number_of_position own
 is_number_of_ply Next = false
 is_number_of_ply NextUci = false
+is_number_of_ply (OfLine own) = is_number_of_line own
 
 abbrev pub is_number_column : Column → Bool
 is_number_column (column.Tag name) = false

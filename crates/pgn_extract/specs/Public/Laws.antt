@@ -15,7 +15,7 @@ use Rattle.pgn_extract.specs.Public.Exports.{as_it_stands, IsPieceExport, AreExp
 use Rattle.pgn_extract.specs.Public.Notes.{IsLinePlace, IsNote, NamesByte, NamesStop}
 use Rattle.pgn_extract.specs.Public.Resuming.{IsMarkAmong, WritesRest}
 use Rattle.pgn_extract.specs.Public.Runs.{Io, Job, job_of, ArePieces, Adds, Completes, IsRun}
-use Rattle.pgn_extract.specs.Public.Searching.{IsSearch, PacksAll, of_all}
+use Rattle.pgn_extract.specs.Public.Searching.{IsSearch, PacksAll, of_all, named}
 use Rattle.pgn_extract.specs.Public.Verdicts.{Verdict, AreVerdicts, IsSameReport, output_text}
 use Rattle.pgn_extract.specs.Public.Verdicts.{fault_lines, is_faulty}
 use Rattle.pgn_extract.specs.Public.Aims.{Aim, GameId, aim_of}
@@ -110,7 +110,7 @@ PackIsListedAsItsText =
     × ((aim : Aim) (left out out' : Option (List ℕ)) (searched : Searched) (entries : List Entry)
     → aim.mode ≡ modes.List
     → IsSearch aim (Some bytes) left out out' (Ok searched)
-    → AreEntries (of_all aim) packing.number pieces entries
+    → AreEntries (named packing.name (of_all aim)) packing.number pieces entries
     → Appends out out' (listing packing.name entries))
 
 -- the aim that asks for all entries of each game, or for the first alone

@@ -207,7 +207,7 @@ search_refusals request =
 -- something is asked for that is no row
 abbrev pub asks_beside_rows : Request → Bool
 asks_beside_rows request =
-    (request.list || request.index || request.packed || request.fen || request.next)
+    (request.list || request.index || request.fen || request.next)
     || (request.others || request.faulty || request.as_is)
     || (request.pack || request.moves || request.uci)
 
@@ -221,7 +221,7 @@ row_refusals request =
     record {
       applies = is_some request.rows && asks_beside_rows request;
       line = codes
-          "pgn-extract: --rows goes with none of --list, --index, --packed, --fen, --next, --others, --faulty, --as-is, --pack, --moves and --uci\n";
+          "pgn-extract: --rows goes with none of --list, --index, --fen, --next, --others, --faulty, --as-is, --pack, --moves and --uci\n";
     }
     ∷ record {
       applies = (has_format request || request.no_header) && is_none request.rows;
@@ -241,14 +241,14 @@ other_refusals request =
       line = codes "pgn-extract: --list and --index exclude each other\n";
     }
     ∷ record {
-      applies = request.packed && not (has_mode request);
-      line = codes "pgn-extract: --packed goes with --list or --index\n";
+      applies = request.packed && not (has_mode request || is_some request.rows);
+      line = codes "pgn-extract: --packed goes with --list, --rows or --index\n";
     }
     ∷ record {
       applies = request.packed
-          && (has_fields request || gives_mark request || request.with_names || request.no_names);
+          && (gives_mark request || request.with_names || request.no_names);
       line = codes
-          "pgn-extract: --packed goes with none of --fen, --next, --from, --until, --at, --with-names and --no-names\n";
+          "pgn-extract: --packed goes with none of --from, --until, --at, --with-names and --no-names\n";
     }
     ∷ record {
       applies = has_fields request && not request.list;

@@ -1,16 +1,17 @@
 -- A row: what is shown of a ply of a game where columns are asked for.
-use Rattle.std.specs.Prelude.{◌≡◌, ℕ, List, [], ◌∷◌, Option, Some, None, MatchOption, decimal}
-use Rattle.std.specs.Prelude.{map}
+use Rattle.std.specs.Prelude.{◌≡◌, ℕ, zero, suc, List, [], ◌∷◌, Option, Some, None, MatchOption}
+use Rattle.std.specs.Prelude.{decimal, drop, length, map}
 use Rattle.std.specs.List.{slice_get}
 use Rattle.chess.specs.Public.Fen.{IsFen, side_text}
 use Rattle.chess.specs.Public.Positions.{State}
-use Rattle.chess.specs.Public.San.{IsSan}
 use Rattle.chess.specs.declared.moves.Move.{Move}
 use Rattle.pgn_text.specs.Public.GameTexts.{GameText}
 use Rattle.pgn_text.specs.Public.Games.{Item}
-use Rattle.pgn_game.specs.Public.GameLines.{uci_text}
+use Rattle.pgn_game.specs.Public.GameLines.{IsMoveText, AreMoveTexts, uci_text}
 use Rattle.pgn_game.specs.Public.Replays.{Replay}
 use Rattle.pgn_game.specs.Public.Starts.{IsValueOf}
+use Rattle.pgn_game.specs.declared.exports.notation.Notation.{Notation}
+use Rattle.pgn_game.specs.declared.exports.notation.Notation.TheVariants.{San, Uci}
 use Rattle.pgn_criteria.specs.Public.Meeting.{Heading, heading_of}
 use Rattle.pgn_extract.specs.Public.Columns.{column_name, is_number_column}
 use Rattle.pgn_extract.specs.Public.Csv as csv
@@ -26,9 +27,11 @@ use Rattle.pgn_extract.specs.declared.rows.column.Format.TheVariants.{Csv, Tsv, 
 use Rattle.pgn_extract.specs.declared.rows.column.GameColumn.{GameColumn}
 use Rattle.pgn_extract.specs.declared.rows.column.GameColumn.TheVariants.{File, Game, Offset, Id}
 use Rattle.pgn_extract.specs.declared.rows.column.GameColumn.TheVariants.{Result}
+use Rattle.pgn_extract.specs.declared.rows.column.LineColumn.{LineColumn}
+use Rattle.pgn_extract.specs.declared.rows.column.LineColumn.TheVariants.{Plies, Last, Moves}
 use Rattle.pgn_extract.specs.declared.rows.column.PlyColumn.{PlyColumn}
 use Rattle.pgn_extract.specs.declared.rows.column.PlyColumn.TheVariants.{Ply, OfPosition, Next}
-use Rattle.pgn_extract.specs.declared.rows.column.PlyColumn.TheVariants.{NextUci}
+use Rattle.pgn_extract.specs.declared.rows.column.PlyColumn.TheVariants.{NextUci, OfLine}
 use Rattle.pgn_extract.specs.declared.rows.column.PositionColumn.{PositionColumn}
 use Rattle.pgn_extract.specs.declared.rows.column.PositionColumn.TheVariants.{Fen, Turn, Number}
 use Rattle.pgn_extract.specs.declared.rows.column.PositionColumn.TheVariants.{Men, Check, Material}
@@ -77,11 +80,31 @@ abbrev pub IsAt : Replay → ℕ → (State → Type 0) → Type 0
 IsAt replay ply So = (position : State) × (slice_get replay.positions ply ≡ Some position)
     × So position
 
--- the move that is played after so many plies, and nothing where none is
-abbrev pub IsMoveCell : Replay → ℕ → List ℕ → Type 0
-IsMoveCell replay ply cell =
+-- the move that is played after so many plies in a notation, and nothing where none is
+abbrev pub IsMoveIn : Notation → Replay → ℕ → List ℕ → Type 0
+IsMoveIn notation replay ply cell =
     MatchOption (slice_get replay.played ply) (cell ≡ [])
-    (λ m. IsAt replay ply (λ position. IsSan position m cell))
+    (λ m. IsAt replay ply (λ position. IsMoveText notation position m cell))
+
+abbrev pub IsMoveCell : Replay → ℕ → List ℕ → Type 0
+IsMoveCell replay ply cell = IsMoveIn San replay ply cell
+
+-- the move that led to the ply, and nothing at the start
+abbrev pub IsLastCell : Notation → Replay → ℕ → List ℕ → Type 0
+IsLastCell notation replay zero cell = cell ≡ []
+IsLastCell notation replay (suc before) cell = IsMoveIn notation replay before cell
+
+-- all moves of the main line, as a game on a line has them, without the blank before the first
+abbrev pub AreMovesCell : Notation → Replay → List ℕ → Type 0
+AreMovesCell notation replay cell =
+    IsAt replay 0 (λ start. (text : List ℕ) × AreMoveTexts notation start replay.played text
+    × (cell ≡ drop 1 text))
+
+-- what a column shows of a main line that is kept, at a ply
+abbrev pub IsLineCell : LineColumn → Replay → ℕ → List ℕ → Type 0
+IsLineCell Plies replay ply cell = cell ≡ decimal (length replay.played)
+IsLineCell (Last notation) replay ply cell = IsLastCell notation replay ply cell
+IsLineCell (Moves notation) replay ply cell = AreMovesCell notation replay cell
 
 -- that move as `--uci` writes it
 abbrev pub uci_cell : Option Move → List ℕ
@@ -104,6 +127,7 @@ IsPlyCell (OfPosition own) replay ply cell =
     IsAt replay ply (λ position. IsPositionCell own position cell)
 IsPlyCell Next replay ply cell = IsMoveCell replay ply cell
 IsPlyCell NextUci replay ply cell = cell ≡ uci_cell (slice_get replay.played ply)
+IsPlyCell (OfLine own) replay ply cell = IsLineCell own replay ply cell
 
 -- the cell of a column
 abbrev pub IsCell : Column → RowPlace → List ℕ → Type 0

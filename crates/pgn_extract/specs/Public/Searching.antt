@@ -101,13 +101,17 @@ PackedTextIsAPack =
 abbrev pub of_all : Aim → Aim
 of_all aim = record aim { chosen = None }
 
+-- the aim whose lines have this name of a file
+abbrev pub named : Option (List ℕ) → Aim → Aim
+named name aim = record aim { name = name }
+
 -- the listing of a record: of whatever game it is kept, the lines of the entries of that game
 abbrev pub IsRecordListing : Aim → PackedGame → List ℕ → Type 0
 IsRecordListing aim packed text =
     (game : GameText) (replay : Replay) → IsGameText game → IsReplayOf Main game replay
     → IsPacked packed.name packed.number packed.offset game replay packed
     → (entries : List Entry)
-    × AreListed aim (game_id packed.number packed.offset) game replay entries
+    × AreListed (named packed.name aim) (game_id packed.number packed.offset) game replay entries
     × (text ≡ listing packed.name entries)
 
 -- the lines of a record in a mode: in that of the index its mark, else its listing
@@ -158,7 +162,7 @@ abbrev pub ListsWhatWasPacked : Aim → List ℕ → Option (List ℕ) → Optio
 ListsWhatWasPacked aim whole out out' =
     aim.mode ≡ modes.List → (name : Option (List ℕ)) (number : ℕ) (pieces : List MarkedPiece)
     → IsPackOf name number pieces whole
-    → (entries : List Entry) → AreEntries (of_all aim) number pieces entries
+    → (entries : List Entry) → AreEntries (named name (of_all aim)) number pieces entries
     → Appends out out' (listing name entries)
 
 -- the piece is a game whose main line is sound

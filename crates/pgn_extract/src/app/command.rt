@@ -181,8 +181,8 @@ const MODES: &[Choice] = &[
         Takes::Text("COLUMNS"),
         "A row for each position that --list has: names of\n\
          tags, and @file @game @offset @id @ply @fen @placement\n\
-         @turn @number @check @material @next @next-uci\n\
-         @result, with commas between",
+         @turn @number @check @material @next @next-uci @last\n\
+         @last-uci @result @plies @moves @uci, with commas between",
     ),
     choice!("csv", "With --rows, values with commas between [default]"),
     choice!("tsv", "With --rows, values with tabs between"),
@@ -190,8 +190,8 @@ const MODES: &[Choice] = &[
     choice!("no-header", "With --rows, no line of the columns' names"),
     choice!(
         "packed",
-        "With --list or --index, the FILEs are packs: lines of\n\
-         the games that were packed, lists much sooner",
+        "With --list, --rows or --index, the FILEs are packs:\n\
+         lines of the games that were packed, much sooner",
     ),
     choice!("index", "N@O for each readable game; no move is played"),
     choice!(

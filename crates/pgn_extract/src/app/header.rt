@@ -18,7 +18,7 @@ use std::io::Write;
 use strsim::levenshtein;
 
 /// The names of the columns that are no tags.
-const OWN_NAMES: [&str; 14] = [
+const OWN_NAMES: [&str; 19] = [
     "@file",
     "@game",
     "@offset",
@@ -33,6 +33,11 @@ const OWN_NAMES: [&str; 14] = [
     "@next",
     "@next-uci",
     "@result",
+    "@last",
+    "@last-uci",
+    "@plies",
+    "@moves",
+    "@uci",
 ];
 
 /// Why the columns are refused: a line of the program, or one that names a column.

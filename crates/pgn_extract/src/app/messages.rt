@@ -18,7 +18,7 @@ pub const NO_ENTRIES_LISTED: &str = "pgn-extract: --fen and --next go with --lis
 
 /// Rows are the whole output.
 pub const ROWS_ALONE: &str =
-    "pgn-extract: --rows goes with none of --list, --index, --packed, --fen, --next, --others, --faulty, --as-is, --pack, --moves and --uci\n";
+    "pgn-extract: --rows goes with none of --list, --index, --fen, --next, --others, --faulty, --as-is, --pack, --moves and --uci\n";
 
 /// Where there are no rows, they have no format.
 pub const NO_ROWS: &str = "pgn-extract: --csv, --tsv, --jsonl and --no-header go with --rows\n";
@@ -54,12 +54,11 @@ pub const TAGS_ARE_NOT_FIRST: &str =
 pub const BOTH_NAMINGS: &str = "pgn-extract: --with-names and --no-names exclude each other\n";
 
 /// A pack is listed or indexed, and nothing else is done with it.
-pub const PACKS_GIVE_LINES: &str = "pgn-extract: --packed goes with --list or --index\n";
+pub const PACKS_GIVE_LINES: &str = "pgn-extract: --packed goes with --list, --rows or --index\n";
 
-/// The lines of a pack have the names that were packed, and end after the ply; and a pack is
-/// searched as a whole.
+/// The lines of a pack have the names that were packed; and a pack is searched as a whole.
 pub const PACKS_ARE_PLAIN: &str =
-    "pgn-extract: --packed goes with none of --fen, --next, --from, --until, --at, --with-names and --no-names\n";
+    "pgn-extract: --packed goes with none of --from, --until, --at, --with-names and --no-names\n";
 
 /// A pack has something that is the record of no game; its name follows.
 pub const BAD_PACK: &str = "pgn-extract: bad pack: ";

@@ -84,7 +84,7 @@ fn refused_line(request: &Request<'_>) -> Option<&'static str>
 fn refused_rows(request: &Request<'_>) -> Option<&'static str>
     ensures { option_map (λ line. line.now) result ≡ first_line (row_refusals request.now) }
 {
-    let has_mode = request.list | request.index | request.packed | request.fen | request.next;
+    let has_mode = request.list | request.index | request.fen | request.next;
     let has_games = request.others | request.faulty | request.as_is;
     let has_form = request.pack | request.moves | request.uci;
     let has_format = request.csv | request.tsv | request.jsonl;
@@ -111,10 +111,10 @@ fn refused_others(request: &Request<'_>) -> Option<&'static str>
     if request.list & request.index {
         return Some(messages::BOTH_MODES);
     }
-    if request.packed & !has_mode {
+    if request.packed & !(has_mode | request.rows.is_some()) {
         return Some(messages::PACKS_GIVE_LINES);
     }
-    if request.packed & (has_fields | has_mark(request) | request.with_names | request.no_names) {
+    if request.packed & (has_mark(request) | request.with_names | request.no_names) {
         return Some(messages::PACKS_ARE_PLAIN);
     }
     if has_fields & !request.list {
@@ -314,23 +314,6 @@ pub fn settings_of(
         number: order.mark.number,
         offset: order.mark.offset,
     }
-}
-
-/// What is looked for in packs.
-pub fn packed_settings(order: &Order<'_>, criteria: Option<Criteria>) -> Settings
-    ensures asked { aim_of result
-        ≡ record (asked order.now.noted order.now.request None criteria None) {
-          line =
-              result.line;
-        } }
-    ensures plain { is_bare result.line ≡ true }
-{
-    let mut settings = settings_of(order, None, criteria, None);
-    settings.line = EntryLine::Marked(Fields {
-        fen: false,
-        next: false,
-    });
-    settings
 }
 
 /// The mark that the run begins at: that of `--from`, and `1@0` without it. `None` for a bad one.

@@ -2,8 +2,8 @@
 ghost use Rattle.std.specs.Prelude.{◌≡◌, ◌≢◌, ℕ, List, [], false, true, IfErr, IfSome, OnOk};
 ghost use Rattle.pgn_extract.specs.Private.PackStops.{StopsAmongPacks, StopsAtPack, StopsInPack};
 ghost use Rattle.pgn_extract.specs.Public.Aims.{aim_of};
-ghost use Rattle.pgn_extract.specs.Public.Listing.{is_bare};
-ghost use Rattle.pgn_extract.specs.Public.Runs.{Stream, passage, stream_of};
+ghost use Rattle.pgn_extract.specs.Public.Requests.{asked_header};
+ghost use Rattle.pgn_extract.specs.Public.Runs.{Adds, Stream, passage, stream_of};
 ghost use Rattle.pgn_extract.specs.Public.Searching.{IndexesWhatWasPacked, ListsWhatWasPacked};
 ghost use Rattle.pgn_extract.specs.Public.Searching.{Searches};
 ghost use Rattle.pgn_extract.specs.Public.Several.{Unknown, AreKnown};
@@ -12,6 +12,7 @@ ghost use Rattle.pgn_extract.specs.declared.packed.searching.Searched.{Searched}
 
 use crate::app::endings::{flush_rest, line_of, report_bytes, report_line};
 use crate::app::files::{Files, Total, put_unopened};
+use crate::app::header::put_header;
 use crate::app::status::FAILED;
 use crate::app::{end_runs, messages};
 use crate::marks::Met;
@@ -31,6 +32,8 @@ pub struct PackTask<'a> {
     pub alloc: Global,
     /// What is looked for.
     pub settings: Settings,
+    /// Whether rows have no header.
+    pub no_header: bool,
     /// The paths of the packs; none for standard input.
     pub paths: &'a [&'a str],
     /// Whether a summary is asked for.
@@ -58,7 +61,6 @@ fn search_input<'a, I: Read, O: Write>(
 where
     I: Drop,
     requires sound { out.old.faulted ≡ false }
-    requires plain { is_bare task.now.settings.line ≡ true }
     ensures listed { OnOk result (IfSome (I.remaining input)
         (λ whole. ListsWhatWasPacked (aim_of task.now.settings) whole
         (O.contents out.old.inner) (O.contents out.new.inner))) }
@@ -96,7 +98,6 @@ fn search_path<'a, F: Files, O: Write, E: Write>(
 where
     F::Input: Drop,
     requires sound { (out.old.faulted ≡ false) × (err.old.faulted ≡ false) }
-    requires plain { is_bare task.now.settings.line ≡ true }
     ensures searched { OnOk result (F.known files.old path.now ≢ Unknown
         → SearchesPath (aim_of task.now.settings) path.now (F.known files.old path.now)
         (passage O.contents out.old out.new) (passage E.contents err.old err.new)) }
@@ -129,7 +130,6 @@ fn search_paths<'a, F: Files, O: Write, E: Write>(
 where
     F::Input: Drop,
     requires sound { (out.old.faulted ≡ false) × (err.old.faulted ≡ false) }
-    requires plain { is_bare task.now.settings.line ≡ true }
     ensures searched { OnOk result (AreKnown (F.known files.old) (pack_paths task.now)
         → SearchesPaths (aim_of task.now.settings) (F.known files.old) (pack_paths task.now)
         (passage O.contents out.old out.new) (passage E.contents err.old err.new)) }
@@ -159,14 +159,20 @@ pub fn search_packs<F: Files, O: Write, E: Write>(
 where
     F::Input: Drop,
     requires sound { (out.old.faulted ≡ false) × (err.old.faulted ≡ false) }
-    requires plain { is_bare task.now.settings.line ≡ true }
     ensures searched { result ≢ 3 → pack_paths task.now ≢ []
         → AreKnown (F.known files.old) (pack_paths task.now)
-        → (err_there : Stream)
+        → (out_there : Stream) × (err_there : Stream)
+        × Adds (record { old = stream_of O.contents out.old; new = out_there })
+        (asked_header task.now.settings task.now.no_header)
         × SearchesPaths (aim_of task.now.settings) (F.known files.old) (pack_paths task.now)
-        (passage O.contents out.old out.new)
+        (record { old = out_there; new = stream_of O.contents out.new })
         (record { old = stream_of E.contents err.old; new = err_there }) }
 {
+    if let Err(error) = put_header(task.alloc, out, &task.settings, task.no_header) {
+        flush_rest(out);
+        report_line(err, line_of(error));
+        return FAILED;
+    }
     let ended = if task.paths.is_empty() {
         search_input(task, messages::STANDARD_INPUT, files.standard(), out).map(Total::of)
     } else {

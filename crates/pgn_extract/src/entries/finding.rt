@@ -5,6 +5,7 @@ ghost use Rattle.pgn_text.specs.Public.GameTexts.{GameText};
 ghost use Rattle.pgn_extract.specs.Public.Aims.{GameId};
 ghost use Rattle.pgn_extract.specs.Private.Lines.{Where, HasFault, IsNeverMet, Asks, aim_with};
 ghost use Rattle.pgn_extract.specs.Private.Lines.{HandsOn, Fails, NoneBefore, MakesLines};
+ghost use Rattle.pgn_extract.specs.Private.Lines.{IsEnoughFor};
 
 use crate::entries::line::Line;
 use crate::entries::line_maker::LineMaker;
@@ -27,6 +28,7 @@ impl<'s> Finder<'s> {
     fn ask<L: Line, S: Sink>(&self, line: &L, sink: &mut S, is_open: bool) -> Result<bool, L::Fault>
         requires takes { S.Takes self.now.lines }
         requires valid { L.Valid line.now }
+        requires shows { IsEnoughFor L.Shows self.now.lines }
         ensures asked { IfOk result (Asks (S.Gets self.now.mark.items) self.now (L.At line.now)
             sink.old sink.new is_open) }
         ensures fault { IfErr result (λ fault. IfSome (L.fault_of fault)
@@ -55,6 +57,7 @@ impl<'s> Finder<'s> {
     ) -> Result<(), L::Fault>
         requires takes { S.Takes self.now.lines }
         requires valid { L.Valid line.old }
+        requires shows { IsEnoughFor L.Shows self.now.lines }
         requires open { is_open ≡ false → Where (L.At line.old) IsNeverMet }
         ensures found { OnOk result ((name : Option (List ℕ)) (id : GameId) (game : GameText)
             (before : List State) (P : State)

@@ -1,58 +1,36 @@
-//! The entries of a game whose criteria speak of its moves at each ply: its main line is replayed
-//! and kept, and then looked through.
+//! The entries of a game whose criteria speak of its moves at each ply, or whose rows show what is
+//! known of its whole main line: that is replayed and kept, and then looked through.
 ghost use Rattle.std.specs.Prelude.{◌≡◌, ◌≤◌, ◌<◌, ◌+◌, ◌-◌, ◌++◌, [], List, ℕ, MatchResult};
-ghost use Rattle.std.specs.Prelude.{IfSome, Some, None, OnOk, length, refl};
+ghost use Rattle.std.specs.Prelude.{Option, IfErr, IfOk, IfSome, Some, None, OnOk, length, refl};
 ghost use Rattle.chess.specs.Public.Positions.{State};
 ghost use Rattle.pgn_text.specs.Public.GameTexts.{tag_in};
 ghost use Rattle.pgn_game.specs.Public.CodeLines.{IsLegalLine};
 ghost use Rattle.pgn_game.specs.Public.Faults.{IsFault};
 ghost use Rattle.pgn_game.specs.Public.Replays.{fault_of};
+ghost use Rattle.pgn_criteria.specs.Public.Meeting.{Heading, heading_of};
 ghost use Rattle.pgn_game.specs.Public.Starts.{fen_tag};
 ghost use Rattle.pgn_game.specs.declared.replays.replayer.Lines.TheVariants.{Main};
-ghost use Rattle.pgn_extract.specs.Public.Aims.{Aim, aim_of};
-ghost use Rattle.pgn_extract.specs.Private.Finding.{IsChosen};
-ghost use Rattle.pgn_extract.specs.Private.KeptLines.{IsKeptWith};
-ghost use Rattle.pgn_extract.specs.Public.Listing.{IsNextField};
+ghost use Rattle.pgn_extract.specs.Public.Aims.{Aim, GameId, aim_of};
+ghost use Rattle.pgn_extract.specs.Private.Finding.{IsChosen, IsOfGame, StopsAtFault};
+ghost use Rattle.pgn_extract.specs.Private.KeptLines.{AreReported, IsKeptWith};
 ghost use Rattle.pgn_extract.specs.Private.RowTexts.{IsPlainValue};
+ghost use Rattle.pgn_extract.specs.Private.Lines.{aim_with, HandsOn, MakesLines, marked_lines};
 ghost use Rattle.pgn_extract.specs.Public.Rows.{IsMoveCell, uci_cell};
 ghost use Rattle.std.specs.List.{slice_get};
 
+use crate::entries::finding::Finder;
 use crate::entries::line::Line;
-use crate::entries::played::{push_fen, push_position_value};
+use crate::entries::line_value::push_line_value;
+use crate::entries::played::push_position_value;
 use crate::output::texts::push_number;
 use crate::rows::column::PlyColumn;
 use crate::rows::uci::push_uci;
-use crate::settings::{Fields, Settings};
+use crate::settings::Settings;
 use chess::san;
 use pgn_criteria::Criteria;
 use pgn_game::{GameFault, Lines, Replayed, replay};
 use pgn_text::RawGame;
 use std::alloc::{AllocError, Global};
-
-/// Appends the text of the move that is played after so many plies after a blank, or `-` where none
-/// is, if that is asked for.
-fn push_played(
-    text: &mut Vec<u8>,
-    is_asked: bool,
-    replayed: &Replayed,
-    ply: usize,
-) -> Result<(), AllocError>
-    requires within { ply ≤ length replayed.now.played }
-    requires legal { (start : State) × IsLegalLine start replayed.now }
-    ensures { OnOk result ((shown : List ℕ) × IsNextField is_asked replayed.now ply shown
-        × (text.new.items ≡ text.old.items ++ shown)) }
-{
-    if !is_asked {
-        return Ok(());
-    }
-    text.extend_from_slice(b" ")?;
-    if ply == replayed.plies() {
-        text.extend_from_slice(b"-")?;
-        return Ok(());
-    }
-    text.extend_from_slice(san(replayed.position(ply), replayed.played(ply)).as_bytes())?;
-    Ok(())
-}
 
 /// Appends the text of the move that is played after so many plies, and nothing where none is.
 fn push_played_value(text: &mut Vec<u8>, replayed: &Replayed, ply: usize) -> Result<(), AllocError>
@@ -96,23 +74,50 @@ pub(crate) struct Kept {
     ghost sized: { length met.items ≡ length replayed.played + 1 },
 }
 
+/// Each position of the main line is met, where there are no criteria.
+pub(crate) fn all_met(alloc: Global, replayed: &Replayed) -> Result<Vec<bool>, AllocError>
+    ensures { IfOk result (λ met. (heading : Heading)
+        → AreReported None heading replayed.now met.items) }
+{
+    let mut met = vec![in alloc; true; replayed.plies()]?;
+    met.push(true)?;
+    Ok(met)
+}
+
+/// For each position of the main line whether it meets the criteria.
+fn met_plies<'a>(
+    alloc: Global,
+    criteria: &'a Option<Criteria>,
+    game: &RawGame<'a>,
+    replayed: &Replayed,
+) -> Result<Vec<bool>, AllocError>
+    requires { IsOfGame game.now replayed.now }
+    ensures { IfOk result (λ met.
+        AreReported criteria.now (heading_of game.now) replayed.now met.items) }
+{
+    match criteria {
+        Some(criteria) => criteria.met_plies(alloc, game, replayed),
+        None => all_met(alloc, replayed),
+    }
+}
+
 impl Kept {
     /// The main line of the game, or its fault.
     pub(crate) fn of_game<'a>(
         alloc: Global,
-        criteria: &'a Criteria,
+        criteria: &'a Option<Criteria>,
         game: &RawGame<'a>,
     ) -> Result<Self, GameFault<'a>>
         ensures { MatchResult result
             (λ line. ((start : State) × IsLegalLine start line.replayed)
-            × ((aim : Aim) → aim.criteria ≡ Some criteria.now
+            × ((aim : Aim) → aim.criteria ≡ criteria.now
             → (P : State) × IsKeptWith line.replayed line.met.items line.ply aim game.now [] P))
             (λ fault.
             IfSome (fault_of fault)
             (IsFault Main (tag_in fen_tag game.now.tags) game.now.elements)) }
     {
         let replayed = replay(alloc, game, Lines::Main)?;
-        let met = criteria.met_plies(alloc, game, &replayed)?;
+        let met = met_plies(alloc, criteria, game, &replayed)?;
         pgn_game::laws::one_legal_move();
         Ok(Kept {
             replayed,
@@ -130,6 +135,8 @@ impl Line for Kept {
 
     ghost Valid = { λ own. (start : State) × IsLegalLine start own.replayed };
 
+    ghost Shows = { λ column. Unit {0} };
+
     ghost size = { λ own. length own.met.items - own.ply };
 
     ghost fault_of = { λ _. None };
@@ -144,11 +151,6 @@ impl Line for Kept {
         self.met[self.ply]
     }
 
-    fn push_fields(&self, text: &mut Vec<u8>, fields: Fields) -> Result<(), AllocError> {
-        push_fen(text, fields.fen, self.replayed.position(self.ply))?;
-        push_played(text, fields.next, &self.replayed, self.ply)
-    }
-
     fn push_value(&self, text: &mut Vec<u8>, column: PlyColumn) -> Result<(), AllocError> {
         match column {
             PlyColumn::Ply => push_number(text, self.ply),
@@ -157,6 +159,7 @@ impl Line for Kept {
             }
             PlyColumn::Next => push_played_value(text, &self.replayed, self.ply),
             PlyColumn::NextUci => push_played_uci(text, &self.replayed, self.ply),
+            PlyColumn::OfLine(own) => push_line_value(text, &self.replayed, self.ply, own),
         }
     }
 
@@ -173,6 +176,25 @@ impl Line for Kept {
     ghost stands = { λ own aim game before P at. at.stands };
 
     ghost memory = { λ error fault from. refl };
+}
+
+/// Replays and keeps the main line of the game, and adds the lines of its entries.
+pub(crate) fn find_kept<'a>(
+    finder: &Finder<'a>,
+    alloc: Global,
+    game: &RawGame<'a>,
+    text: &mut Vec<u8>,
+) -> Result<(), GameFault<'a>>
+    ensures found { OnOk result ((name : Option (List ℕ)) (id : GameId)
+        → MakesLines finder.now.lines name id game.now
+        → HandsOn (aim_with finder.now name) id game.now
+        (λ got. text.new.items ≡ text.old.items ++ marked_lines finder.now.mark.items got)) }
+    ensures fault { IfErr result (λ fault.
+        IfSome (fault_of fault) (StopsAtFault game.now text.old.items text.new.items)) }
+{
+    let mut line = Kept::of_game(alloc, &finder.settings.criteria, game)?;
+    finder.find(&mut line, text, true)?;
+    Ok(())
 }
 
 /// Whether a game has an entry by criteria, or the fault of its main line. The positions of its

@@ -6,16 +6,17 @@ ghost use Rattle.chess.specs.Public.Positions.{State};
 ghost use Rattle.pgn_text.specs.Public.GameTexts.{GameText};
 ghost use Rattle.pgn_game.specs.Public.Faults.{Fault as OwnFault};
 ghost use Rattle.pgn_extract.specs.Public.Aims.{Aim};
-ghost use Rattle.pgn_extract.specs.Private.Lines.{Stands, Where, MeetsHere, ShowsFields, HasFault};
+ghost use Rattle.pgn_extract.specs.Private.Lines.{Stands, Where, MeetsHere, HasFault};
 ghost use Rattle.pgn_extract.specs.Private.Lines.{GoesTo, ShowsValue};
 ghost use Rattle.pgn_extract.specs.Private.RowTexts.{IsPlainValue};
 
 use crate::rows::column::PlyColumn;
-use crate::settings::Fields;
 use std::alloc::AllocError;
 
 /// A main line, and a question that each position is asked as it is reached.
 pub(crate) trait Line {
+    ghost use Rattle.pgn_extract.specs.declared.rows.column.PlyColumn.{PlyColumn};
+
     /// Why it does not go on.
     type Fault: From<AllocError>;
 
@@ -25,6 +26,9 @@ pub(crate) trait Line {
 
     /// Of whatever game it is, what is shown can be written.
     ghost Valid: { Self → Type 0 };
+
+    /// It shows these columns.
+    ghost Shows: { PlyColumn → Type 0 };
 
     /// How many steps may follow.
     ghost size: { Self → ℕ };
@@ -40,19 +44,10 @@ pub(crate) trait Line {
     fn is_met(&self) -> bool
         ensures { Where (At self.now) (MeetsHere result) };
 
-    /// Appends what is shown of it. A next move that cannot be played is answered as a fault.
-    fn push_fields(&self, text: &mut Vec<u8>, fields: Fields) -> Result<(), Self::Fault>
-        requires { Valid self.now }
-        ensures shown { OnOk result ((shown : List ℕ)
-            × Where (At self.now) (ShowsFields fields shown)
-            × (text.new.items ≡ text.old.items ++ shown)) }
-        ensures fault { IfErr result (λ fault. IfSome (fault_of fault)
-            (λ own. Where (At self.now) (HasFault own) × (some : List ℕ)
-            × (text.new.items ≡ text.old.items ++ some))) };
-
     /// Appends what a column shows of it. A next move that cannot be played is answered as a fault.
     fn push_value(&self, text: &mut Vec<u8>, column: PlyColumn) -> Result<(), Self::Fault>
-        requires { Valid self.now }
+        requires valid { Valid self.now }
+        requires shows { Shows column }
         ensures shown { OnOk result ((value : List ℕ) × IsPlainValue value
             × Where (At self.now) (ShowsValue column value)
             × (text.new.items ≡ text.old.items ++ value)) }

@@ -1,12 +1,13 @@
 //! How the lines of the entries of a game are made.
 ghost use Rattle.std.specs.Prelude.{◌≡◌, IfOk};
-ghost use Rattle.pgn_extract.specs.Private.Lines.{MakesLines, made_line};
+ghost use Rattle.pgn_extract.specs.Private.Lines.{MakesLines, made_line, keeps_line};
+ghost use Rattle.pgn_extract.specs.Private.RowGames.{IsGameIn, name_of};
+ghost use Rattle.pgn_text.specs.Public.GameTexts.{GameText};
 
-use crate::entries::GameContext;
+use crate::entries::row_game::RowGame;
 use crate::entries::row_maker::RowMaker;
 use crate::settings::{EntryLine, Fields};
-use pgn_text::RawGame;
-use std::alloc::AllocError;
+use std::alloc::{AllocError, Global};
 
 /// What is shown of an entry: something after its mark and its ply, or a row.
 #[derive(Drop)]
@@ -16,16 +17,29 @@ pub(crate) enum LineMaker<'s> {
 }
 
 impl<'s> LineMaker<'s> {
-    /// What is shown of the entries of the game.
-    pub(crate) fn of_game(context: GameContext<'s>, game: &RawGame<'s>) -> Result<Self, AllocError>
-        ensures { IfOk result (λ lines. (context.entry.settings.now.line ≡ made_line lines)
-            × MakesLines lines context.entry.settings.now.name context.entry.own game.now) }
+    /// Whether the whole main line is kept for it.
+    pub(crate) fn needs_line(&self) -> bool
+        ensures { result ≡ keeps_line self.now }
     {
-        match &context.settings.line {
+        match self {
+            LineMaker::Fields(_) => false,
+            LineMaker::Rows(rows) => rows.needs_line(),
+        }
+    }
+
+    /// What is shown of the entries of the game.
+    pub(crate) fn of_game(
+        alloc: Global,
+        line: &'s EntryLine,
+        game: RowGame<'_, '_>,
+    ) -> Result<Self, AllocError>
+        ensures { IfOk result (λ lines. (line.now ≡ made_line lines)
+            × ((text : GameText) → IsGameIn game.entry.source text
+            → MakesLines lines (name_of game.entry) game.entry.id text)) }
+    {
+        match line {
             EntryLine::Marked(fields) => Ok(LineMaker::Fields(*fields)),
-            EntryLine::InColumns(row) => {
-                Ok(LineMaker::Rows(RowMaker::of_game(context, row, game)?))
-            }
+            EntryLine::InColumns(row) => Ok(LineMaker::Rows(RowMaker::of_game(alloc, row, game)?)),
         }
     }
 }

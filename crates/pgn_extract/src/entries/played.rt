@@ -9,24 +9,23 @@ ghost use Rattle.pgn_game.specs.Public.Faults.{IsFault};
 ghost use Rattle.pgn_game.specs.Public.Starts.{fen_tag};
 ghost use Rattle.pgn_game.specs.declared.replays.replayer.Lines.TheVariants.{Main};
 ghost use Rattle.pgn_extract.specs.Public.Aims.{GameId, aim_of};
-ghost use Rattle.pgn_extract.specs.Private.Lines.{aim_with, HandsOn, MakesLines};
+ghost use Rattle.pgn_extract.specs.Private.Lines.{aim_with, HandsOn, MakesLines, keeps_line};
 ghost use Rattle.pgn_criteria.specs.Public.Meeting.{Heading, SomeHold};
 ghost use Rattle.pgn_criteria.specs.Public.Conditions.{Conditions};
 ghost use Rattle.pgn_game.specs.Public.Replays.{Replay, fault_of};
-ghost use Rattle.pgn_extract.specs.Private.Finding.{AsksFor, StopsInLine, ShowsPosition, ShowsNext};
+ghost use Rattle.pgn_extract.specs.Private.Finding.{AsksFor, StopsInLine};
 ghost use Rattle.pgn_extract.specs.Private.Finding.{IsDashLeftOut, IsNextValue, IsNextUci};
-ghost use Rattle.pgn_extract.specs.Private.RowTexts.{IsPlainValue};
+ghost use Rattle.pgn_extract.specs.Private.RowTexts.{IsPlainValue, needs_line};
 ghost use Rattle.pgn_extract.specs.Public.Rows.{IsPositionCell};
 ghost use Rattle.pgn_extract.specs.Private.PlayedLines.{IsPlayedWith};
 
 use crate::entries::finding::Finder;
 use crate::entries::line::Line;
 use crate::entries::sink::Sink;
-use crate::output::texts::{push_blank, push_number};
+use crate::output::texts::push_number;
 use crate::rows::column::{PlyColumn, PositionColumn};
 use crate::rows::position::{check_sign, push_material, push_men};
 use crate::rows::uci::push_uci;
-use crate::settings::Fields;
 use chess::{Move, Side, resolve};
 use pgn_criteria::Search;
 use pgn_game::{GameFault, GamePosition, MainLine};
@@ -81,44 +80,6 @@ impl Question for Anything {
     fn is_met(&self, _: &GamePosition) -> bool {
         true
     }
-}
-
-/// Appends what a line shows of the position that is reached: its text in FEN after a blank, where
-/// that is asked for.
-pub(crate) fn push_fen(
-    text: &mut Vec<u8>,
-    is_asked: bool,
-    position: &GamePosition,
-) -> Result<(), AllocError>
-    ensures { OnOk result ((shown : List ℕ) × ShowsPosition is_asked position.now shown
-        × (text.new.items ≡ text.old.items ++ shown)) }
-{
-    if is_asked {
-        push_blank(text)?;
-        text.extend_from_slice(position.fen().as_bytes())?;
-    }
-    Ok(())
-}
-
-/// Appends the text of the next move after a blank, where that is asked for. A move that cannot be
-/// played is answered as a fault.
-#[inline(always)]
-fn push_next<'a>(
-    text: &mut Vec<u8>,
-    is_asked: bool,
-    line: &MainLine<'_, 'a>,
-) -> Result<(), GameFault<'a>>
-    ensures shown { OnOk result ((shown : List ℕ) × ShowsNext is_asked line.now shown
-        × (text.new.items ≡ text.old.items ++ shown)) }
-    ensures fault { IfErr result (λ fault.
-        IfSome (fault_of fault) (StopsInLine line.now text.old.items text.new.items)) }
-    ensures kept { (some : List ℕ) × (text.new.items ≡ text.old.items ++ some) }
-{
-    if !is_asked {
-        return Ok(());
-    }
-    push_blank(text)?;
-    line.push_next(text)
 }
 
 /// Appends what a column shows of a position.
@@ -230,6 +191,8 @@ impl<'g, 'a, Q: Question> Line for Played<'g, 'a, Q> {
 
     ghost Valid = { λ own. Unit {0} };
 
+    ghost Shows = { λ column. needs_line column ≡ false };
+
     ghost size = { λ own. length own.line.words };
 
     ghost fault_of = { λ fault. fault_of fault };
@@ -244,12 +207,6 @@ impl<'g, 'a, Q: Question> Line for Played<'g, 'a, Q> {
         self.question.is_met(self.line.position())
     }
 
-    #[inline(always)]
-    fn push_fields(&self, text: &mut Vec<u8>, fields: Fields) -> Result<(), GameFault<'a>> {
-        push_fen(text, fields.fen, self.line.position())?;
-        push_next(text, fields.next, &self.line)
-    }
-
     fn push_value(&self, text: &mut Vec<u8>, column: PlyColumn) -> Result<(), GameFault<'a>> {
         match column {
             PlyColumn::Ply => {
@@ -262,6 +219,7 @@ impl<'g, 'a, Q: Question> Line for Played<'g, 'a, Q> {
             }
             PlyColumn::Next => push_next_value(text, &self.line),
             PlyColumn::NextUci => push_next_uci(text, &self.line),
+            PlyColumn::OfLine(_) => unreachable!(),
         }
     }
 
@@ -285,6 +243,7 @@ pub(crate) fn find_played<'a, Q: Question, S: Sink>(
     sink: &mut S,
 ) -> Result<(), GameFault<'a>>
     requires takes { S.Takes finder.now.lines }
+    requires shows { keeps_line finder.now.lines ≡ false }
     requires asks { AsksFor (aim_of finder.now.settings.now) game.now (Q.asked question) }
     ensures found { OnOk result ((name : Option (List ℕ)) (id : GameId)
         → MakesLines finder.now.lines name id game.now

@@ -4,20 +4,21 @@ ghost use Rattle.std.specs.Prelude.{option_map};
 ghost use Rattle.pgn_extract.specs.Private.Lines.{Where, HasFault, ShowsValues};
 ghost use Rattle.pgn_extract.specs.Private.RowTexts.{MakesRows, EndsPart, AddsCell, or_quotes};
 ghost use Rattle.pgn_extract.specs.Private.RowTexts.{filled, columns_of, ArePlainValues};
-ghost use Rattle.pgn_extract.specs.Private.RowTexts.{quote_text};
+ghost use Rattle.pgn_extract.specs.Private.RowTexts.{quote_text, EachColumn, need_line};
 ghost use Rattle.pgn_extract.specs.Public.Columns.{is_number_of_ply};
 ghost use Rattle.pgn_extract.specs.Public.Rows.{game_cell, IsTagCell};
 ghost use Rattle.pgn_criteria.specs.Public.Meeting.{heading_of};
-ghost use Rattle.pgn_text.specs.Public.GameTexts.{tag_in};
+ghost use Rattle.pgn_text.specs.Public.GameTexts.{GameText, tag_in};
+ghost use Rattle.pgn_extract.specs.Private.RowGames.{IsGameIn, name_of};
 ghost use Rattle.pgn_text.specs.Public.Strings.{IsContents};
 ghost use Rattle.pgn_game.specs.Public.Starts.{IsValueOf};
 
-use crate::entries::GameContext;
 use crate::entries::line::Line;
+use crate::entries::row_game::RowGame;
 use crate::output::texts::{push_mark, push_number};
 use crate::rows::column::{Column, Format, GameColumn, PlyColumn, Row};
 use crate::rows::format::{end_row, push_gap, push_key, push_value};
-use pgn_text::{RawGame, value};
+use pgn_text::value;
 use std::alloc::{AllocError, Global};
 use std::mem;
 
@@ -66,34 +67,32 @@ fn put_given(own: &mut Vec<u8>, contents: Option<&[u8]>) -> Result<(), AllocErro
 }
 
 /// Makes the value of the tag with this name, which the game may not have.
-fn put_tag(own: &mut Vec<u8>, game: &RawGame<'_>, name: &[u8]) -> Result<(), AllocError>
-    ensures { OnOk result (IsTagCell (tag_in name.now game.now.tags) own.new.items) }
+fn put_tag(own: &mut Vec<u8>, game: RowGame<'_, '_>, name: &[u8]) -> Result<(), AllocError>
+    ensures { OnOk result ((text : GameText) → IsGameIn game.entry.source text
+        → IsTagCell (tag_in name.now text.tags) own.new.items) }
 {
-    let contents = game.tags().get(name).copied();
-    put_given(own, contents)
+    put_given(own, game.source.tag(name))
 }
 
 /// Makes what a column shows of the game.
 fn put_game_value(
     own: &mut Vec<u8>,
-    context: GameContext<'_>,
-    game: &RawGame<'_>,
+    game: RowGame<'_, '_>,
     column: GameColumn,
 ) -> Result<(), AllocError>
-    ensures { OnOk result (own.new.items
-        ≡ game_cell column context.entry.settings.now.name context.entry.own
-        (heading_of game.now)) }
+    ensures { OnOk result ((text : GameText) → IsGameIn game.entry.source text
+        → own.new.items ≡ game_cell column (name_of game.entry) game.entry.id (heading_of text)) }
 {
     own.clear();
     match column {
-        GameColumn::File => match &context.settings.name {
-            Some(name) => own.extend_from_slice(name.bytes()),
+        GameColumn::File => match game.name {
+            Some(name) => own.extend_from_slice(name),
             None => Ok(()),
         },
-        GameColumn::Game => push_number(own, context.own.number as usize),
-        GameColumn::Offset => push_number(own, context.own.offset as usize),
-        GameColumn::Id => push_mark(own, context.own),
-        GameColumn::Result => own.extend_from_slice(game.result()),
+        GameColumn::Game => push_number(own, game.id.number as usize),
+        GameColumn::Offset => push_number(own, game.id.offset as usize),
+        GameColumn::Id => push_mark(own, game.id),
+        GameColumn::Result => own.extend_from_slice(game.source.result()),
     }
 }
 
@@ -125,13 +124,12 @@ impl<'s> RowMaker<'s> {
     fn add_column(
         &mut self,
         own: &mut Vec<u8>,
-        context: GameContext<'_>,
-        game: &RawGame<'_>,
+        game: RowGame<'_, '_>,
         column: &Column,
     ) -> Result<(), AllocError>
         ensures row { OnOk result (self.new.row.now ≡ self.old.row.now) }
-        ensures cell { OnOk result (AddsCell self.old self.new context.entry.settings.now.name
-            context.entry.own game.now column.now) }
+        ensures cell { OnOk result ((text : GameText) → IsGameIn game.entry.source text
+            → AddsCell self.old self.new (name_of game.entry) game.entry.id text column.now) }
     {
         let format = self.row.format;
         push_key(&mut self.last, format, column)?;
@@ -141,7 +139,7 @@ impl<'s> RowMaker<'s> {
                 push_value(&mut self.last, format, false, own)
             }
             Column::OfGame(shown) => {
-                put_game_value(own, context, game, *shown)?;
+                put_game_value(own, game, *shown)?;
                 push_value(&mut self.last, format, shown.is_number(), own)
             }
             Column::OfPly(shown) => self.end_part(*shown),
@@ -149,15 +147,15 @@ impl<'s> RowMaker<'s> {
     }
 
     /// The rows of the game.
-    pub(crate) fn of_game<'a>(
-        context: GameContext<'a>,
+    pub(crate) fn of_game(
+        alloc: Global,
         row: &'s Row,
-        game: &RawGame<'a>,
+        game: RowGame<'_, '_>,
     ) -> Result<Self, AllocError>
         ensures { IfOk result (λ maker. (maker.row.now ≡ row.now)
-            × MakesRows maker context.entry.settings.now.name context.entry.own game.now) }
+            × ((text : GameText) → IsGameIn game.entry.source text
+            → MakesRows maker (name_of game.entry) game.entry.id text)) }
     {
-        let alloc = context.alloc;
         let mut maker = RowMaker {
             alloc,
             row,
@@ -168,17 +166,25 @@ impl<'s> RowMaker<'s> {
         let mut is_first = true;
         for column in &row.columns {
             push_gap(&mut maker.last, row.format, is_first)?;
-            maker.add_column(&mut own, context, game, column)?;
+            maker.add_column(&mut own, game, column)?;
             is_first = false;
         }
         maker.last.extend_from_slice(row.format.back())?;
         Ok(maker)
     }
 
+    /// Whether the whole main line is kept for one of the columns.
+    pub(crate) fn needs_line(&self) -> bool
+        ensures { result ≡ need_line self.now.parts.items }
+    {
+        self.parts.iter().any(|part| part.column.needs_line())
+    }
+
     /// Appends the row of the ply where the line stands.
     #[inline(always)]
     pub(crate) fn push_row<L: Line>(&self, text: &mut Vec<u8>, line: &L) -> Result<(), L::Fault>
-        requires { L.Valid line.now }
+        requires valid { L.Valid line.now }
+        requires shows { EachColumn L.Shows self.now.parts.items }
         ensures shown { OnOk result ((values : List (List ℕ))
             × Where (L.At line.now) (ShowsValues (columns_of self.now.parts.items) values)
             × ArePlainValues values

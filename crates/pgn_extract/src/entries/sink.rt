@@ -3,10 +3,11 @@ ghost use Rattle.std.specs.Prelude.{◌≡◌, ◌∷◌, ◌++◌, [], ℕ, Lis
 ghost use Rattle.std.specs.Prelude.{refl};
 ghost use Rattle.pgn_extract.specs.Public.Listing.{Entry, is_bare};
 ghost use Rattle.pgn_extract.specs.Private.Lines.{Where, HasFault, marked_lines};
-ghost use Rattle.pgn_extract.specs.Private.Lines.{or_some, made_line};
+ghost use Rattle.pgn_extract.specs.Private.Lines.{or_some, made_line, IsEnoughFor};
 ghost use Rattle.pgn_extract.specs.Private.Sinks.{PutsHere, lines_none, lines_more, some_more};
 ghost use Rattle.pgn_extract.specs.Private.Sinks.{grows_none, grows_more};
 
+use crate::entries::fields::push_fields;
 use crate::entries::line::Line;
 use crate::entries::line_maker::LineMaker;
 use crate::output::texts::{end_line, push_ply};
@@ -28,6 +29,7 @@ pub(crate) trait Sink {
     fn put<L: Line>(&mut self, mark: &[u8], line: &L, lines: &LineMaker<'_>) -> Result<(), L::Fault>
         requires takes { Takes lines.now }
         requires valid { L.Valid line.now }
+        requires shows { IsEnoughFor L.Shows lines.now }
         ensures put { OnOk result
             (PutsHere (Gets mark.now self.old) (L.At line.now) lines.now self.new) }
         ensures fault { IfErr result (λ fault. IfSome (L.fault_of fault)
@@ -66,7 +68,7 @@ impl Sink for Vec<u8> {
         match lines {
             LineMaker::Fields(fields) => {
                 push_ply(self, mark, line.ply())?;
-                line.push_fields(self, *fields)?;
+                push_fields(self, line, *fields)?;
                 end_line(self)?;
                 Ok(())
             }

@@ -1,22 +1,28 @@
 //! The entries of a packed game whose criteria speak of its moves or of several plies: its line is
 //! replayed and kept, and then looked through.
-ghost use Rattle.std.specs.Prelude.{◌≡◌, true, Some, OnOk, IfOk, IfErr};
+ghost use Rattle.std.specs.Prelude.{◌≡◌, OnOk, IfOk, IfErr, length};
 ghost use Rattle.pgn_text.specs.Public.GameTexts.{tag_in};
 ghost use Rattle.pgn_game.specs.Public.Starts.{fen_tag};
 ghost use Rattle.pgn_game.specs.Public.PackReading.{IsRawOfGame};
-ghost use Rattle.pgn_extract.specs.Public.Aims.{aim_of};
+ghost use Rattle.pgn_extract.specs.Public.Aims.{Aim, aim_of};
 ghost use Rattle.pgn_extract.specs.Private.KeptPacked.{IsStartOf, IsKeptOf};
 ghost use Rattle.pgn_extract.specs.Public.Listing.{is_bare};
 ghost use Rattle.pgn_extract.specs.Private.Packed.{EachOfRecord, HasNoText, ListsRecord};
+ghost use Rattle.pgn_extract.specs.Private.Packed.{StandsInRecord};
+ghost use Rattle.pgn_extract.specs.Private.KeptLines.{AreReported, IsKeptWith};
+ghost use Rattle.pgn_criteria.specs.Public.Meeting.{heading_of};
+ghost use Rattle.chess.specs.Public.Positions.{State};
+ghost use Rattle.pgn_game.specs.Public.CodeLines.{IsLegalLine};
 
-use crate::entries::kept::Kept;
-use crate::packed::{PackedFault, push_found, start_fault};
-use crate::settings::Settings;
+use crate::entries::kept::{Kept, all_met};
+use crate::entries::line_maker::LineMaker;
+use crate::entries::row_game::RowGame;
+use crate::packed::{PackedFault, RecordContext, push_found, start_fault};
 use pgn_criteria::Criteria;
 use pgn_game::pack::{CodesError, RawRecord, replay_codes};
 use pgn_game::{GamePosition, Replayed, given_position};
 use pgn_text::is_contents;
-use std::alloc::Global;
+use std::alloc::{AllocError, Global};
 
 /// Replays the line of the record from the position.
 fn replay_from(
@@ -66,33 +72,76 @@ fn replay_record(alloc: Global, raw: &RawRecord<'_>) -> Result<Replayed, PackedF
     }
 }
 
-/// Adds the lines of the entries of a packed game by criteria. The positions of its line are kept
-/// meanwhile.
-pub fn push_kept_record<'a>(
-    text: &mut Vec<u8>,
+/// Whether each position of the record's line meets the criteria; each does where there are none.
+fn met_of<'a>(
     alloc: Global,
-    settings: &'a Settings,
-    criteria: &'a Criteria,
+    criteria: &'a Option<Criteria>,
     raw: &RawRecord<'a>,
-) -> Result<(), PackedFault>
-    requires plain { is_bare settings.now.line ≡ true }
-    requires criteria { settings.now.criteria ≡ Some criteria.now }
+    replayed: &Replayed,
+) -> Result<Vec<bool>, AllocError>
     requires shows { IsRawOfGame raw.now }
-    ensures ok { OnOk result
-        (ListsRecord (aim_of settings.now) raw.now text.old.items text.new.items) }
-    ensures err { IfErr result (λ fault. fault ≡ PackedFault.NoGame
-        → (text.new.items ≡ text.old.items) × HasNoText raw.now) }
+    requires kept { IsKeptOf raw.now replayed.now }
+    ensures each { IfOk result (λ met. length met.items ≡ length replayed.now.positions) }
+    ensures met { IfOk result (λ met. EachOfRecord raw.now (λ game replay packed.
+        AreReported criteria.now (heading_of game) replayed.now met.items)) }
 {
-    let replayed = match replay_record(alloc, raw) {
+    match criteria {
+        Some(criteria) => criteria.met_packed(alloc, raw, replayed),
+        None => all_met(alloc, replayed),
+    }
+}
+
+/// The line of the record with what is known of each of its positions.
+fn kept_line<'a>(context: RecordContext<'a, '_, 'a>) -> Result<Kept, PackedFault>
+    requires shows { IsRawOfGame context.record.now }
+    ensures valid { IfOk result (λ line. (start : State) × IsLegalLine start line.replayed) }
+    ensures ok { IfOk result (λ line. (aim : Aim)
+        → aim.criteria ≡ context.entry.settings.now.criteria
+        → StandsInRecord (λ own game before P.
+        IsKeptWith line.replayed line.met.items line.ply own game before P)
+        aim context.entry.record.now) }
+    ensures err { IfErr result (λ fault. fault ≡ PackedFault.NoGame
+        → HasNoText context.entry.record.now) }
+{
+    let RecordContext {
+        alloc,
+        settings,
+        record,
+    } = context;
+    let replayed = match replay_record(alloc, record) {
         Ok(replayed) => replayed,
         Err(fault) => return Err(fault),
     };
-    let met = criteria.met_packed(alloc, raw, &replayed)?;
-    let line = Kept {
+    let met = met_of(alloc, &settings.criteria, record, &replayed)?;
+    Ok(Kept {
         replayed,
         met,
         ply: 0,
+    })
+}
+
+/// Adds the lines of the entries of a packed game, whatever they show. The positions of its line
+/// are kept meanwhile.
+pub(crate) fn push_kept_record<'a>(
+    text: &mut Vec<u8>,
+    context: RecordContext<'a, '_, 'a>,
+) -> Result<(), PackedFault>
+    requires shows { IsRawOfGame context.record.now }
+    ensures ok { OnOk result (ListsRecord (aim_of context.entry.settings.now)
+        context.entry.record.now text.old.items text.new.items) }
+    ensures err { IfErr result (λ fault. fault ≡ PackedFault.NoGame
+        → (text.new.items ≡ text.old.items) × HasNoText context.entry.record.now) }
+{
+    let line = match kept_line(context) {
+        Ok(line) => line,
+        Err(fault) => return Err(fault),
     };
-    push_found(text, alloc, settings, raw, line)?;
+    let RecordContext {
+        alloc,
+        settings,
+        record,
+    } = context;
+    let lines = LineMaker::of_game(alloc, &settings.line, RowGame::in_pack(record))?;
+    push_found(text, context, lines, line)?;
     Ok(())
 }

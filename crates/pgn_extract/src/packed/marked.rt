@@ -6,7 +6,6 @@ ghost use Rattle.pgn_extract.specs.Private.WalkedLines.{IsMarkedWith};
 
 use crate::entries::line::Line;
 use crate::rows::column::PlyColumn;
-use crate::settings::Fields;
 use chess::Side;
 use pgn_criteria::MarkSet;
 use std::alloc::AllocError;
@@ -31,6 +30,8 @@ impl<'p> Line for Marked<'p> {
 
     ghost Valid = { λ own. Unit {0} };
 
+    ghost Shows = { λ column. Unit {0} };
+
     ghost size = { λ own. length own.left.now };
 
     ghost fault_of = { λ _. None };
@@ -43,11 +44,6 @@ impl<'p> Line for Marked<'p> {
     #[inline(always)]
     fn is_met(&self) -> bool {
         true
-    }
-
-    #[inline(always)]
-    fn push_fields(&self, _: &mut Vec<u8>, _: Fields) -> Result<(), AllocError> {
-        Ok(())
     }
 
     #[inline(always)]

@@ -132,7 +132,6 @@ pub fn search<R: Read, O: Write>(
     settings: &Settings,
 ) -> Result<Searched, SearchError>
     requires sound { (input.old.faulted ≡ false) × (out.old.faulted ≡ false) }
-    requires plain { is_bare settings.now.line ≡ true }
     ensures stands { IsSearch (aim_of settings.now) (R.remaining input.old.inner)
         (R.remaining input.new.inner)
         (O.contents out.old.inner) (O.contents out.new.inner) result }

@@ -5,7 +5,6 @@ ghost use Rattle.pgn_extract.specs.Private.WalkedLines.{IsWalkedWith};
 
 use crate::entries::line::Line;
 use crate::rows::column::PlyColumn;
-use crate::settings::Fields;
 use chess::Bits;
 use pgn_criteria::{Search, Walk};
 use std::alloc::AllocError;
@@ -29,6 +28,8 @@ impl<'a, 'p> Line for Walked<'a, 'p> {
 
     ghost Valid = { λ own. Unit {0} };
 
+    ghost Shows = { λ column. Unit {0} };
+
     ghost size = { λ own. length own.left.now };
 
     ghost fault_of = { λ _. None };
@@ -41,11 +42,6 @@ impl<'a, 'p> Line for Walked<'a, 'p> {
     #[inline(always)]
     fn is_met(&self) -> bool {
         self.search.is_met(&self.walk)
-    }
-
-    #[inline(always)]
-    fn push_fields(&self, _: &mut Vec<u8>, _: Fields) -> Result<(), AllocError> {
-        Ok(())
     }
 
     #[inline(always)]

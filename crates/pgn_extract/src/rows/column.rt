@@ -3,6 +3,10 @@ ghost use Rattle.std.specs.Prelude.{◌≡◌};
 ghost use Rattle.pgn_extract.specs.Public.Columns.{column_name, game_column_name, ply_column_name};
 ghost use Rattle.pgn_extract.specs.Public.Columns.{position_column_name, is_number_of_game};
 ghost use Rattle.pgn_extract.specs.Public.Columns.{is_number_of_ply, is_number_of_position};
+ghost use Rattle.pgn_extract.specs.Public.Columns.{line_column_name, is_number_of_line};
+ghost use Rattle.pgn_extract.specs.Private.RowTexts.{needs_line};
+
+use pgn_game::Notation;
 
 /// How rows are written.
 #[derive(Clone, Copy, Debug, PartialEq, Eq)]
@@ -47,6 +51,17 @@ pub enum PositionColumn {
     Material,
 }
 
+/// What a column shows of a main line that is kept.
+#[derive(Clone, Copy, Debug, PartialEq, Eq)]
+pub enum LineColumn {
+    /// How many plies it has.
+    Plies,
+    /// The move that led to the ply, in a notation; empty at the start.
+    Last(Notation),
+    /// All its moves in a notation, with blanks between.
+    Moves(Notation),
+}
+
 /// What a column shows of a ply.
 #[derive(Clone, Copy, Debug, PartialEq, Eq)]
 pub enum PlyColumn {
@@ -58,6 +73,8 @@ pub enum PlyColumn {
     Next,
     /// That move as `--uci` writes it.
     NextUci,
+    /// Something for which the whole main line is kept.
+    OfLine(LineColumn),
 }
 
 /// What a column shows.
@@ -135,6 +152,31 @@ impl PositionColumn {
     }
 }
 
+impl LineColumn {
+    /// Its name.
+    fn name(self) -> &'static [u8]
+        ensures { result.now ≡ line_column_name self }
+    {
+        match self {
+            LineColumn::Plies => b"@plies",
+            LineColumn::Last(Notation::San) => b"@last",
+            LineColumn::Last(Notation::Uci) => b"@last-uci",
+            LineColumn::Moves(Notation::San) => b"@moves",
+            LineColumn::Moves(Notation::Uci) => b"@uci",
+        }
+    }
+
+    /// Whether its values are numbers.
+    fn is_number(self) -> bool
+        ensures { result ≡ is_number_of_line self }
+    {
+        match self {
+            LineColumn::Plies => true,
+            LineColumn::Last(_) | LineColumn::Moves(_) => false,
+        }
+    }
+}
+
 impl PlyColumn {
     /// Its name.
     pub(crate) fn name(self) -> &'static [u8]
@@ -145,6 +187,7 @@ impl PlyColumn {
             PlyColumn::OfPosition(own) => own.name(),
             PlyColumn::Next => b"@next",
             PlyColumn::NextUci => b"@next-uci",
+            PlyColumn::OfLine(own) => own.name(),
         }
     }
 
@@ -156,6 +199,19 @@ impl PlyColumn {
             PlyColumn::Ply => true,
             PlyColumn::OfPosition(own) => own.is_number(),
             PlyColumn::Next | PlyColumn::NextUci => false,
+            PlyColumn::OfLine(own) => own.is_number(),
+        }
+    }
+
+    /// Whether the whole main line is kept for it.
+    pub(crate) fn needs_line(self) -> bool
+        ensures { result ≡ needs_line self }
+    {
+        match self {
+            PlyColumn::Ply | PlyColumn::OfPosition(_) | PlyColumn::Next | PlyColumn::NextUci => {
+                false
+            }
+            PlyColumn::OfLine(_) => true,
         }
     }
 }

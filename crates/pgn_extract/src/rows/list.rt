@@ -8,13 +8,15 @@ ghost use Rattle.pgn_text.specs.Public.Bytes.{is_name_byte as is_name_byte_of};
 ghost use Rattle.pgn_extract.specs.Public.Columns.{IsTagName, IsColumnOf, IsColumnFault};
 ghost use Rattle.pgn_extract.specs.Public.Columns.{IsNoOwnName, AreColumns, IsRefusedList};
 ghost use Rattle.pgn_extract.specs.Public.Columns.{column_name, game_column_name, ply_column_name};
-ghost use Rattle.pgn_extract.specs.Public.Columns.{position_column_name};
+ghost use Rattle.pgn_extract.specs.Public.Columns.{position_column_name, line_column_name};
 ghost use Rattle.pgn_extract.specs.declared.rows.column.GameColumn.{GameColumn};
+ghost use Rattle.pgn_extract.specs.declared.rows.column.LineColumn.{LineColumn};
 ghost use Rattle.pgn_extract.specs.declared.rows.column.PlyColumn.{PlyColumn};
 ghost use Rattle.pgn_extract.specs.declared.rows.column.PositionColumn.{PositionColumn};
 ghost use Rattle.pgn_extract.specs.declared.rows.list.ColumnsError.TheVariants.{OutOfMemory};
 
-use crate::rows::column::{Column, GameColumn, PlyColumn, PositionColumn};
+use crate::rows::column::{Column, GameColumn, LineColumn, PlyColumn, PositionColumn};
+use pgn_game::Notation;
 use std::alloc::{AllocError, Global};
 
 /// Why a list of columns is refused.
@@ -78,6 +80,22 @@ fn position_column(name: &[u8]) -> Option<PositionColumn>
     }
 }
 
+/// The column with this name for which the main line is kept.
+fn line_column(name: &[u8]) -> Option<LineColumn>
+    ensures { MatchOption result
+        ((own : LineColumn) → name.now ≡ line_column_name own → ⊥)
+        (λ own. name.now ≡ line_column_name own) }
+{
+    match name {
+        b"@plies" => Some(LineColumn::Plies),
+        b"@last" => Some(LineColumn::Last(Notation::San)),
+        b"@last-uci" => Some(LineColumn::Last(Notation::Uci)),
+        b"@moves" => Some(LineColumn::Moves(Notation::San)),
+        b"@uci" => Some(LineColumn::Moves(Notation::Uci)),
+        _ => None,
+    }
+}
+
 /// The column of the ply with this name.
 fn ply_column(name: &[u8]) -> Option<PlyColumn>
     ensures { MatchOption result
@@ -90,7 +108,10 @@ fn ply_column(name: &[u8]) -> Option<PlyColumn>
         b"@next-uci" => Some(PlyColumn::NextUci),
         _ => match position_column(name) {
             Some(own) => Some(PlyColumn::OfPosition(own)),
-            None => None,
+            None => match line_column(name) {
+                Some(own) => Some(PlyColumn::OfLine(own)),
+                None => None,
+            },
         },
     }
 }

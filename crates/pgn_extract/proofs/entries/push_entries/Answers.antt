@@ -6,6 +6,7 @@ use Rattle.pgn_extract.specs.Private.Lines.{made_line}
 use Rattle.pgn_extract.specs.declared.settings.EntryLine.{EntryLine}
 use Rattle.pgn_extract.proofs.Finds.{adds_lines, none_yet, on_result, stops_of}
 use Rattle.pgn_extract.proofs.Picks.{asks_given, none_given}
+use Rattle.pgn_extract.proofs.entries.LineMaking.{makes_named}
 use Rattle.pgn_extract.proofs.entries.push_entries.Goals as goal
 
 -- what shows the lines that are made shows those that are asked for
@@ -43,29 +44,65 @@ returns-in_default c =
     (of_line (λ line. record (aim_of settings) { line = line }) settings.line
     (made_line c.in_ok-of_game.field-0) c.in_ok-of_game.ensures.0 id game
     (λ got. new ≡ old ++ marked_lines c.push_named_mark.new.text.items got)
-    (found settings.name id c.in_ok-of_game.ensures.1)))
+    (found settings.name id
+    (makes_named c.in_ok-of_game.field-0 c.in_text.result settings.name id game
+    c.in_text.ensures.name c.in_text.ensures.id
+    (c.in_ok-of_game.ensures.1 game c.in_text.ensures.source)))))
     c.find_played.ensures.found)
     (MatchResult-weaker c.find_played.result c.find_played.ensures.fault (λ done none.
     tt) (λ fault met. IfSome_then _ met (stops_of game old new)))
+
+pub returns-then-needs_line : goal.returns-then-needs_line
+returns-then-needs_line c =
+    let settings = c.args.context.settings.now in
+    let id = c.args.context.own in
+    let game = c.args.game.now in
+    let old = c.args.text.now.items in
+    let new = c.find_kept.new.text.items in
+    let mark = c.push_named_mark.new.text.items in
+    let named = named_mark settings.name id in
+    let marked : mark ≡ named =
+    c.in_ok-push_named_mark.ensures ∙ ap (λ t. t ++ named) c.in_ok-mark.ensures.items in
+    on_result c.find_kept.result (AddsEntries (aim_of settings) id game old new) (λ fault.
+    IfSome (fault_of fault) (StopsAtFault game old new))
+    (on_ok_weaker c.find_kept.result
+    (λ found.
+    adds_lines (aim_of settings) id game mark old new marked
+    (of_line (λ line. record (aim_of settings) { line = line }) settings.line
+    (made_line c.in_ok-of_game.field-0) c.in_ok-of_game.ensures.0 id game
+    (λ got. new ≡ old ++ marked_lines mark got)
+    (found settings.name id
+    (makes_named c.in_ok-of_game.field-0 c.in_text.result settings.name id game
+    c.in_text.ensures.name c.in_text.ensures.id
+    (c.in_ok-of_game.ensures.1 game c.in_text.ensures.source)))))
+    c.find_kept.ensures.found)
+    c.find_kept.ensures.fault
 
 pub returns-in_default-2 : goal.returns-in_default-2
 returns-in_default-2 c =
     let settings = c.args.context.settings.now in
     let id = c.args.context.own in
-    let named = named_mark settings.name id in
-    let marked : c.push_named_mark.new.text.items ≡ named =
-    c.in_ok-push_named_mark.ensures ∙ ap (λ t. t ++ named) c.in_ok-mark.ensures.items in
-    let made = made_line c.in_ok-of_game.field-0 in
-    let aim = record (aim_of settings) { line = made } in
-    let at = c.in_ok-line.ensures.1 aim c.in-Some.is in
+    let game = c.args.game.now in
+    let old = c.args.text.now.items in
+    let new = c.find_kept-in_default-2.new.text.items in
     let mark = c.push_named_mark.new.text.items in
-    adds_lines (aim_of settings) id c.args.game.now mark c.args.text.now.items
-    c.find.new.sink.items marked
-    (of_line (λ line. record (aim_of settings) { line = line }) settings.line made
-    c.in_ok-of_game.ensures.0 id c.args.game.now
-    (λ got. c.find.new.sink.items ≡ c.args.text.now.items ++ marked_lines mark got)
-    (c.in_ok-find.ensures.found settings.name id c.args.game.now [] at.0 at.1
-    (none_yet aim c.args.game.now) c.in_ok-of_game.ensures.1))
+    let named = named_mark settings.name id in
+    let marked : mark ≡ named =
+    c.in_ok-push_named_mark.ensures ∙ ap (λ t. t ++ named) c.in_ok-mark.ensures.items in
+    on_result c.find_kept-in_default-2.result (AddsEntries (aim_of settings) id game old new) (λ fault.
+    IfSome (fault_of fault) (StopsAtFault game old new))
+    (on_ok_weaker c.find_kept-in_default-2.result
+    (λ found.
+    adds_lines (aim_of settings) id game mark old new marked
+    (of_line (λ line. record (aim_of settings) { line = line }) settings.line
+    (made_line c.in_ok-of_game.field-0) c.in_ok-of_game.ensures.0 id game
+    (λ got. new ≡ old ++ marked_lines mark got)
+    (found settings.name id
+    (makes_named c.in_ok-of_game.field-0 c.in_text.result settings.name id game
+    c.in_text.ensures.name c.in_text.ensures.id
+    (c.in_ok-of_game.ensures.1 game c.in_text.ensures.source)))))
+    c.find_kept-in_default-2.ensures.found)
+    c.find_kept-in_default-2.ensures.fault
 
 pub returns : goal.returns
 returns c =
@@ -85,7 +122,10 @@ returns c =
     (of_line (λ line. record (aim_of settings) { line = line }) settings.line
     (made_line c.in_ok-of_game.field-0) c.in_ok-of_game.ensures.0 id game
     (λ got. new ≡ old ++ marked_lines c.push_named_mark.new.text.items got)
-    (found settings.name id c.in_ok-of_game.ensures.1)))
+    (found settings.name id
+    (makes_named c.in_ok-of_game.field-0 c.in_text.result settings.name id game
+    c.in_text.ensures.name c.in_text.ensures.id
+    (c.in_ok-of_game.ensures.1 game c.in_text.ensures.source)))))
     c.find_played-2.ensures.found)
     (MatchResult-weaker c.find_played-2.result c.find_played-2.ensures.fault (λ done none.
     tt) (λ fault met. IfSome_then _ met (stops_of game old new)))

@@ -1,10 +1,9 @@
 use Rattle.std.specs.Prelude.{replicate}
 use Rattle.std.proofs.lemmas.List.{length-replicate}
 use Rattle.pgn_extract.proofs.Common.{◌≡◌, ◌+◌, ◌/◌, ◌++◌, ℕ, List, [], length, sym, ap, ◌∙◌}
-use Rattle.pgn_extract.proofs.Common.{initial, Replay, GameText, aim_of, named_mark, listing}
+use Rattle.pgn_extract.proofs.Common.{initial, Replay, GameText, named_mark, listing}
 use Rattle.pgn_extract.proofs.Common.{raw_id}
 use Rattle.pgn_extract.proofs.PackedFacts.{plies_counted}
-use Rattle.pgn_extract.proofs.ShownTexts.{listed_bare}
 use Rattle.pgn_extract.proofs.packed.push_plain.Goals as goal
 
 no_game : GameText
@@ -12,7 +11,7 @@ no_game = record { at = 0; text = []; tags = []; elements = []; result = [] }
 
 pub returns-clause-ok : goal.returns-clause-ok
 returns-clause-ok c =
-    let raw = c.args.record.now in
+    let raw = c.args.context.record.now in
     let marked : c.deref.result.now ≡ named_mark raw.name (raw_id raw) =
     c.deref.ensures.value ∙ c.in_ok-push_record_mark.ensures
     ∙ ap (λ t. t ++ named_mark raw.name (raw_id raw)) c.in_ok-mark.ensures.items in
@@ -27,8 +26,7 @@ returns-clause-ok c =
           (plies_counted own ∙ ap (λ (bytes : List ℕ). length bytes / 3 + 1) (sym c.plies.ensures))
           in (
             entries,
-            listed_bare (aim_of c.args.settings.now) raw.name (raw_id raw) game replay entries
-                c.requires.plain listed,
+            listed,
             text,
           ),
     )

@@ -1,12 +1,16 @@
 use Rattle.pgn_extract.proofs.Common.{None, [], IfSome_then, on_ok_weaker, MatchResult-weaker}
 use Rattle.pgn_extract.proofs.Common.{aim_with}
 use Rattle.pgn_extract.proofs.Finds.{none_yet}
+use Rattle.pgn_extract.proofs.entries.LineValues.{enough_played}
 use Rattle.pgn_extract.proofs.entries.PlayedFacts.{begins_with, never_met, fails_at_start}
 use Rattle.pgn_extract.proofs.entries.played.find_played.Goals as goal
 
 pub find-requires-clause-open : goal.find-requires-clause-open
 find-requires-clause-open g c off =
     never_met c.in_ok-line.line (g.Q.Question.asked c.args.question) (c.is_open-is_open.ensures off)
+
+pub find-requires-clause-shows : goal.find-requires-clause-shows
+find-requires-clause-shows g c = enough_played c.args.finder.now.lines c.requires.shows
 
 pub returns-clause-found : goal.returns-clause-found
 returns-clause-found g c =

@@ -10,7 +10,7 @@ returns c =
     let is = c.in_ok-replayed.ensures in
     let met = c.in_ok-met.ensures in (
       legal_line game kept is,
-      λ aim given. begins_kept game kept is c.in_ok-met.met.items aim met.each
+      λ aim given. begins_kept game kept is c.in_ok-met.met.items aim met.size
           (λ n r here.
           subst (λ (o : Option (List Conditions)). IsTrue r
           ↔ IsMet o (heading_of game) kept n) (sym given) (met.reports n r here)),

@@ -3,7 +3,7 @@ use Rattle.pgn_extract.proofs.Common.{on_ok_weaker}
 use Rattle.pgn_extract.specs.Private.Lines.{ShowsValue}
 use Rattle.pgn_extract.specs.declared.rows.column.PlyColumn.{PlyColumn}
 use Rattle.pgn_extract.specs.declared.rows.column.PlyColumn.TheVariants.{Ply, OfPosition, Next}
-use Rattle.pgn_extract.specs.declared.rows.column.PlyColumn.TheVariants.{NextUci}
+use Rattle.pgn_extract.specs.declared.rows.column.PlyColumn.TheVariants.{NextUci, OfLine}
 use Rattle.pgn_extract.proofs.entries.KeptLines.{shows_kept_value}
 use Rattle.pgn_extract.proofs.entries.PlainTexts.{decimal_plain}
 use Rattle.pgn_extract.proofs.entries.kept.KeptLine.push_value.Goals as goal
@@ -72,3 +72,19 @@ returns-in-NextUci-clause-shown c =
       items,
     ))
     c.push_played_uci.ensures
+
+pub returns-in-OfLine-clause-shown : goal.returns-in-OfLine-clause-shown
+returns-in-OfLine-clause-shown c =
+    let kept = c.args.self.now.replayed in
+    let met = c.args.self.now.met.items in
+    let ply = c.args.self.now.ply in
+    on_ok_weaker c.push_line_value.result
+    (λ (value, plain, is, items). (
+      value,
+      plain,
+      λ aim game before P at. subst (λ (k : PlyColumn). ShowsValue k value aim game before P)
+          (sym c.in-OfLine.is)
+          (shows_kept_value kept met ply (OfLine c.in-OfLine.own) value is aim game before P at),
+      items,
+    ))
+    c.push_line_value.ensures

@@ -1,7 +1,8 @@
 use Rattle.pgn_extract.proofs.Common.{◌++◌, ℕ, false, refl, sym, ap, ◌∙◌, subst}
-use Rattle.pgn_extract.proofs.Common.{on_ok_weaker, tag_in, Vec, Global}
+use Rattle.pgn_extract.proofs.Common.{on_ok_weaker, tag_in, Vec, Global, GameText}
 use Rattle.pgn_extract.specs.Public.Columns.{is_number_column}
 use Rattle.pgn_extract.specs.Public.Rows.{IsCell, IsTagCell, place_of}
+use Rattle.pgn_extract.specs.Private.RowGames.{IsGameIn, name_of}
 use Rattle.pgn_extract.specs.Private.RowTexts.{AddsCell, key_text, value_text}
 use Rattle.pgn_extract.specs.declared.entries.row_maker.RowMaker.{RowMaker}
 use Rattle.pgn_extract.specs.declared.rows.column.Column.{Column}
@@ -11,9 +12,8 @@ use Rattle.pgn_extract.proofs.entries.row_maker.RowMaker.add_column.Goals as goa
 
 pub returns-in_ok-put_tag-in-Tag-clause-cell : goal.returns-in_ok-put_tag-in-Tag-clause-cell
 returns-in_ok-put_tag-in-Tag-clause-cell c =
-    let name = c.args.context.settings.now.name in
-    let id = c.args.context.own in
-    let game = c.args.game.now in
+    let name = name_of c.args.game in
+    let id = c.args.game.id in
     let column = c.args.column.now in
     let format = c.args.self.now.row.now.format in
     let cell = c.put_tag.new.own.items in
@@ -26,24 +26,25 @@ returns-in_ok-put_tag-in-Tag-clause-cell c =
       parts = old.parts;
       last = last;
     } in
-    let is : IsTagCell (tag_in c.in-Tag.name.items game.tags) cell =
-    subst (λ n. IsTagCell (tag_in n game.tags) cell) c.deref.ensures.value
-    c.in_ok-put_tag-in-Tag.ensures in
+    let is : (game : GameText) → IsGameIn c.args.game.source game
+    → IsTagCell (tag_in c.in-Tag.name.items game.tags) cell =
+    λ game own. subst (λ n. IsTagCell (tag_in n game.tags) cell) c.deref.ensures.value
+    (c.in_ok-put_tag-in-Tag.ensures game own) in
     on_ok_weaker c.push_value.result
-    (λ pushed. adds_known old (new c.push_value.new.text) name id game column cell mid refl
-    c.in_ok-push_key.ensures
+    (λ pushed game own. adds_known old (new c.push_value.new.text) name id game column cell mid
+    refl c.in_ok-push_key.ensures
     (λ replay ply. subst (λ (k : Column). IsCell k (place_of name id game replay ply) cell)
-    (sym c.in-Tag.is) is)
+    (sym c.in-Tag.is) (is game own))
     (value_text format false cell)
     (ap (λ n. key ++ value_text format n cell) (sym (ap is_number_column c.in-Tag.is)))
     (pushed ∙ ap (λ v. mid ++ value_text format false v) c.deref-in-Tag.ensures.value))
     c.push_value.ensures
 
-pub returns-in_ok-put_game_value-in-OfGame-clause-cell : goal.returns-in_ok-put_game_value-in-OfGame-clause-cell
+pub returns-in_ok-put_game_value-in-OfGame-clause-cell
+    : goal.returns-in_ok-put_game_value-in-OfGame-clause-cell
 returns-in_ok-put_game_value-in-OfGame-clause-cell c =
-    let name = c.args.context.settings.now.name in
-    let id = c.args.context.own in
-    let game = c.args.game.now in
+    let name = name_of c.args.game in
+    let id = c.args.game.id in
     let column = c.args.column.now in
     let format = c.args.self.now.row.now.format in
     let cell = c.put_game_value.new.own.items in
@@ -57,11 +58,10 @@ returns-in_ok-put_game_value-in-OfGame-clause-cell c =
       last = last;
     } in
     on_ok_weaker c.push_value-in-OfGame.result
-    (λ pushed. adds_known old (new c.push_value-in-OfGame.new.text) name id game column cell mid
-    refl
-    c.in_ok-push_key.ensures
+    (λ pushed game own. adds_known old (new c.push_value-in-OfGame.new.text) name id game column
+    cell mid refl c.in_ok-push_key.ensures
     (λ replay ply. subst (λ (k : Column). IsCell k (place_of name id game replay ply) cell)
-    (sym c.in-OfGame.is) c.in_ok-put_game_value-in-OfGame.ensures)
+    (sym c.in-OfGame.is) (c.in_ok-put_game_value-in-OfGame.ensures game own))
     (value_text format c.is_number.result cell)
     (ap (λ n. key ++ value_text format n cell)
     (c.is_number.ensures ∙ sym (ap is_number_column c.in-OfGame.is)))
@@ -71,9 +71,8 @@ returns-in_ok-put_game_value-in-OfGame-clause-cell c =
 
 pub returns-in-OfPly-clause-cell : goal.returns-in-OfPly-clause-cell
 returns-in-OfPly-clause-cell c =
-    let name = c.args.context.settings.now.name in
-    let id = c.args.context.own in
-    let game = c.args.game.now in
+    let name = name_of c.args.game in
+    let id = c.args.game.id in
     let old = c.args.self.now in
     let mid : RowMaker = record {
       alloc = old.alloc;
@@ -82,7 +81,7 @@ returns-in-OfPly-clause-cell c =
       last = c.push_key.new.text;
     } in
     on_ok_weaker c.end_part.result
-    (λ ends. subst (λ (k : Column). AddsCell old c.end_part.new.self name id game k)
+    (λ ends game own. subst (λ (k : Column). AddsCell old c.end_part.new.self name id game k)
     (sym c.in-OfPly.is)
     (adds_shown old mid c.end_part.new.self name id game c.in-OfPly.shown refl refl
     (c.in_ok-push_key.ensures

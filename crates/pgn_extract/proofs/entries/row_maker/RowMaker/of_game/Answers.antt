@@ -1,7 +1,8 @@
 use Rattle.pgn_extract.proofs.Common.{◌≡◌, ◌<◌, ◌+◌, ◌++◌, ◌∷◌, [], List, Bool}
 use Rattle.pgn_extract.proofs.Common.{length, refl}
 use Rattle.pgn_extract.proofs.Common.{sym, ap, ◌∙◌, subst, arith, nat_tests, get_or, take}
-use Rattle.pgn_extract.proofs.Common.{take-length, if◌then◌else◌}
+use Rattle.pgn_extract.proofs.Common.{take-length, if◌then◌else◌, GameText}
+use Rattle.pgn_extract.specs.Private.RowGames.{IsGameIn, name_of}
 use Rattle.pgn_extract.specs.Private.RowTexts.{MakesCells, MakesRow, gap}
 use Rattle.pgn_extract.specs.declared.entries.row_maker.RowMaker.{RowMaker}
 use Rattle.pgn_extract.specs.declared.rows.column.Column.{Column}
@@ -29,21 +30,20 @@ loop-column-preserved c =
     let next : take (i + 1) all ≡ take i all ++ column ∷ [] =
     part_taken all i column within
     (c.column-item.is ∙ ap (λ (ks : List Column). get_or ks i column) slice) in
-    let name = c.args.context.settings.now.name in
-    let id = c.args.context.own in
-    let game = c.args.game.now in
+    let name = name_of c.args.game in
+    let id = c.args.game.id in
     let new = c.add_column.new.self in
     record {
       row = c.in_ok-add_column.ensures.row ∙ inv.row;
       first = grind (arith, nat_tests);
-      made = subst (λ (ks : List Column).
+      made = λ game own. subst (λ (ks : List Column).
           MakesCells row.format ks new.parts.items new.last.items name id game) (sym next)
           (makes_more row.format old.parts.items old.last.items mid new (take i all) column name id
-          game inv.made (ap (λ (r : Row). r.format) inv.row) refl
+          game (inv.made game own) (ap (λ (r : Row). r.format) inv.row) refl
           (c.in_ok-push_gap.ensures
           ∙ ap (λ (t : Bool). old.last.items ++ (if t then [] else gap row.format)) inv.first
           ∙ ap (λ t. old.last.items ++ t) (gap_is row.format all i within))
-          c.in_ok-add_column.ensures.cell);
+          (c.in_ok-add_column.ensures.cell game own));
     }
 
 pub returns : goal.returns
@@ -59,15 +59,15 @@ returns c =
     let parts = c.loop-column.maker.parts.items in
     let last = c.loop-column.maker.last.items in
     let text = c.extend_from_slice.new.self.items in
-    let name = c.args.context.settings.now.name in
-    let id = c.args.context.own in
-    let game = c.args.game.now in
+    let name = name_of c.args.game in
+    let id = c.args.game.id in
     let ends = c.in_ok-extend_from_slice.ensures.items ∙ ap (λ b. last ++ b) c.back.ensures in
-    let made : MakesRow row.format all parts text name id game =
-    makes_all row.format all parts last text name id game
-    (subst (λ (ks : List Column). MakesCells row.format ks parts last name id game) whole inv.made)
-    ends in (
+    let made : (game : GameText) → IsGameIn c.args.game.source game
+    → MakesRow row.format all parts text name id game =
+    λ game own. makes_all row.format all parts last text name id game
+    (subst (λ (ks : List Column). MakesCells row.format ks parts last name id game) whole
+    (inv.made game own)) ends in (
       inv.row,
-      subst (λ (r : Row). MakesRow r.format r.columns.items parts text name id game) (sym inv.row)
-          made,
+      λ game own. subst (λ (r : Row). MakesRow r.format r.columns.items parts text name id game)
+          (sym inv.row) (made game own),
     )

@@ -8,6 +8,7 @@ use Rattle.pgn_extract.specs.Private.Sinks.{grows_more}
 use Rattle.pgn_extract.specs.declared.entries.row_maker.RowPart.{RowPart}
 use Rattle.pgn_extract.proofs.entries.RowMaking.{part_taken, plain_push, shows_more, writes_more}
 use Rattle.pgn_extract.proofs.entries.RowMaking.{size_more, filled_more}
+use Rattle.pgn_extract.proofs.entries.LineValues.{column_shown}
 use Rattle.pgn_extract.proofs.entries.row_maker.RowMaker.push_row.Goals as goal
 
 pub returns-in_err-push_value-clause-fault : goal.returns-in_err-push_value-clause-fault
@@ -79,3 +80,13 @@ returns-clause-shown g c =
       plain,
       c.in_ok-end_row.ensures old (filled all values last) text begin,
     )
+
+pub push_value-requires-clause-shows : goal.push_value-requires-clause-shows
+push_value-requires-clause-shows g c =
+    let all = c.args.self.now.parts.items in
+    let i = c.loop-part.part-index in
+    let part = c.part-item.result in
+    let slice = c.deref-part-items.ensures.value in
+    let size_is : length c.deref-part-items.result.now ≡ length all = ap length slice in
+    column_shown g.L.Line.Shows all i part c.requires.shows (omega arith)
+    (c.part-item.is ∙ ap (λ ps. get_or ps i part) slice)

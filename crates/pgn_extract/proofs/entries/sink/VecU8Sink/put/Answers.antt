@@ -1,7 +1,8 @@
-use Rattle.std.proofs.Common.{◌++◌, ◌∷◌, [], length, decimal, sym, ap, ◌∙◌, append-nil}
+use Rattle.std.proofs.Common.{◌++◌, ◌∷◌, [], length, decimal, sym, ap, ◌∙◌, append-nil, subst}
 use Rattle.pgn_extract.proofs.Common.{on_ok_weaker}
-use Rattle.pgn_extract.specs.Private.Lines.{marked_line}
+use Rattle.pgn_extract.specs.Private.Lines.{marked_line, IsEnoughFor}
 use Rattle.pgn_extract.specs.Public.Listing.{AfterPly, AsRow}
+use Rattle.pgn_extract.specs.declared.entries.line_maker.LineMaker.{LineMaker}
 use Rattle.pgn_extract.proofs.Finds.{one_line}
 use Rattle.pgn_extract.proofs.entries.LineMaking.{shows_marked, shows_row, made_text}
 use Rattle.pgn_extract.proofs.entries.sink.VecU8Sink.put.Goals as goal
@@ -42,3 +43,17 @@ returns-in-Rows-clause-put g c =
       ),
     ))
     c.push_row.ensures.shown
+
+pub push_fields-requires-clause-fen : goal.push_fields-requires-clause-fen
+push_fields-requires-clause-fen g c =
+    (subst (λ (lines : LineMaker). IsEnoughFor g.L.Line.Shows lines) c.in-Fields.is
+    c.requires.shows).0
+
+pub push_fields-requires-clause-next : goal.push_fields-requires-clause-next
+push_fields-requires-clause-next g c =
+    (subst (λ (lines : LineMaker). IsEnoughFor g.L.Line.Shows lines) c.in-Fields.is
+    c.requires.shows).1
+
+pub push_row-requires-clause-shows : goal.push_row-requires-clause-shows
+push_row-requires-clause-shows g c =
+    subst (λ (lines : LineMaker). IsEnoughFor g.L.Line.Shows lines) c.in-Rows.is c.requires.shows

@@ -1,0 +1,238 @@
+-- What rows show of a main line that is kept, and which lines show it.
+use Rattle.std.specs.Prelude.{Option, None, zero, suc, replicate, decimal}
+use Rattle.std.proofs.lemmas.Bool.{or_parts}
+use Rattle.std.proofs.lemmas.Option.{get_or_from_slice_get, slice_get_within}
+use Rattle.std.proofs.lemmas.List.{length-replicate}
+use Rattle.pgn_extract.proofs.Common.{◌≡◌, ◌+◌, ◌<◌, ◌≤◌, ℕ, Bool, true, false, List, [], ◌∷◌, ◌++◌}
+use Rattle.pgn_extract.proofs.Common.{length, refl, sym, ap, ◌∙◌, subst, arith, get_or, take}
+use Rattle.pgn_extract.proofs.Common.{append_assoc, append-nil, length-append, IsTrue}
+use Rattle.pgn_extract.proofs.Common.{MatchOption, slice_get, same_Some, State, Move, Some}
+use Rattle.pgn_extract.proofs.Common.{after, Replay, Heading, positions_from}
+use Rattle.pgn_game.specs.Public.CodeLines.{IsLegalLine}
+use Rattle.pgn_game.specs.Public.GameLines.{AreMoveTexts, IsMoveText}
+use Rattle.pgn_game.specs.declared.exports.notation.Notation.{Notation}
+use Rattle.pgn_extract.specs.Private.KeptLines.{AreReported}
+use Rattle.pgn_extract.specs.Private.Lines.{IsEnoughFor, keeps_line}
+use Rattle.pgn_extract.specs.Private.RowTexts.{IsPlainValue, EachColumn, need_line, needs_line}
+use Rattle.pgn_extract.specs.Public.Rows.{IsAt, IsMoveIn, IsLastCell, AreMovesCell, IsLineCell}
+use Rattle.pgn_extract.specs.declared.entries.line_maker.LineMaker.{LineMaker}
+use Rattle.pgn_extract.specs.declared.entries.line_maker.LineMaker.TheVariants as maker
+use Rattle.pgn_extract.specs.declared.entries.row_maker.RowPart.{RowPart}
+use Rattle.pgn_extract.specs.declared.rows.column.LineColumn.{LineColumn}
+use Rattle.pgn_extract.specs.declared.rows.column.LineColumn.TheVariants.{Plies, Last, Moves}
+use Rattle.pgn_extract.specs.declared.rows.column.PlyColumn.{PlyColumn}
+use Rattle.pgn_extract.proofs.MoveCells.{first_position}
+use Rattle.pgn_extract.proofs.entries.PlainTexts.{plain_append}
+use Rattle.pgn_extract.proofs.entries.RowMaking.{part_taken}
+
+-- Which lines show the columns of a maker.
+
+-- one of the columns
+pub column_shown : (So : PlyColumn → Type 0) (parts : List RowPart) (i : ℕ) (part : RowPart)
+    → EachColumn So parts → i < length parts → part ≡ get_or parts i part → So part.column
+column_shown So [] i part each within is = absurd (omega (arith, within))
+column_shown So (first ∷ parts) zero part each within is =
+    subst (λ (p : RowPart). So p.column) (sym is) each.0
+column_shown So (first ∷ parts) (suc i) part each within is =
+    column_shown So parts i part each.1 (omega (arith, within)) is
+
+all_columns : (parts : List RowPart) → EachColumn (λ column. Unit {0}) parts
+all_columns [] = tt
+all_columns (part ∷ parts) = (tt, all_columns parts)
+
+-- a line that is kept shows all
+pub enough_kept : (lines : LineMaker) → IsEnoughFor (λ column. Unit {0}) lines
+enough_kept (maker.Fields fields) = (λ is. tt, λ is. tt)
+enough_kept (maker.Rows rows) = all_columns rows.parts.items
+
+no_columns : (parts : List RowPart) → need_line parts ≡ false
+    → EachColumn (λ column. needs_line column ≡ false) parts
+no_columns [] none = tt
+no_columns (part ∷ parts) none =
+    let both : (needs_line part.column ≡ false) × (need_line parts ≡ false) = or_parts _ _ none in
+    (both.0, no_columns parts both.1)
+
+-- one that is played shows those for which none is kept
+pub enough_played : (lines : LineMaker) → keeps_line lines ≡ false
+    → IsEnoughFor (λ column. needs_line column ≡ false) lines
+enough_played (maker.Fields fields) none = (λ is. refl, λ is. refl)
+enough_played (maker.Rows rows) none = no_columns rows.parts.items none
+
+-- Without criteria each position is met.
+
+all_true : (n k : ℕ) (r : Bool) → slice_get (replicate n true ++ true ∷ []) k ≡ Some r → IsTrue r
+all_true zero zero r is = sym (same_Some true r is)
+all_true zero (suc k) r is = absurd (cc)
+all_true (suc n) zero r is = sym (same_Some true r is)
+all_true (suc n) (suc k) r is = all_true n k r is
+
+pub all_reported : (replay : Replay) (plies : ℕ) (met : List Bool) (heading : Heading)
+    → length replay.positions ≡ plies + 1 → met ≡ replicate plies true ++ true ∷ []
+    → AreReported None heading replay met
+all_reported replay plies met heading size is = record {
+  size = ap length is ∙ length-append (replicate plies true) (true ∷ [])
+      ∙ ap (λ n. n + 1) (length-replicate plies true) ∙ sym size;
+  reports = λ n r here.
+      (λ t. tt, λ t. all_true plies n r (ap (λ xs. slice_get xs n) (sym is) ∙ here));
+}
+
+-- Texts of moves.
+
+pub move_in : (notation : Notation) (replay : Replay) (ply : ℕ) (m : Move) (value : List ℕ)
+    → slice_get replay.played ply ≡ Some m
+    → IsAt replay ply (λ P. IsMoveText notation P m value) → IsMoveIn notation replay ply value
+move_in notation replay ply m value played at =
+    subst (λ (o : Option Move).
+    MatchOption o (value ≡ []) (λ n. IsAt replay ply (λ P. IsMoveText notation P n value)))
+    (sym played) at
+
+none_at : (notation : Notation) (replay : Replay) (ply : ℕ) (value : List ℕ)
+    → slice_get replay.played ply ≡ None → value ≡ [] → IsMoveIn notation replay ply value
+none_at notation replay ply value none empty =
+    subst (λ (o : Option Move).
+    MatchOption o (value ≡ []) (λ n. IsAt replay ply (λ P. IsMoveText notation P n value)))
+    (sym none) empty
+
+pub none_in : (notation : Notation) (replay : Replay) (ply : ℕ)
+    → slice_get replay.played ply ≡ None → IsMoveIn notation replay ply []
+none_in notation replay ply none = none_at notation replay ply [] none refl
+
+-- the move before a ply led to it
+pub led_to : (notation : Notation) (replay : Replay) (before ply : ℕ) (value : List ℕ)
+    → ply ≡ before + 1 → IsMoveIn notation replay before value
+    → IsLastCell notation replay ply value
+led_to notation replay before zero value is of = absurd (omega (arith, is))
+led_to notation replay before (suc n) value is of =
+    let same : before ≡ n = omega (arith, is) in
+    subst (λ k. IsMoveIn notation replay k value) same of
+
+pub none_led : (notation : Notation) (replay : Replay) (ply : ℕ) → ply ≡ 0
+    → IsLastCell notation replay ply []
+none_led notation replay zero is = refl
+none_led notation replay (suc n) is = absurd (omega (arith, is))
+
+-- one more move
+texts_push : (notation : Notation) (start : State) (before : List Move) (m : Move)
+    (text own : List ℕ) (P : State) → AreMoveTexts notation start before text
+    → slice_get (positions_from start before) (length before) ≡ Some P
+    → IsMoveText notation P m own
+    → AreMoveTexts notation start (before ++ m ∷ []) (text ++ 32 ∷ own)
+texts_push notation start [] m text own P are here of = (
+  own,
+  [],
+  ap (λ t. t ++ 32 ∷ own) are ∙ ap (λ t. 32 ∷ t) (sym (append-nil own)),
+  subst (λ Q. IsMoveText notation Q m own) (sym (same_Some start P here)) of,
+  refl,
+)
+texts_push notation start (k ∷ before) m text own P (first, rest, parted, is, more) here of = (
+  first,
+  rest ++ 32 ∷ own,
+  ap (λ t. t ++ 32 ∷ own) parted ∙ ap (λ t. 32 ∷ t) (append_assoc first rest (32 ∷ own)),
+  is,
+  texts_push notation (after start k) before m rest own P more here of,
+)
+
+taken_position : (start : State) (moves : List Move) (i : ℕ) (P : State) → i ≤ length moves
+    → slice_get (positions_from start moves) i ≡ Some P
+    → slice_get (positions_from start (take i moves)) (length (take i moves)) ≡ Some P
+taken_position start [] zero P within here = here
+taken_position start [] (suc i) P within here = absurd (omega (arith, within))
+taken_position start (k ∷ moves) zero P within here = here
+taken_position start (k ∷ moves) (suc i) P within here =
+    taken_position (after start k) moves i P (omega (arith, within)) here
+
+-- these are so many first moves of the replay, without the blank before the first
+abbrev pub AreFirstMoves : Notation → Replay → ℕ → List ℕ → Type 0
+AreFirstMoves notation replay count value =
+    (start : State) → IsLegalLine start replay
+    → AreMoveTexts notation start (take count replay.played) (32 ∷ value)
+
+pub moves_more : (notation : Notation) (replay : Replay) (i : ℕ) (m : Move)
+    (value own : List ℕ) → AreFirstMoves notation replay i value
+    → slice_get replay.played i ≡ Some m → IsAt replay i (λ P. IsMoveText notation P m own)
+    → AreFirstMoves notation replay (i + 1) (value ++ 32 ∷ own)
+moves_more notation replay i m value own so_far played (P, here, of) start line =
+    let within = slice_get_within replay.played i m played in
+    let next = part_taken replay.played i m within
+    (sym (get_or_from_slice_get replay.played i m m played)) in
+    let there = ap (λ ps. slice_get ps i) (sym line.positions) ∙ here in
+    subst (λ ms. AreMoveTexts notation start ms (32 ∷ value ++ 32 ∷ own)) (sym next)
+    (texts_push notation start (take i replay.played) m (32 ∷ value) own P (so_far start line)
+    (taken_position start replay.played i P (omega (arith, within)) there) of)
+
+pub first_move : (notation : Notation) (replay : Replay) (m : Move) (own : List ℕ)
+    → slice_get replay.played 0 ≡ Some m → IsAt replay 0 (λ P. IsMoveText notation P m own)
+    → AreFirstMoves notation replay 1 own
+first_move notation replay m own played (P, here, of) start line =
+    let within = slice_get_within replay.played 0 m played in
+    let next = part_taken replay.played 0 m within
+    (sym (get_or_from_slice_get replay.played 0 m m played)) in
+    let there = ap (λ ps. slice_get ps 0) (sym line.positions) ∙ here in
+    subst (λ ms. AreMoveTexts notation start ms (32 ∷ own)) (sym next)
+    (texts_push notation start (take 0 replay.played) m [] own P (no_texts replay.played)
+    (taken_position start replay.played 0 P (omega arith) there) of)
+  where
+    no_texts : (moves : List Move) → AreMoveTexts notation start (take 0 moves) []
+    no_texts [] = refl
+    no_texts (k ∷ moves) = refl
+
+pub all_moves : (notation : Notation) (replay : Replay) (start : State) (value : List ℕ)
+    → IsLegalLine start replay → AreMoveTexts notation start replay.played (32 ∷ value)
+    → AreMovesCell notation replay value
+all_moves notation replay start value line are = (
+  start,
+  ap (λ ps. slice_get ps 0) line.positions ∙ first_position start replay.played,
+  (32 ∷ value, are, refl),
+)
+
+no_move : (notation : Notation) (start : State) (moves : List Move) → length moves ≡ 0
+    → AreMoveTexts notation start moves []
+no_move notation start [] none = refl
+no_move notation start (k ∷ moves) none = absurd (omega (arith, none))
+
+pub no_moves : (notation : Notation) (replay : Replay) (start : State)
+    → IsLegalLine start replay → length replay.played ≡ 0 → AreMovesCell notation replay []
+no_moves notation replay start line none = (
+  start,
+  ap (λ ps. slice_get ps 0) line.positions ∙ first_position start replay.played,
+  ([], no_move notation start replay.played none, refl),
+)
+
+-- Replays with the same positions and moves show the same.
+
+move_alike : (notation : Notation) (kept other : Replay) → kept.positions ≡ other.positions
+    → kept.played ≡ other.played → (ply : ℕ) (value : List ℕ) → IsMoveIn notation kept ply value
+    → IsMoveIn notation other ply value
+move_alike notation kept other positions played ply value is =
+    subst (λ ms. MatchOption (slice_get ms ply) (value ≡ [])
+    (λ m. (P : State) × (slice_get other.positions ply ≡ Some P) × IsMoveText notation P m value))
+    played
+    (subst (λ ps. MatchOption (slice_get kept.played ply) (value ≡ [])
+    (λ m. (P : State) × (slice_get ps ply ≡ Some P) × IsMoveText notation P m value)) positions is)
+
+last_alike : (notation : Notation) (kept other : Replay) → kept.positions ≡ other.positions
+    → kept.played ≡ other.played → (ply : ℕ) (value : List ℕ)
+    → IsLastCell notation kept ply value → IsLastCell notation other ply value
+last_alike notation kept other positions played zero value is = is
+last_alike notation kept other positions played (suc before) value is =
+    move_alike notation kept other positions played before value is
+
+pub line_alike : (own : LineColumn) (kept other : Replay) → kept.positions ≡ other.positions
+    → kept.played ≡ other.played → (ply : ℕ) (value : List ℕ) → IsLineCell own kept ply value
+    → IsLineCell own other ply value
+line_alike Plies kept other positions played ply value is =
+    is ∙ ap (λ (ms : List Move). decimal (length ms)) played
+line_alike (Last notation) kept other positions played ply value is =
+    last_alike notation kept other positions played ply value is
+line_alike (Moves notation) kept other positions played ply value (P, here, (text, are, is)) = (
+  P,
+  ap (λ ps. slice_get ps 0) (sym positions) ∙ here,
+  (text, subst (λ ms. AreMoveTexts notation P ms text) played are, is),
+)
+
+-- plain values with a blank between
+pub after_blank : (value own : List ℕ) → IsPlainValue value → IsPlainValue own
+    → IsPlainValue (value ++ 32 ∷ own)
+after_blank value own plain flat =
+    plain_append value (32 ∷ own) plain
+    ((omega arith, omega arith, λ is. omega arith, λ is. omega arith, λ is. omega arith), flat)

@@ -1,0 +1,19 @@
+-- The game that rows are of, where it stands.
+use Rattle.std.specs.Prelude.{◌≡◌, ℕ, List, Option, option_map}
+use Rattle.pgn_text.specs.Public.GameTexts.{GameText}
+use Rattle.pgn_game.specs.Public.PackedGames.{PackedGame}
+use Rattle.pgn_game.specs.Public.Replays.{Replay}
+use Rattle.pgn_extract.specs.Private.Packed.{IsOfRecord}
+use Rattle.pgn_extract.specs.declared.entries.row_game.GameSource.{GameSource}
+use Rattle.pgn_extract.specs.declared.entries.row_game.GameSource.TheVariants.{Text, Record}
+use Rattle.pgn_extract.specs.declared.entries.row_game.RowGame.{RowGame}
+
+-- the game has this text, or this record
+abbrev pub IsGameIn : GameSource → GameText → Type 0
+IsGameIn (Text raw) game = raw.now ≡ game
+IsGameIn (Record raw) game =
+    (replay : Replay) × (packed : PackedGame) × IsOfRecord raw.now game replay packed
+
+-- the name of its file, where lines have one
+abbrev pub name_of : RowGame → Option (List ℕ)
+name_of game = option_map (λ name. name.now) game.name

@@ -1,0 +1,99 @@
+//! The game that rows are of, where it stands: in a text or in a pack.
+ghost use Rattle.std.specs.Prelude.{◌≡◌, Some, option_map, IfSome};
+ghost use Rattle.pgn_extract.specs.Private.Packed.{EachOfRecord, raw_id};
+ghost use Rattle.pgn_extract.specs.Private.RowGames.{IsGameIn, name_of};
+ghost use Rattle.pgn_text.specs.Public.GameTexts.{GameText, tag_in};
+ghost use Rattle.pgn_text.specs.Public.Strings.{IsContents};
+
+use crate::entries::GameContext;
+use crate::marks::GameId;
+use pgn_game::pack::RawRecord;
+use pgn_text::{RawGame, is_contents};
+
+/// Where the tags and the result of a game are read.
+#[derive(Clone, Copy)]
+pub(crate) enum GameSource<'g, 'a> {
+    /// In its text.
+    Text(&'g RawGame<'a>),
+    /// In its record.
+    Record(&'g RawRecord<'a>),
+}
+
+/// A game whose entries have rows.
+#[derive(Clone, Copy)]
+pub(crate) struct RowGame<'g, 'a> {
+    /// The name of its file, where lines have one.
+    pub(crate) name: Option<&'g [u8]>,
+    /// Which game it is.
+    pub(crate) id: GameId,
+    /// Where its tags and its result are read.
+    pub(crate) source: GameSource<'g, 'a>,
+}
+
+impl<'g, 'a> RowGame<'g, 'a> {
+    /// A game in a text.
+    pub(crate) fn in_text(context: GameContext<'g>, game: &'g RawGame<'a>) -> Self
+        ensures name { name_of result ≡ context.entry.settings.now.name }
+        ensures id { result.id ≡ context.entry.own }
+        ensures source { IsGameIn result.source game.now }
+    {
+        RowGame {
+            name: match &context.settings.name {
+                Some(name) => Some(name.bytes()),
+                None => None,
+            },
+            id: context.own,
+            source: GameSource::Text(game),
+        }
+    }
+
+    /// A game in a pack.
+    pub(crate) fn in_pack(record: &'g RawRecord<'a>) -> Self
+        ensures name { name_of result ≡ record.now.name }
+        ensures id { result.id ≡ raw_id record.now }
+        ensures source { EachOfRecord record.now (λ game replay packed.
+            IsGameIn result.source game) }
+    {
+        RowGame {
+            name: record.name(),
+            id: GameId {
+                number: record.number(),
+                offset: record.offset(),
+            },
+            source: GameSource::Record(record),
+        }
+    }
+}
+
+/// The text where it is the contents of a string.
+fn if_contents(text: &[u8]) -> Option<&[u8]>
+    ensures taken { IfSome result (λ contents. (contents.now ≡ text.now) × IsContents text.now) }
+    ensures left { IsContents text.now → option_map (λ contents. contents.now) result
+        ≡ Some text.now }
+{
+    if is_contents(text) { Some(text) } else { None }
+}
+
+impl<'g, 'a> GameSource<'g, 'a> {
+    /// The contents of the tag with this name, if the game has one.
+    pub(crate) fn tag(self, name: &[u8]) -> Option<&'a [u8]>
+        ensures is { (game : GameText) → IsGameIn self.entry game
+            → option_map (λ contents. contents.now) result ≡ tag_in name.now game.tags }
+        ensures contents { IfSome result (λ contents. IsContents contents.now) }
+    {
+        match self {
+            GameSource::Text(game) => game.tags().get(name).copied(),
+            GameSource::Record(raw) => if_contents(raw.tag(name)?),
+        }
+    }
+
+    /// The result that ends the game.
+    pub(crate) fn result(self) -> &'a [u8]
+        ensures { (game : GameText) → IsGameIn self.entry game → result.now ≡ game.result }
+    {
+        match self {
+            GameSource::Text(game) => game.result(),
+            GameSource::Record(raw) => raw.result(),
+        }
+    }
+}
