@@ -6,3 +6,4 @@ pub mod ReportRows
 pub mod RequestExamples
 pub mod RunRows
 pub mod RowExamples
+pub mod ObjectExamples

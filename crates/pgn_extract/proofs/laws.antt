@@ -15,3 +15,8 @@ pub mod Codes
 pub mod CsvRows
 pub mod TsvRows
 pub mod JsonStrings
+pub mod OneObject
+pub mod ObjectLines
+pub mod ObjectUtf8
+pub mod RowObjects
+pub mod MemberNames

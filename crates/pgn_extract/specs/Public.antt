@@ -7,6 +7,7 @@ pub mod Index
 pub mod Csv
 pub mod Tsv
 pub mod Json
+pub mod Objects
 pub mod Columns
 pub mod PositionCells
 pub mod Rows
@@ -21,4 +22,5 @@ pub mod Runs
 pub mod Several
 pub mod Searching
 pub mod RowLaws
+pub mod ObjectLaws
 pub mod Laws

@@ -6,6 +6,10 @@ ghost use Rattle.pgn_extract.specs.Public.RowLaws.{TsvIsReadBack, TsvHasOneReadi
 ghost use Rattle.pgn_extract.specs.Public.RowLaws.{StringIsReadBack, StringHasOneReading};
 ghost use Rattle.pgn_extract.specs.Public.RowLaws.{StringIsReadOnce, TableIsReadBack};
 ghost use Rattle.pgn_extract.specs.Public.RowLaws.{TableIsReadOnce};
+ghost use Rattle.pgn_extract.specs.Public.ObjectLaws.{ObjectHasOneReading, ObjectIsReadBack};
+ghost use Rattle.pgn_extract.specs.Public.ObjectLaws.{ObjectIsReadOnce, ObjectIsUtf8};
+ghost use Rattle.pgn_extract.specs.Public.ObjectLaws.{LinesAreReadBack, LinesAreReadOnce};
+ghost use Rattle.pgn_extract.specs.Public.ObjectLaws.{NamesAreAsAsked};
 ghost use Rattle.pgn_extract.specs.Public.Searching.{PackedTextIsAPack};
 ghost use Rattle.pgn_extract.specs.Public.Laws.{PiecesHaveOneListing, EachPieceHasAMark};
 ghost use Rattle.pgn_extract.specs.Public.Laws.{TextHasAReport, TextHasOneReport};
@@ -106,4 +110,18 @@ pub fn one_row()
     ensures string_once { StringIsReadOnce }
     ensures table_read { TableIsReadBack }
     ensures table_once { TableIsReadOnce }
+{}
+
+/// A row that is written as an object of JSON is read as the names and the values of its columns,
+/// in their order, and in no other way; a text begins with one object at most. Its line is UTF-8.
+/// So are rows read one below another, an object in each line: no value of a tag makes a member, a
+/// number or a line.
+pub fn one_object()
+    ensures read { ObjectIsReadBack }
+    ensures reading { ObjectHasOneReading }
+    ensures once { ObjectIsReadOnce }
+    ensures names { NamesAreAsAsked }
+    ensures utf8 { ObjectIsUtf8 }
+    ensures lines_read { LinesAreReadBack }
+    ensures lines_once { LinesAreReadOnce }
 {}

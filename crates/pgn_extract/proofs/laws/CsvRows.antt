@@ -11,7 +11,7 @@ use Rattle.pgn_extract.specs.Public.Csv.{spelled_field, value_of_field, is_field
 use Rattle.pgn_extract.specs.Public.Csv.{SpellsLater, Spells, ReadsRow, ReadsRows, rows_text}
 use Rattle.pgn_extract.specs.Public.RowLaws.{CsvIsReadBack, CsvHasOneReading, CsvIsReadOnce}
 use Rattle.pgn_extract.specs.Public.RowLaws.{TableIsReadBack, TableIsReadOnce}
-use Rattle.pgn_extract.proofs.laws.Codes.{IsCode, one_spelling}
+use Rattle.pgn_extract.proofs.laws.Codes.{IsCode, one_spelling, LeavesRun, one_run}
 
 -- No other way.
 
@@ -48,31 +48,15 @@ quotables_code : IsCode spelled_quotable is_quotable Closes
 quotables_code = record { parted = quotables_parted; stopped = quotables_stopped }
 
 -- bytes that are not special go on to the first one that is
+stops_run : (text : List ℕ) → Stops text → LeavesRun (λ b. not (is_special b)) text
+stops_run text stops = (stops.byte, stops.more, stops.begins, ap not stops.special)
+
 one_bare : (xs ys t u : List ℕ) → list_all (λ b. not (is_special b)) xs ≡ true
     → list_all (λ b. not (is_special b)) ys ≡ true → Stops t → Stops u
     → xs ++ t ≡ ys ++ u → (xs ≡ ys) × (t ≡ u)
-one_bare [] [] t u each each' stops stops' e = (refl, e)
-one_bare [] (y ∷ ys) t u each each' stops stops' e =
-    let parts : (not (is_special y) ≡ true) × (list_all (λ b. not (is_special b)) ys ≡ true) =
-    and_parts _ _ each' in
-    let same : stops.byte ≡ y = let own : stops.byte ∷ stops.more ≡ y ∷ (ys ++ u) =
-    sym stops.begins ∙ e in cc in
-    let no : not true ≡ true = ap not (sym stops.special ∙ ap is_special same) ∙ parts.0 in
-    absurd cc
-one_bare (x ∷ xs) [] t u each each' stops stops' e =
-    let parts : (not (is_special x) ≡ true) × (list_all (λ b. not (is_special b)) xs ≡ true) =
-    and_parts _ _ each in
-    let same : stops'.byte ≡ x = let own : stops'.byte ∷ stops'.more ≡ x ∷ (xs ++ t) =
-    sym stops'.begins ∙ sym e in cc in
-    let no : not true ≡ true = ap not (sym stops'.special ∙ ap is_special same) ∙ parts.0 in
-    absurd cc
-one_bare (x ∷ xs) (y ∷ ys) t u each each' stops stops' e =
-    let first : (not (is_special x) ≡ true) × (list_all (λ b. not (is_special b)) xs ≡ true) =
-    and_parts _ _ each in
-    let second : (not (is_special y) ≡ true) × (list_all (λ b. not (is_special b)) ys ≡ true) =
-    and_parts _ _ each' in
-    let tails : (xs ≡ ys) × (t ≡ u) = one_bare xs ys t u first.1 second.1 stops stops' cc in
-    (cc, tails.1)
+one_bare xs ys t u each each' stops stops' e =
+    one_run (λ b. not (is_special b)) xs ys t u each each' (stops_run t stops)
+    (stops_run u stops') e
 
 -- bytes that are not special begin with no quote
 no_bare_quote : (xs t more : List ℕ) → list_all (λ b. not (is_special b)) xs ≡ true → Stops t

@@ -10,15 +10,9 @@ use Rattle.pgn_extract.specs.Public.Json.{Digits, spelled_sign, is_short, value_
 use Rattle.pgn_extract.specs.Public.Json.{value_of_hex, number_of, value_of_sign, is_sign}
 use Rattle.pgn_extract.specs.Public.RowLaws.{StringIsReadBack, StringHasOneReading}
 use Rattle.pgn_extract.specs.Public.RowLaws.{StringIsReadOnce}
-use Rattle.pgn_extract.proofs.laws.Codes.{IsCode, one_spelling}
+use Rattle.pgn_extract.proofs.laws.Codes.{IsCode, one_spelling, heads, tails}
 
 -- No other way.
-
-heads : {a b : ℕ} {xs ys : List ℕ} → a ∷ xs ≡ b ∷ ys → a ≡ b
-heads e = cc
-
-tails : {a b : ℕ} {xs ys : List ℕ} → a ∷ xs ≡ b ∷ ys → xs ≡ ys
-tails e = cc
 
 -- a quote ends the signs
 abbrev Closes : List ℕ → Type 0

@@ -8,7 +8,7 @@ use Rattle.pgn_extract.specs.Public.Tsv.{is_special, escaped, cell_text, later_c
 use Rattle.pgn_extract.specs.Public.Tsv.{Tab, LineFeed, Return, Backslash, spelled_sign}
 use Rattle.pgn_extract.specs.Public.Tsv.{value_of_sign, is_sign, SpellsLater, Spells}
 use Rattle.pgn_extract.specs.Public.RowLaws.{TsvIsReadBack, TsvHasOneReading, TsvIsReadOnce}
-use Rattle.pgn_extract.proofs.laws.Codes.{IsCode, one_spelling}
+use Rattle.pgn_extract.proofs.laws.Codes.{IsCode, one_spelling, heads, tails}
 
 -- No other way.
 
@@ -24,12 +24,6 @@ record Stops (text : List ℕ) : Type 0 where
 plain_is_other : (b : ℕ) → is_sign (Plain b) ≡ true → b ≡ 92 → ⊥
 plain_is_other b is same = let no : not (is_special 92) ≡ true =
     subst (λ x. not (is_special x) ≡ true) same is in absurd cc
-
-heads : {a b : ℕ} {xs ys : List ℕ} → a ∷ xs ≡ b ∷ ys → a ≡ b
-heads e = cc
-
-tails : {a b : ℕ} {xs ys : List ℕ} → a ∷ xs ≡ b ∷ ys → xs ≡ ys
-tails e = cc
 
 signs_parted : (s r : Sign) (t u : List ℕ) → is_sign s ≡ true → is_sign r ≡ true
     → spelled_sign s ++ t ≡ spelled_sign r ++ u → (s ≡ r) × (t ≡ u)
