@@ -139,7 +139,7 @@ _pgn_extract_command() {
         return
         ;;
     --encoding)
-        mapfile -t COMPREPLY < <(compgen -W "cp1250 cp1251 cp1252 latin-1" -- "$word")
+        mapfile -t COMPREPLY < <(compgen -W "cp1250 cp1251 cp1252 cp437 cp850 cp852 cp866 latin-1" -- "$word")
         return
         ;;
     --language)
@@ -157,9 +157,9 @@ _pgn_extract_command() {
     pgn-mend)
         options+=' --dry-run --summary --encoding --latin-1 --language'
         options+=' --no-values --no-tags --no-missing-results --no-byte-order-marks --no-dos-ends'
-        options+=' --no-line-ends --no-utf-16 --no-compression --no-nested --no-signs --no-results'
-        options+=' --no-figurines --no-castling --no-en-passant --no-lower-case --no-languages'
-        options+=' --no-variants'
+        options+=' --no-line-ends --no-utf-16 --no-compression --no-nested --no-blanks --no-signs'
+        options+=' --no-results --no-figurines --no-castling --no-en-passant --no-lower-case'
+        options+=' --no-languages --no-variants'
         ;;
     pgn-tree) options+=' --plies --least --criteria --where' ;;
     pgn-unique) options+=' --keep --report --keep-faulty --against --keys --near --drop-near' ;;

@@ -46,8 +46,15 @@ ROOK_STEP = rb"(?:[Oo0]|\xd0\x9e|\xd0\xbe)"
 SQUARES = rb"[a-h]?[1-8]?[x:-]?[a-h][1-8]" + NO_LETTER_AFTER
 PROMOTED = rb"(?:(?<=[a-h][18]=)|(?<=[a-h][18]))"
 TAKEN = rb"(?:(?<=[a-hx:][a-h][36])|(?<=[a-hx:][a-h][36][+#]))"
+# Blanks of web pages and of texts that were set, as a no-break space; a lone byte 0xA0 is that of
+# Latin-1.
+BLANK = (
+    rb"\xc2\xa0|\xe1\x9a\x80|\xe2\x80[\x80-\x8b\xaf]|\xe2\x81[\x9f\xa0]|\xe3\x80\x80"
+    rb"|(?<![\x80-\xff])\xa0(?![\x80-\xff])"
+)
 # How each kind is found, by its name. A text that can be read and not played has the last ones too.
 FOUND = {
+    "blanks": BLANK,
     "signs": rb"%b(?:%b|%b)%b|(?<=[a-h][1-8])(?:%b)%b"
     rb"|(?<![/=])(?:\xc2\xb1|\xe2\x88[\x93\x9e]|\xe2\xa9[\xb1\xb2])(?!/)"
     rb"|(?<![\x80-\xff])\xb1(?![\x80-\xff])"
@@ -71,6 +78,7 @@ PLAYED = {
 }  # fmt: skip
 # What is reported of an edit of a kind.
 SAID = {
+    "blanks": "no-break space or the like made a space",
     "signs": "sign of evaluation written as a NAG",
     "results": "result written as the standard has it",
     "en-passant": "e.p. taken out",
@@ -218,6 +226,7 @@ def figurine(found):
 
 
 NEW = {
+    "blanks": lambda found: b" ",
     "signs": nag,
     "results": lambda found: result_of(found[0]),
     "en-passant": lambda found: b"",
