@@ -135,7 +135,7 @@ _pgn_extract_command() {
         return
         ;;
     --keep)
-        mapfile -t COMPREPLY < <(compgen -W "first longest-tags" -- "$word")
+        mapfile -t COMPREPLY < <(compgen -W "first longest-tags longest-text" -- "$word")
         return
         ;;
     --encoding)

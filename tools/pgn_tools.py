@@ -491,6 +491,8 @@ TAG = re.compile(
     rb"\[[ \t\n\v\f\r]*+([A-Za-z0-9_]++)[ \t\n\v\f\r]*+" + STRING + rb"[ \t\n\v\f\r]*+\]",
     re.DOTALL)
 GAP = re.compile(rb"(?:[ \t\n\v\f\r]++|\{[^}]*+\}|[;%][^\n]*+)*+")
+# The same parts of a text that may be cut, where the last one may have no end.
+CUT_PART = re.compile(PART.pattern + rb'|(?P<open>[{"])', re.DOTALL)
 # How much of a game is read for its tags, at first.
 FRONT = 1 << 12
 
@@ -661,6 +663,31 @@ def tags_at(file, begin):
         # (what is cut there may be a tag, or stand between tags)
         if len(text) < size or text[place : place + 1] not in (b"", b"[", b"{", b";", b"%"):
             return tags
+        size *= 2
+
+
+def size_in(text):
+    """How many bytes of a text stand after the tags at its front, up to the end of a game; nothing
+    where that is not there."""
+    part = next((it for it in CUT_PART.finditer(text) if it["result"] or it["open"]), None)
+    if not part or part["open"]:
+        return None
+    begin, place = 0, 0
+    while tag := TAG.match(text, place):
+        begin, place = tag.end(), GAP.match(text, tag.end()).end()
+    return len(text[begin : part.end()].strip(WHITE))
+
+
+def text_size_at(file, begin):
+    """How many bytes stand after the tags of a game that can be read and begins at an offset of a
+    file."""
+    size = FRONT
+    while True:
+        text = os.pread(file.fileno(), size, begin)
+        # (a result at the end of what was read may be a part of a word)
+        found = size_in(text[:-1] if len(text) == size else text)
+        if found is not None or len(text) < size:
+            return found or 0
         size *= 2
 
 
