@@ -484,15 +484,17 @@ NO_GAME = (b"unreadable", b"too long")
 RESULTS = (b"1-0", b"0-1", b"1/2-1/2", b"*")
 WHITE = b" \t\n\v\f\r"
 STRING = rb'"((?:[^"\\]++|\\.)*+)"'
-PART = re.compile(
-    STRING + rb"|\{[^}]*+\}|[;%][^\n]*+"
-    rb"|(?P<result>\*|(?<![\w+#=:/-])(?:1-0|0-1|1/2-1/2)(?![\w+#=:/-]))", re.DOTALL)
+NO_RESULT = STRING + rb"|\{[^}]*+\}|[;%][^\n]*+"
+RESULT = rb"(?P<result>\*|(?<![\w+#=:/-])(?:1-0|0-1|1/2-1/2)(?![\w+#=:/-]))"
+PART = re.compile(NO_RESULT + rb"|" + RESULT, re.DOTALL)
 TAG = re.compile(
     rb"\[[ \t\n\v\f\r]*+([A-Za-z0-9_]++)[ \t\n\v\f\r]*+" + STRING + rb"[ \t\n\v\f\r]*+\]",
     re.DOTALL)
 GAP = re.compile(rb"(?:[ \t\n\v\f\r]++|\{[^}]*+\}|[;%][^\n]*+)*+")
-# The same parts of a text that may be cut, where the last one may have no end.
-CUT_PART = re.compile(PART.pattern + rb'|(?P<open>[{"])', re.DOTALL)
+# A text up to its first result, or up to a part that is cut.
+WHOLE = re.compile(
+    rb'(?>(?:[^"{;%%*01]++|%b|(?!%b)[01])*+)%b?+'
+    % (NO_RESULT, RESULT.replace(b"?P<result>", b"?:"), RESULT), re.DOTALL)
 # How much of a game is read for its tags, at first.
 FRONT = 1 << 12
 
@@ -669,13 +671,12 @@ def tags_at(file, begin):
 def size_in(text):
     """How many bytes of a text stand after the tags at its front, up to the end of a game; nothing
     where that is not there."""
-    part = next((it for it in CUT_PART.finditer(text) if it["result"] or it["open"]), None)
-    if not part or part["open"]:
+    game, begin, place = WHOLE.match(text), 0, 0
+    if not game["result"]:
         return None
-    begin, place = 0, 0
     while tag := TAG.match(text, place):
         begin, place = tag.end(), GAP.match(text, tag.end()).end()
-    return len(text[begin : part.end()].strip(WHITE))
+    return len(text[begin : game.end()].strip(WHITE))
 
 
 def text_size_at(file, begin):
