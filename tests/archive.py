@@ -4,6 +4,7 @@ Each game has a tag Annotator with a mark of its own, by which it is found where
 """
 
 import bz2
+import collections
 import gzip
 import io
 import lzma
@@ -177,6 +178,11 @@ def write_sources(folder):
     return made.games
 
 
+def text_of(file):
+    """What a file has; nothing where it is not there."""
+    return file.read_bytes() if file.is_file() else b""
+
+
 def marks_in(text):
     """The marks of the games in a text."""
     return [it.decode() for it in re.findall(rb'\[Annotator "([^"]*)"', text)]
@@ -184,15 +190,15 @@ def marks_in(text):
 
 def piece_at(text, offset):
     """What stands at an offset, up to the next Event line."""
-    return text[offset : (text + b"\n" + EVENT).index(b"\n" + EVENT, offset)]
+    return text[offset:].partition(b"\n" + EVENT)[0]
 
 
 def named_in(folder, report, kind, texts):
     """The marks of the games that a report names, which stand in the files of a folder, or in a file."""
-    for found in LOCATION.finditer((folder / report).read_bytes()):
+    for found in LOCATION.finditer(text_of(folder / report)):
         if found["kind"] == kind:
             file = folder / (found["file"].decode() if found["file"] else texts)
-            yield from marks_in(piece_at(file.read_bytes(), int(found["offset"])))
+            yield from marks_in(piece_at(text_of(file), int(found["offset"])))
 
 
 def games_of(text):
@@ -208,13 +214,12 @@ def moves_of(game):
 
 def faults_of_base(folder, games):
     """What the base has otherwise than it should, or twice."""
-    base = games_of((folder / "base.pgn").read_bytes())
+    base = games_of(text_of(folder / "base.pgn"))
     lines = [" ".join(moves_of(it)) for it in base]
     yield from (f"the base has twice: {it}" for it in sorted(set(lines)) if lines.count(it) > 1)
     for text, line in zip(base, lines):
-        (mark,) = marks_in(text)
-        wanted = games[mark].meant or games[mark].moves
-        if line != " ".join(wanted):
+        mark, *more = marks_in(text) or [""]
+        if more or mark not in games or line != " ".join(games[mark].meant or games[mark].moves):
             yield f"{mark} has in the base: {line}"
         if mark != "19/1" and 'Event "Café' not in text.decode() or "García, José" not in text.decode():
             yield f"{mark} has lost letters in the base"
@@ -222,8 +227,8 @@ def faults_of_base(folder, games):
 
 def faults_of_parts(folder):
     """Whether the years together are the base, each game in its own."""
-    base = games_of((folder / "base.pgn").read_bytes())
-    years = {it.stem: games_of(it.read_bytes()) for it in (folder / "years").iterdir()}
+    base = games_of(text_of(folder / "base.pgn"))
+    years = {it.stem: games_of(it.read_bytes()) for it in (folder / "years").glob("*")}
     if sorted(it for some in years.values() for it in some) != sorted(base):
         yield "the years are not the base"
     yield from (f"a game stands in {year}" for year, some in years.items() for it in some if f'[Date "{year}.'.encode() not in it)
@@ -231,15 +236,15 @@ def faults_of_parts(folder):
 
 def faults(folder, games):
     """What is wrong with what became of the games after both days."""
-    places = {mark: [] for mark in games}
-    for mark in marks_in((folder / "base.pgn").read_bytes()):
+    places = collections.defaultdict(list, {mark: [] for mark in games})
+    for mark in marks_in(text_of(folder / "base.pgn")):
         places[mark].append(BASE)
     for day, texts in (("", ""), ("-today", "-today.pgn")):
         for mark in named_in(folder, f"faults{day}.txt", b": ", f"mended{texts}"):
             places[mark].append(FAULTS)
         for mark in named_in(folder, f"duplicates{day}.txt", b" = ", f"clean{texts}"):
             places[mark].append(DUPLICATES)
-    yield from (f"{mark} is in {found}, not in {games[mark].goal}" for mark, found in places.items() if found != [games[mark].goal])
+    yield from (f"{mark} is in {found}" for mark, found in places.items() if mark not in games or found != [games[mark].goal])
     pairs = [*named_in(folder, "duplicates.txt", b" ~ ", "")]
     yield from [] if sorted(pairs) == ["13/0", "13/2"] else [f"nearly the same are {pairs}"]
     yield from faults_of_base(folder, games)
