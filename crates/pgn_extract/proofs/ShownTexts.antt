@@ -18,6 +18,7 @@ use Rattle.pgn_extract.specs.Public.Rows.{RowPlace, place_of, IsTagCell, IsPosit
 use Rattle.pgn_extract.specs.Public.Rows.{IsAt, IsPlyCell, IsCell, AreCells, row_text}
 use Rattle.pgn_extract.specs.declared.rows.column.Column.{Column}
 use Rattle.pgn_extract.specs.declared.rows.column.Column.TheVariants.{Tag, OfGame, OfPly}
+use Rattle.pgn_extract.specs.declared.rows.column.Column.TheVariants.{OfAnnotations}
 use Rattle.pgn_extract.specs.declared.rows.column.PlyColumn.{PlyColumn}
 use Rattle.pgn_extract.specs.declared.rows.column.PlyColumn.TheVariants.{Ply, OfPosition, Next}
 use Rattle.pgn_extract.specs.declared.rows.column.PlyColumn.TheVariants.{NextUci, OfLine}
@@ -75,6 +76,7 @@ one_cell (Tag name) place x y first other =
 one_cell (OfGame own) place x y first other = first ∙ sym other
 one_cell (OfPly own) place x y first other =
     one_ply_cell own place.replay place.ply x y first other
+one_cell (OfAnnotations own) place x y first other = first ∙ sym other
 
 one_cells : (columns : List Column) (place : RowPlace) (xs ys : List (List ℕ))
     → AreCells columns place xs → AreCells columns place ys → xs ≡ ys
@@ -137,6 +139,7 @@ module _ (game : GameText) (good : IsGameText game) (lines : Lines) (replay : Re
       some_tag_cell (tag_in own.items game.tags) (λ contents. good.strings own.items contents)
   some_cell name id (OfGame own) = (_, refl)
   some_cell name id (OfPly own) = some_ply_cell own
+  some_cell name id (OfAnnotations own) = (_, refl)
 
   some_cells : (name : Option (List ℕ)) (id : GameId) (columns : List Column)
       → (cells : List (List ℕ)) × AreCells columns (place_of name id game replay ply) cells

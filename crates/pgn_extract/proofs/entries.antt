@@ -1,3 +1,4 @@
+pub mod AnnotationFacts
 pub mod EachPly
 pub mod FieldFacts
 pub mod KeptLines

@@ -10,6 +10,7 @@ pub mod Json
 pub mod Objects
 pub mod Columns
 pub mod PositionCells
+pub mod Annotations
 pub mod Rows
 pub mod Listing
 pub mod GameReports

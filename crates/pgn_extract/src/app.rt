@@ -1,5 +1,6 @@
 //! The program over arguments and files that are handed in.
-ghost use Rattle.std.specs.Prelude.{◌≡◌, false, OnErr};
+ghost use Rattle.std.specs.Prelude.{◌≡◌, false, IfOk, OnErr};
+ghost use Rattle.pgn_extract.specs.Public.Requests.{IsInPacks};
 
 mod chosen_marks;
 pub mod command;
@@ -160,7 +161,9 @@ where
 }
 
 /// The row that is asked for, if one is.
-fn row_of(alloc: Global, order: &Order<'_>) -> Result<Option<Row>, Refusal> {
+fn row_of(alloc: Global, order: &Order<'_>) -> Result<Option<Row>, Refusal>
+    ensures { IfOk result (λ row. IsInPacks order.now.request row) }
+{
     match read_row(alloc, order) {
         Ok(row) => Ok(row),
         Err(RefusedColumns::Line(line)) => Err(Refusal::Line(line)),

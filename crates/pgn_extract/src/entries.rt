@@ -9,6 +9,7 @@ ghost use Rattle.pgn_criteria.specs.Public.Meeting.{heading_of};
 ghost use Rattle.pgn_extract.specs.Public.Aims.{HasNoChance, IsRuledOut, aim_of};
 ghost use Rattle.pgn_extract.specs.Private.Finding.{AddsEntries, StopsAtFault, IsChosen};
 
+pub(crate) mod annotations;
 mod fields;
 pub(crate) mod finding;
 pub(crate) mod kept;

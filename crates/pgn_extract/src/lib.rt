@@ -37,6 +37,8 @@ pub use marks::{GameId, Marks, Met};
 pub use output::file_name::FileName;
 pub use output::outcome::{RunError, Summary};
 pub use packed::searching::{SearchError, Searched, search};
-pub use rows::column::{Column, Format, GameColumn, PlyColumn, PositionColumn, Row};
+pub use rows::column::{
+    AnnotationColumn, Column, Format, GameColumn, PlyColumn, PositionColumn, Row,
+};
 pub use rows::list::{ColumnsError, MOST_COLUMNS, parse_columns};
 pub use settings::{EntryLine, Fields, Form, Mode, Select, Settings};

@@ -10,8 +10,8 @@ ghost use Rattle.pgn_game.specs.Public.PackStreams.{HasNoRecord};
 ghost use Rattle.pgn_extract.specs.Public.Aims.{aim_of};
 ghost use Rattle.pgn_extract.specs.Public.Exports.{AreExports};
 ghost use Rattle.pgn_extract.specs.Public.Index.{index};
-ghost use Rattle.pgn_extract.specs.Public.Listing.{Entry, AreEntries, entries_at_least, is_bare};
-ghost use Rattle.pgn_extract.specs.Public.Listing.{listing};
+ghost use Rattle.pgn_extract.specs.Public.Listing.{Entry, AreEntries, entries_at_least, listing};
+ghost use Rattle.pgn_extract.specs.Public.Listing.{has_annotations};
 ghost use Rattle.pgn_extract.specs.Public.Resuming.{IsMarkAmong, verdicts_at_least};
 ghost use Rattle.pgn_extract.specs.Public.Runs.{ArePieces, job_of};
 ghost use Rattle.pgn_extract.specs.Public.Searching.{ArePackLines, HasNoGame, IsIndexOfSoundGames};
@@ -269,6 +269,7 @@ pub fn report_some<'a>(
 /// listing, or the index of its sound games. Bytes that are no pack are refused at the first record
 /// of no game.
 pub fn search_pack(alloc: Global, bytes: &[u8], settings: &Settings) -> Result<Vec<u8>, SearchError>
+    requires { has_annotations settings.now.line ≡ false }
     ensures listed { IfOk result (λ out. settings.now.mode ≡ Mode.List
         → (name : Option (List ℕ)) (number : ℕ) (pieces : List MarkedPiece)
         → IsPackOf name number pieces bytes.now → (entries : List Entry)
@@ -300,6 +301,7 @@ pub fn search_records<'a>(
     settings: &Settings,
 ) -> Result<Searched, SearchError>
     requires sound { (input.old.faulted ≡ false) × (out.old.faulted ≡ false) }
+    requires held { has_annotations settings.now.line ≡ false }
     // Each record is counted, and its lines are written.
     ensures searched { IfOk result (λ searched. (records : List PackedGame) × (text : List ℕ)
         × (input.old.inner.now ≡ pack_bytes records)

@@ -9,7 +9,7 @@ ghost use Rattle.pgn_game.specs.Public.PackReading.{IsRawOfGame};
 ghost use Rattle.pgn_extract.specs.Public.Aims.{Aim, aim_of};
 ghost use Rattle.pgn_extract.specs.Private.Finding.{named_mark};
 ghost use Rattle.pgn_extract.specs.Public.Index.{mark_line, titled};
-ghost use Rattle.pgn_extract.specs.Public.Listing.{is_bare};
+ghost use Rattle.pgn_extract.specs.Public.Listing.{has_annotations, is_bare};
 ghost use Rattle.pgn_criteria.specs.Public.Meeting.{heading_of};
 ghost use Rattle.pgn_criteria.specs.Public.Prefilters.{codes_in};
 ghost use Rattle.pgn_extract.specs.Private.Packed.{raw_id, PutsRecord, LeavesRecord, EachOfRecord};
@@ -334,6 +334,7 @@ fn push_met<'a>(
     context: RecordContext<'a, '_, 'a>,
     criteria: &'a Criteria,
 ) -> Result<(), PackedFault>
+    requires held { has_annotations context.settings.now.line ≡ false }
     requires criteria { context.settings.now.criteria ≡ Some criteria.now }
     requires shows { IsRawOfGame context.record.now }
     ensures ok { OnOk result (ListsRecord (aim_of context.entry.settings.now)
@@ -358,6 +359,7 @@ fn push_met<'a>(
 /// Adds the lines of the entries of a packed game, where there are no criteria. Where they are
 /// marks and plies, it is not replayed.
 fn push_plain(text: &mut Vec<u8>, context: RecordContext<'_, '_, '_>) -> Result<(), PackedFault>
+    requires held { has_annotations context.settings.now.line ≡ false }
     requires criteria { context.settings.now.criteria ≡ None }
     requires shows { IsRawOfGame context.record.now }
     ensures ok { OnOk result (ListsRecord (aim_of context.entry.settings.now)
@@ -385,6 +387,7 @@ fn push_entries<'a>(
     text: &mut Vec<u8>,
     context: RecordContext<'a, '_, 'a>,
 ) -> Result<(), PackedFault>
+    requires held { has_annotations context.settings.now.line ≡ false }
     requires shows { IsRawOfGame context.record.now }
     ensures ok { OnOk result (ListsRecord (aim_of context.entry.settings.now)
         context.entry.record.now text.old.items text.new.items) }
@@ -415,6 +418,7 @@ pub fn push_packed<'a>(
     settings: &'a Settings,
     record: &RawRecord<'a>,
 ) -> Result<(), PackedFault>
+    requires held { has_annotations settings.now.line ≡ false }
     requires shows { IsRawOfGame record.now }
     ensures ok { OnOk result
         (PutsRecord (aim_of settings.now) record.now text.old.items text.new.items) }

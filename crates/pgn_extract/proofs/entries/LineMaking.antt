@@ -8,10 +8,11 @@ use Rattle.pgn_extract.specs.Public.Aims.{Aim, GameId}
 use Rattle.pgn_extract.specs.Public.Listing.{AfterPly, AsRow, IsShownBy}
 use Rattle.pgn_extract.specs.Public.Listing.{is_bare}
 use Rattle.pgn_extract.specs.Public.Rows.{IsRow, place_of}
-use Rattle.pgn_extract.specs.Private.Lines.{ShowsFields, ShowsValues, ShowsLine, Makes}
+use Rattle.pgn_extract.specs.Private.AnnotationLists.{lists_in}
+use Rattle.pgn_extract.specs.Private.Lines.{ShowsFields, ShowsParts, ShowsLine, Makes}
 use Rattle.pgn_extract.specs.Private.Lines.{MakesLines, made_line}
 use Rattle.pgn_extract.specs.Private.RowGames.{name_of}
-use Rattle.pgn_extract.specs.Private.RowTexts.{MakesRows, ArePlyCells, ArePlainValues, columns_of}
+use Rattle.pgn_extract.specs.Private.RowTexts.{MakesRows, ArePartTexts, columns_of}
 use Rattle.pgn_extract.specs.Private.RowTexts.{filled, or_quotes}
 use Rattle.pgn_extract.specs.declared.entries.line_maker.LineMaker.{LineMaker}
 use Rattle.pgn_extract.specs.declared.entries.line_maker.LineMaker.TheVariants as maker
@@ -40,10 +41,11 @@ made_text rows values =
 
 row_made : (rows : RowMaker) (name : Option (List ℕ)) (id : GameId) (game : GameText)
     → MakesRows rows name id game → (replay : Replay) (ply : ℕ) (values : List (List ℕ))
-    → ArePlyCells (columns_of rows.parts.items) replay ply values → ArePlainValues values
+    → ArePartTexts rows.row.now.format (lists_in rows.annotations) (columns_of rows.parts.items)
+    replay ply values
     → IsRow rows.row.now (place_of name id game replay ply) (made_text rows values)
-row_made rows name id game makes replay ply values are plain =
-    let (cells, have, text) = makes replay ply values are plain in
+row_made rows name id game makes replay ply values are =
+    let (cells, have, text) = makes replay ply values are in
     let row = rows.row.now in (
       cells,
       have,
@@ -54,10 +56,10 @@ row_made rows name id game makes replay ply values are plain =
 -- a row
 pub shows_row : (lines : LineMaker) (rows : RowMaker) (values : List (List ℕ)) (aim : Aim)
     (id : GameId) (game : GameText) (before : List State) (P : State)
-    → lines ≡ maker.Rows rows → Makes lines aim id game → ArePlainValues values
-    → ShowsValues (columns_of rows.parts.items) values aim game before P
+    → lines ≡ maker.Rows rows → Makes lines aim id game
+    → ShowsParts rows rows.parts.items values aim game before P
     → ShowsLine (AsRow (made_text rows values)) id aim game before P
-shows_row lines rows values aim id game before P is makes plain shows replay own rest parts =
+shows_row lines rows values aim id game before P is makes shows replay own rest parts =
     let line : aim.line ≡ InColumns rows.row.now = makes.line ∙ ap made_line is in
     let made : MakesRows rows aim.name id game =
     subst (λ (l : LineMaker). MakesLines l aim.name id game) is makes.of_game in
@@ -66,7 +68,7 @@ shows_row lines rows values aim id game before P is makes plain shows replay own
     IsShownBy l (place_of aim.name id game replay (length before))
     (AsRow (made_text rows values))) (sym line) (
       made_text rows values,
-      row_made rows aim.name id game made replay (length before) values are plain,
+      row_made rows aim.name id game made replay (length before) values are,
       refl,
     )
 

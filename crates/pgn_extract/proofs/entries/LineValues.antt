@@ -14,9 +14,12 @@ use Rattle.pgn_game.specs.declared.exports.notation.Notation.{Notation}
 use Rattle.pgn_extract.specs.Private.KeptLines.{AreReported}
 use Rattle.pgn_extract.specs.Private.Lines.{IsEnoughFor, keeps_line}
 use Rattle.pgn_extract.specs.Private.RowTexts.{IsPlainValue, EachColumn, need_line, needs_line}
+use Rattle.pgn_extract.specs.Private.RowTexts.{IsShownWith, part_needs_line}
 use Rattle.pgn_extract.specs.Public.Rows.{IsAt, IsMoveIn, IsLastCell, AreMovesCell, IsLineCell}
 use Rattle.pgn_extract.specs.declared.entries.line_maker.LineMaker.{LineMaker}
 use Rattle.pgn_extract.specs.declared.entries.line_maker.LineMaker.TheVariants as maker
+use Rattle.pgn_extract.specs.declared.entries.row_maker.PartColumn.{PartColumn}
+use Rattle.pgn_extract.specs.declared.entries.row_maker.PartColumn.TheVariants as kind
 use Rattle.pgn_extract.specs.declared.entries.row_maker.RowPart.{RowPart}
 use Rattle.pgn_extract.specs.declared.rows.column.LineColumn.{LineColumn}
 use Rattle.pgn_extract.specs.declared.rows.column.LineColumn.TheVariants.{Plies, Last, Moves}
@@ -29,28 +32,39 @@ use Rattle.pgn_extract.proofs.entries.RowMaking.{part_taken}
 
 -- one of the columns
 pub column_shown : (So : PlyColumn → Type 0) (parts : List RowPart) (i : ℕ) (part : RowPart)
-    → EachColumn So parts → i < length parts → part ≡ get_or parts i part → So part.column
+    → EachColumn So parts → i < length parts → part ≡ get_or parts i part
+    → IsShownWith So part.column
 column_shown So [] i part each within is = absurd (omega (arith, within))
 column_shown So (first ∷ parts) zero part each within is =
-    subst (λ (p : RowPart). So p.column) (sym is) each.0
+    subst (λ (p : RowPart). IsShownWith So p.column) (sym is) each.0
 column_shown So (first ∷ parts) (suc i) part each within is =
     column_shown So parts i part each.1 (omega (arith, within)) is
 
+each_shown : (column : PartColumn) → IsShownWith (λ own. Unit {0}) column
+each_shown (kind.OfPly own) = tt
+each_shown (kind.OfAnnotations own) = tt
+
 all_columns : (parts : List RowPart) → EachColumn (λ column. Unit {0}) parts
 all_columns [] = tt
-all_columns (part ∷ parts) = (tt, all_columns parts)
+all_columns (part ∷ parts) = (each_shown part.column, all_columns parts)
 
 -- a line that is kept shows all
 pub enough_kept : (lines : LineMaker) → IsEnoughFor (λ column. Unit {0}) lines
 enough_kept (maker.Fields fields) = (λ is. tt, λ is. tt)
 enough_kept (maker.Rows rows) = all_columns rows.parts.items
 
+not_needed : (column : PartColumn) → part_needs_line column ≡ false
+    → IsShownWith (λ own. needs_line own ≡ false) column
+not_needed (kind.OfPly own) none = none
+not_needed (kind.OfAnnotations own) none = tt
+
 no_columns : (parts : List RowPart) → need_line parts ≡ false
     → EachColumn (λ column. needs_line column ≡ false) parts
 no_columns [] none = tt
 no_columns (part ∷ parts) none =
-    let both : (needs_line part.column ≡ false) × (need_line parts ≡ false) = or_parts _ _ none in
-    (both.0, no_columns parts both.1)
+    let both : (part_needs_line part.column ≡ false) × (need_line parts ≡ false) =
+    or_parts _ _ none in
+    (not_needed part.column both.0, no_columns parts both.1)
 
 -- one that is played shows those for which none is kept
 pub enough_played : (lines : LineMaker) → keeps_line lines ≡ false

@@ -1,5 +1,5 @@
 -- The rows of a game, column by column.
-use Rattle.std.proofs.Common.{◌≡◌, ℕ, false, List, [], ◌∷◌, ◌++◌, refl, sym, ap, ◌∙◌}
+use Rattle.std.proofs.Common.{◌≡◌, ℕ, true, false, List, [], ◌∷◌, ◌++◌, refl, sym, ap, ◌∙◌}
 use Rattle.std.proofs.Common.{◌+◌, ◌<◌, subst, append_assoc, append-nil, arith, get_or, length}
 use Rattle.std.proofs.Common.{length-append}
 use Rattle.std.proofs.Common.{take}
@@ -7,24 +7,29 @@ use Rattle.std.specs.Prelude.{Option, zero, suc, ◌==◌, map, if◌then◌else
 use Rattle.std.proofs.lemmas.List.{map-append, take_more}
 use Rattle.chess.specs.Public.Positions.{State}
 use Rattle.pgn_text.specs.Public.GameTexts.{GameText}
+use Rattle.pgn_text.specs.Public.Games.{Item}
 use Rattle.pgn_game.specs.Public.Replays.{Replay}
 use Rattle.pgn_extract.specs.Public.Aims.{Aim}
-use Rattle.pgn_extract.specs.Private.Lines.{Where, ShowsValue, ShowsValues}
-use Rattle.pgn_extract.specs.Public.Columns.{is_number_of_ply}
-use Rattle.pgn_extract.specs.Public.Rows.{IsPlyCell, IsCell, AreCells, place_of}
-use Rattle.pgn_extract.specs.Private.RowTexts.{ArePlyCells, ArePlainValues, IsPlainValue}
+use Rattle.pgn_extract.specs.Private.Lines.{Where, ShowsPart, ShowsParts}
+use Rattle.pgn_extract.specs.Public.Annotations.{annotation_lists, annotation_value}
+use Rattle.pgn_extract.specs.Public.Columns.{is_number_of_ply, is_number_column}
+use Rattle.pgn_extract.specs.Public.Columns.{shows_annotations}
+use Rattle.pgn_extract.specs.Public.Rows.{IsCell, AreCells, place_of}
+use Rattle.pgn_extract.specs.Private.AnnotationLists.{lists_in}
+use Rattle.pgn_extract.specs.Private.RowTexts.{IsPartText, ArePartTexts, column_of, value_text}
+use Rattle.pgn_extract.specs.Private.RowTexts.{part_quote}
 use Rattle.pgn_extract.specs.Private.RowTexts.{columns_of}
 use Rattle.pgn_extract.specs.Private.RowTexts.{filled, keyed_text, later_text, cells_text, gap}
 use Rattle.pgn_extract.specs.Private.RowTexts.{front}
 use Rattle.pgn_extract.specs.Private.RowTexts.{back, MakesCells, MakesRow, EndsPart, AddsCell}
-use Rattle.pgn_extract.specs.Private.RowTexts.{key_text, quote_text, gap_after}
+use Rattle.pgn_extract.specs.Private.RowTexts.{key_text, gap_after}
+use Rattle.pgn_extract.specs.declared.entries.row_maker.PartColumn.{PartColumn}
+use Rattle.pgn_extract.specs.declared.entries.row_maker.PartColumn.TheVariants as kind
 use Rattle.pgn_extract.specs.declared.entries.row_maker.RowMaker.{RowMaker}
 use Rattle.pgn_extract.specs.declared.entries.row_maker.RowPart.{RowPart}
 use Rattle.pgn_extract.specs.declared.marks.GameId.{GameId}
 use Rattle.pgn_extract.specs.declared.rows.column.Column.{Column}
-use Rattle.pgn_extract.specs.declared.rows.column.Column.TheVariants.{OfPly}
 use Rattle.pgn_extract.specs.declared.rows.column.Format.{Format}
-use Rattle.pgn_extract.specs.declared.rows.column.PlyColumn.{PlyColumn}
 use Rattle.pgn_extract.proofs.entries.PlainValues.{plain_text, other_byte}
 
 -- what stands after all parts stands at the end
@@ -50,31 +55,30 @@ filled_push (first ∷ parts) part (own ∷ values) value last size =
     (filled_push parts part values value last (omega arith))
 
 -- parts have as many values
-sizes : (parts : List RowPart) (replay : Replay) (ply : ℕ) (values : List (List ℕ))
-    → ArePlyCells (columns_of parts) replay ply values → length values ≡ length parts
-sizes [] replay ply values none = rw none refl
-sizes (part ∷ parts) replay ply values (own, more, are, is, others) =
-    let size = sizes parts replay ply more others in rw are (omega arith)
+sizes : (format : Format) (lists : List (List Item)) (parts : List RowPart) (replay : Replay)
+    (ply : ℕ) (values : List (List ℕ))
+    → ArePartTexts format lists (columns_of parts) replay ply values
+    → length values ≡ length parts
+sizes format lists [] replay ply values none = rw none refl
+sizes format lists (part ∷ parts) replay ply values (own, more, are, is, others) =
+    let size = sizes format lists parts replay ply more others in rw are (omega arith)
 
 -- the values of some columns and one more
-pub values_cut : (columns : List PlyColumn) (column : PlyColumn) (replay : Replay) (ply : ℕ)
-    (values : List (List ℕ)) → ArePlyCells (columns ++ column ∷ []) replay ply values
-    → ArePlainValues values → (before : List (List ℕ)) × (value : List ℕ)
-    × (values ≡ before ++ value ∷ []) × ArePlyCells columns replay ply before
-    × ArePlainValues before × IsPlyCell column replay ply value × IsPlainValue value
-values_cut [] column replay ply values (value, more, are, is, none) plain =
-    let all : values ≡ value ∷ [] = are ∙ ap (λ t. value ∷ t) none in
-    ([], value, all, refl, tt, is, (subst ArePlainValues all plain).0)
-values_cut (first ∷ columns) column replay ply values (own, more, are, is, others) plain =
-    let all = subst ArePlainValues are plain in
-    let cut = values_cut columns column replay ply more others all.1 in (
+pub values_cut : (format : Format) (lists : List (List Item)) (columns : List PartColumn)
+    (column : PartColumn) (replay : Replay) (ply : ℕ)
+    (values : List (List ℕ)) → ArePartTexts format lists (columns ++ column ∷ []) replay ply values
+    → (before : List (List ℕ)) × (value : List ℕ)
+    × (values ≡ before ++ value ∷ []) × ArePartTexts format lists columns replay ply before
+    × IsPartText format lists column replay ply value
+values_cut format lists [] column replay ply values (value, more, are, is, none) =
+    ([], value, are ∙ ap (λ t. value ∷ t) none, refl, is)
+values_cut format lists (first ∷ columns) column replay ply values (own, more, are, is, others) =
+    let cut = values_cut format lists columns column replay ply more others in (
       own ∷ cut.0,
       cut.1,
       are ∙ ap (λ t. own ∷ t) cut.2,
       (own, cut.0, refl, is, cut.3),
-      (all.0, cut.4),
-      cut.5,
-      cut.6,
+      cut.4,
     )
 
 -- A column of the game: its value is known.
@@ -85,12 +89,12 @@ pub adds_known : (old new : RowMaker) (name : Option (List ℕ)) (id : GameId) (
     → (text : List ℕ) → key_text old.row.now.format column ++ text
     ≡ keyed_text old.row.now.format column cell
     → new.last.items ≡ mid ++ text → AddsCell old new name id game column
-adds_known old new name id game column cell mid parts key is text whole last replay ply values are
-    plain = (
+adds_known old new name id game column cell mid parts key is text whole last replay ply values
+    are = (
       values,
       cell,
-      subst (λ ps. ArePlyCells (columns_of ps) replay ply values) parts are,
-      plain,
+      subst (λ ps. ArePartTexts old.row.now.format (lists_in old.annotations) (columns_of ps) replay
+          ply values) parts are,
       is replay ply,
       ap (λ ps. filled ps values new.last.items) parts
           ∙ ap (filled old.parts.items values)
@@ -101,19 +105,38 @@ adds_known old new name id game column cell mid parts key is text whole last rep
           ∙ ap (λ t. filled old.parts.items values old.last.items ++ t) whole,
     )
 
+-- What is written of a ply for a column is the text of its cell, between quotes where it has any.
+cell_of : (format : Format) (lists : List (List Item)) (column : PartColumn)
+    (name : Option (List ℕ)) (id : GameId) (game : GameText) (replay : Replay) (ply : ℕ)
+    (text : List ℕ)
+    → (shows_annotations (column_of column) ≡ true → lists ≡ annotation_lists game.elements)
+    → IsPartText format lists column replay ply text
+    → (cell : List ℕ) × IsCell (column_of column) (place_of name id game replay ply) cell
+    × (part_quote format column ++ (text ++ part_quote format column)
+    ≡ value_text format (is_number_column (column_of column)) cell)
+cell_of format lists (kind.OfPly own) name id game replay ply text known (is, plain) =
+    (text, is, plain_text format (is_number_of_ply own) text plain)
+cell_of format lists (kind.OfAnnotations own) name id game replay ply text known is = (
+  annotation_value own (get_or lists ply []),
+  ap (λ (all : List (List Item)). annotation_value own (get_or all ply [])) (known refl),
+  append-nil text ∙ is,
+)
+
 -- A column of the ply: its value follows.
 module _ (old mid new : RowMaker) (name : Option (List ℕ)) (id : GameId) (game : GameText)
-    (column : PlyColumn) (row : mid.row.now ≡ old.row.now) (parts : mid.parts.items
+    (column : PartColumn) (row : mid.row.now ≡ old.row.now) (parts : mid.parts.items
     ≡ old.parts.items) (key : mid.last.items ≡ old.last.items
-    ++ key_text old.row.now.format (OfPly column)) (ends : EndsPart mid new column) where
+    ++ key_text old.row.now.format (column_of column)) (ends : EndsPart mid new column)
+    (known : shows_annotations (column_of column) ≡ true
+    → lists_in old.annotations ≡ annotation_lists game.elements) where
   abbrev quote : List ℕ
-  quote = quote_text old.row.now.format (is_number_of_ply column)
+  quote = part_quote old.row.now.format column
 
   abbrev key_of : List ℕ
-  key_of = key_text old.row.now.format (OfPly column)
+  key_of = key_text old.row.now.format (column_of column)
 
-  quoted : quote_text mid.row.now.format (is_number_of_ply column) ≡ quote
-  quoted = ap (λ r. quote_text r.format (is_number_of_ply column)) row
+  quoted : part_quote mid.row.now.format column ≡ quote
+  quoted = ap (λ r. part_quote r.format column) row
 
   all_parts : new.parts.items ≡ old.parts.items ++ ends.part ∷ []
   all_parts = ends.parts ∙ ap (λ ps. ps ++ ends.part ∷ []) parts
@@ -132,35 +155,39 @@ module _ (old mid new : RowMaker) (name : Option (List ℕ)) (id : GameId) (game
   last_is : new.last.items ≡ quote
   last_is = ends.after ∙ quoted
 
-  around : (value : List ℕ) → IsPlainValue value
+  around : (value cell : List ℕ)
+      → quote ++ (value ++ quote)
+      ≡ value_text old.row.now.format (is_number_column (column_of column)) cell
       → ends.part.before.items ++ (value ++ new.last.items)
-      ≡ old.last.items ++ keyed_text old.row.now.format (OfPly column) value
-  around value plain =
+      ≡ old.last.items ++ keyed_text old.row.now.format (column_of column) cell
+  around value cell is =
       ap (λ t. t ++ (value ++ new.last.items)) before_is
       ∙ append_assoc old.last.items (key_of ++ quote) (value ++ new.last.items)
       ∙ ap (λ t. old.last.items ++ t)
       (append_assoc key_of quote (value ++ new.last.items)
       ∙ ap (λ t. key_of ++ (quote ++ (value ++ t))) last_is
-      ∙ ap (λ t. key_of ++ t)
-      (plain_text old.row.now.format (is_number_of_ply column) value plain))
+      ∙ ap (λ t. key_of ++ t) is)
 
-  pub adds_shown : AddsCell old new name id game (OfPly column)
-  adds_shown replay ply values are plain =
-      let (before, value, all, some, flat, is, own) =
-      values_cut (columns_of old.parts.items) column replay ply values
-      (subst (λ cs. ArePlyCells cs replay ply values) columns_are are) plain in (
+  pub adds_shown : AddsCell old new name id game (column_of column)
+  adds_shown replay ply values are =
+      let format = old.row.now.format in
+      let lists = lists_in old.annotations in
+      let (before, value, all, some, own) =
+      values_cut format lists (columns_of old.parts.items) column replay ply values
+      (subst (λ cs. ArePartTexts format lists cs replay ply values) columns_are are) in
+      let (cell, is, between) =
+      cell_of format lists column name id game replay ply value known own in (
         before,
-        value,
+        cell,
         some,
-        flat,
         is,
         ap (λ ps. filled ps values new.last.items) all_parts
             ∙ ap (λ vs. filled (old.parts.items ++ ends.part ∷ []) vs new.last.items) all
             ∙ filled_push old.parts.items ends.part before value new.last.items
-            (sizes old.parts.items replay ply before some)
-            ∙ ap (filled old.parts.items before) (around value own)
+            (sizes format lists old.parts.items replay ply before some)
+            ∙ ap (filled old.parts.items before) (around value cell between)
             ∙ filled_more old.parts.items before old.last.items
-            (keyed_text old.row.now.format (OfPly column) value),
+            (keyed_text format (column_of column) cell),
       )
 
 -- The cells of some columns and one more.
@@ -213,18 +240,29 @@ text_push format (first ∷ columns) column name id game replay ply cells cell
     (gap format ++ keyed_text format column cell)))
 
 -- one more column
-pub makes_more : (format : Format) (parts : List RowPart) (last : List ℕ) (mid new : RowMaker)
+pub makes_more : (format : Format) (lists : List (List Item)) (parts : List RowPart)
+    (last : List ℕ) (mid new : RowMaker)
     (columns : List Column) (column : Column) (name : Option (List ℕ)) (id : GameId)
-    (game : GameText) → MakesCells format columns parts last name id game
-    → mid.row.now.format ≡ format → mid.parts.items ≡ parts
+    (game : GameText) → MakesCells format lists columns parts last name id game
+    → mid.row.now.format ≡ format → lists_in mid.annotations ≡ lists → mid.parts.items ≡ parts
     → mid.last.items ≡ last ++ gap_after format columns → AddsCell mid new name id game column
-    → MakesCells format (columns ++ column ∷ []) new.parts.items new.last.items name id game
-makes_more format parts last mid new columns column name id game so_far row same grown adds replay
-    ply values are plain =
-    let (before, cell, some, flat, is, text) = adds replay ply values are plain in
-    let here : ArePlyCells (columns_of parts) replay ply before =
-    subst (λ (ps : List RowPart). ArePlyCells (columns_of ps) replay ply before) same some in
-    let (cells, have, made) = so_far replay ply before here flat in
+    → MakesCells format lists (columns ++ column ∷ []) new.parts.items new.last.items name id game
+makes_more format lists parts last mid new columns column name id game so_far row kept same grown
+    adds replay ply values are =
+    let given : ArePartTexts mid.row.now.format (lists_in mid.annotations)
+    (columns_of new.parts.items) replay ply values =
+    subst (λ (f : Format). ArePartTexts f (lists_in mid.annotations) (columns_of new.parts.items)
+    replay ply values) (sym row)
+    (subst (λ (ls : List (List Item)). ArePartTexts format ls (columns_of new.parts.items) replay
+    ply values) (sym kept) are) in
+    let (before, cell, some, is, text) = adds replay ply values given in
+    let here : ArePartTexts format lists (columns_of parts) replay ply before =
+    subst (λ (ps : List RowPart). ArePartTexts format lists (columns_of ps) replay ply before) same
+    (subst (λ (ls : List (List Item)). ArePartTexts format ls (columns_of mid.parts.items) replay
+    ply before) kept
+    (subst (λ (f : Format). ArePartTexts f (lists_in mid.annotations)
+    (columns_of mid.parts.items) replay ply before) row some)) in
+    let (cells, have, made) = so_far replay ply before here in
     let keyed = keyed_text format column cell in
     let between = gap_after format columns in (
       cells ++ cell ∷ [],
@@ -250,12 +288,13 @@ gap_is format (column ∷ columns) (suc i) within =
     rw later refl
 
 -- all columns
-pub makes_all : (format : Format) (columns : List Column) (parts : List RowPart)
+pub makes_all : (format : Format) (lists : List (List Item)) (columns : List Column)
+    (parts : List RowPart)
     (last all : List ℕ) (name : Option (List ℕ)) (id : GameId) (game : GameText)
-    → MakesCells format columns parts last name id game → all ≡ last ++ back format
-    → MakesRow format columns parts all name id game
-makes_all format columns parts last all name id game made ends replay ply values are plain =
-    let (cells, have, text) = made replay ply values are plain in (
+    → MakesCells format lists columns parts last name id game → all ≡ last ++ back format
+    → MakesRow format lists columns parts all name id game
+makes_all format lists columns parts last all name id game made ends replay ply values are =
+    let (cells, have, text) = made replay ply values are in (
       cells,
       have,
       ap (filled parts values) ends ∙ filled_more parts values last (back format)
@@ -271,36 +310,36 @@ pub part_taken : {X : Type 0} (parts : List X) (i : ℕ) (part : X) → i < leng
 part_taken parts i part within is =
     take_more parts i part within ∙ ap (λ p. take i parts ++ p ∷ []) (sym is)
 
-pub plain_push : (values : List (List ℕ)) (value : List ℕ) → ArePlainValues values
-    → IsPlainValue value → ArePlainValues (values ++ value ∷ [])
-plain_push [] value plain own = (own, tt)
-plain_push (first ∷ values) value plain own = (plain.0, plain_push values value plain.1 own)
-
-values_push : (columns : List PlyColumn) (column : PlyColumn) (replay : Replay) (ply : ℕ)
-    (values : List (List ℕ)) (value : List ℕ) → ArePlyCells columns replay ply values
-    → IsPlyCell column replay ply value
-    → ArePlyCells (columns ++ column ∷ []) replay ply (values ++ value ∷ [])
-values_push [] column replay ply values value none is = rw none (value, [], refl, is, refl)
-values_push (first ∷ columns) column replay ply values value (own, more, are, has, others) is =
+values_push : (format : Format) (lists : List (List Item)) (columns : List PartColumn)
+    (column : PartColumn) (replay : Replay) (ply : ℕ)
+    (values : List (List ℕ)) (value : List ℕ) → ArePartTexts format lists columns replay ply values
+    → IsPartText format lists column replay ply value
+    → ArePartTexts format lists (columns ++ column ∷ []) replay ply (values ++ value ∷ [])
+values_push format lists [] column replay ply values value none is =
+    rw none (value, [], refl, is, refl)
+values_push format lists (first ∷ columns) column replay ply values value
+    (own, more, are, has, others) is =
     rw are (
       own,
       more ++ value ∷ [],
       refl,
       has,
-      values_push columns column replay ply more value others is,
+      values_push format lists columns column replay ply more value others is,
     )
 
 -- one more value is shown
-pub shows_more : (parts : List RowPart) (part : RowPart) (values : List (List ℕ))
+pub shows_more : (rows : RowMaker) (parts : List RowPart) (part : RowPart) (values : List (List ℕ))
     (value : List ℕ) (At : Aim → GameText → List State → State → Type 0)
-    → Where At (ShowsValues (columns_of parts) values) → Where At (ShowsValue part.column value)
-    → Where At (ShowsValues (columns_of (parts ++ part ∷ [])) (values ++ value ∷ []))
-shows_more parts part values value At shown own aim game before P at rows replay of rest is =
-    subst (λ cs. ArePlyCells cs replay (length before) (values ++ value ∷ []))
+    → Where At (ShowsParts rows parts values) → Where At (ShowsPart rows part.column value)
+    → Where At (ShowsParts rows (parts ++ part ∷ []) (values ++ value ∷ []))
+shows_more rows parts part values value At shown own aim game before P at has replay of rest is =
+    let format = rows.row.now.format in
+    let lists = lists_in rows.annotations in
+    subst (λ cs. ArePartTexts format lists cs replay (length before) (values ++ value ∷ []))
     (sym (map-append (λ p. p.column) parts (part ∷ [])))
-    (values_push (columns_of parts) part.column replay (length before) values value
-    (shown aim game before P at rows replay of rest is)
-    (own aim game before P at rows replay of rest is))
+    (values_push format lists (columns_of parts) part.column replay (length before) values value
+    (shown aim game before P at has replay of rest is)
+    (own aim game before P at has replay of rest is))
 
 -- and written
 pub writes_more : (parts : List RowPart) (part : RowPart) (values : List (List ℕ))

@@ -1,15 +1,21 @@
 -- What the definitions of what is asked for say of some options, and what they refuse.
 use Rattle.std.proofs.Common.{option_map}
+use Rattle.std.specs.List.{list_any}
 use Rattle.std.specs.Borrow.{Bor}
 use Rattle.pgn_extract.proofs.Common.{◌≡◌, ◌^◌, ◌-◌, Bool, true, false, ℕ, nat_lt, length, List, []}
 use Rattle.pgn_extract.proofs.Common.{◌∷◌, ◌++◌, Option, None, Some, codes, ap, refl, San, Uci}
+use Rattle.pgn_extract.proofs.Common.{sym, ◌∙◌}
 use Rattle.pgn_extract.proofs.Common.{Conditions, game_id, bad_mark, begin_of, end_of, first_line}
 use Rattle.pgn_extract.proofs.Common.{is_one_line, option_refusals, refused, text_refusals, Request}
 use Rattle.pgn_extract.proofs.Common.{Standard, AsItStands, Line, Record, Matching, Others, Faulty}
 use Rattle.pgn_extract.specs.Public.GivenMarks.{mark_in}
 use Rattle.pgn_extract.specs.Public.Requests.{asked, asks_names, gives_mark, has_several_files}
-use Rattle.pgn_extract.specs.Public.Requests.{is_stretch}
+use Rattle.pgn_extract.specs.Public.Requests.{is_stretch, IsInPacks}
+use Rattle.pgn_extract.specs.Public.Columns.{shows_annotations}
 use Rattle.pgn_extract.specs.declared.marks.GameId.{GameId}
+use Rattle.pgn_extract.specs.declared.rows.column.AnnotationColumn.TheVariants.{Comment}
+use Rattle.pgn_extract.specs.declared.rows.column.Column.TheVariants.{OfAnnotations}
+use Rattle.pgn_extract.specs.declared.rows.column.Row.{Row}
 use Rattle.pgn_extract.specs.declared.settings.EntryLine.TheVariants.{Marked}
 use Rattle.pgn_extract.specs.declared.settings.Mode.TheVariants as modes
 
@@ -486,3 +492,11 @@ names_of_one : (request : Request) → has_several_files request ≡ false
     → (asks_names (plain request) ≡ false)
     × (asks_names (record (plain request) { with_names = true }) ≡ true)
 names_of_one request one = (rw one refl, refl)
+
+-- no row of packs shows comments
+no_comment_in_packs : (request : Request) (row : Row) → request.packed ≡ true
+    → row.columns.items ≡ OfAnnotations Comment ∷ [] → IsInPacks request (Some row) → ⊥
+no_comment_in_packs request row packed shows holds =
+    let none : list_any shows_annotations (OfAnnotations Comment ∷ []) ≡ false =
+    ap (list_any shows_annotations) (sym shows) ∙ holds packed in
+    cc

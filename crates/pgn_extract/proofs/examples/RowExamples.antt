@@ -9,6 +9,9 @@ use Rattle.pgn_game.specs.Public.Replays.{Replay}
 use Rattle.pgn_game.specs.declared.exports.notation.Notation.{Notation}
 use Rattle.pgn_game.specs.declared.exports.notation.Notation.TheVariants.{San, Uci}
 use Rattle.pgn_criteria.specs.Public.Meeting.{Heading}
+use Rattle.pgn_text.specs.Public.Games.{Item, MoveText, GlyphNumber, CommentText, VariationOpen}
+use Rattle.pgn_text.specs.Public.Games.{VariationClose}
+use Rattle.pgn_extract.specs.Public.Annotations.{annotations_at, annotation_lists, annotation_value}
 use Rattle.pgn_extract.specs.Public.Columns.{column_name, is_number_column}
 use Rattle.pgn_extract.specs.Public.Csv as csv
 use Rattle.pgn_extract.specs.Public.GivenMarks.{game_id}
@@ -17,7 +20,8 @@ use Rattle.pgn_extract.specs.Public.PositionCells.{IsMenText, IsCheckText, count
 use Rattle.pgn_extract.specs.Public.Rows.{IsLineCell, IsMoveCell, IsPlyCell, IsTagCell, game_cell}
 use Rattle.pgn_extract.specs.Public.Rows.{row_text}
 use Rattle.pgn_extract.specs.Public.Tsv as tsv
-use Rattle.pgn_extract.specs.declared.rows.column.Column.TheVariants.{OfGame, OfPly}
+use Rattle.pgn_extract.specs.declared.rows.column.AnnotationColumn.TheVariants.{Nags, Comment}
+use Rattle.pgn_extract.specs.declared.rows.column.Column.TheVariants.{OfGame, OfPly, OfAnnotations}
 use Rattle.pgn_extract.specs.declared.rows.column.Format.TheVariants.{Csv, Tsv, Jsonl}
 use Rattle.pgn_extract.specs.declared.rows.column.GameColumn.TheVariants.{File, Game, Offset, Id}
 use Rattle.pgn_extract.specs.declared.rows.column.GameColumn.TheVariants.{Result}
@@ -65,10 +69,12 @@ names : column_name (OfGame File) ∷ column_name (OfGame Game) ∷ column_name 
     ∷ column_name (OfPly (OfPosition Fen)) ∷ column_name (OfPly (OfPosition Turn))
     ∷ column_name (OfPly (OfPosition Number)) ∷ column_name (OfPly Next)
     ∷ column_name (OfPly (OfPosition Men)) ∷ column_name (OfPly (OfPosition Check))
-    ∷ column_name (OfPly (OfPosition Material)) ∷ column_name (OfPly NextUci) ∷ []
+    ∷ column_name (OfPly (OfPosition Material)) ∷ column_name (OfPly NextUci)
+    ∷ column_name (OfAnnotations Nags) ∷ column_name (OfAnnotations Comment) ∷ []
     ≡ codes "@file" ∷ codes "@game" ∷ codes "@offset" ∷ codes "@id" ∷ codes "@result"
     ∷ codes "@ply" ∷ codes "@fen" ∷ codes "@turn" ∷ codes "@number" ∷ codes "@next"
-    ∷ codes "@placement" ∷ codes "@check" ∷ codes "@material" ∷ codes "@next-uci" ∷ []
+    ∷ codes "@placement" ∷ codes "@check" ∷ codes "@material" ∷ codes "@next-uci"
+    ∷ codes "@nags" ∷ codes "@comment" ∷ []
 names = refl
 
 numbers : is_number_column (OfGame File) ∷ is_number_column (OfGame Game)
@@ -77,9 +83,10 @@ numbers : is_number_column (OfGame File) ∷ is_number_column (OfGame Game)
     ∷ is_number_column (OfPly (OfPosition Fen)) ∷ is_number_column (OfPly (OfPosition Turn))
     ∷ is_number_column (OfPly (OfPosition Number)) ∷ is_number_column (OfPly Next)
     ∷ is_number_column (OfPly (OfPosition Men)) ∷ is_number_column (OfPly (OfPosition Check))
-    ∷ is_number_column (OfPly (OfPosition Material)) ∷ is_number_column (OfPly NextUci) ∷ []
+    ∷ is_number_column (OfPly (OfPosition Material)) ∷ is_number_column (OfPly NextUci)
+    ∷ is_number_column (OfAnnotations Nags) ∷ is_number_column (OfAnnotations Comment) ∷ []
     ≡ false ∷ true ∷ true ∷ false ∷ false ∷ true ∷ false ∷ false ∷ true ∷ false ∷ false ∷ false
-    ∷ false ∷ false ∷ []
+    ∷ false ∷ false ∷ false ∷ false ∷ []
 numbers = refl
 
 -- what columns show of the second game, which begins at the byte 22
@@ -153,3 +160,31 @@ no_sign_of_stalemate P still (inr (other, sign)) = other still
 two_kings : (P : State) → IsFen P (codes "k7/8/8/8/8/8/8/7K w - - 0 1")
     → IsMenText P (codes "k7/8/8/8/8/8/8/7K")
 two_kings P is = (codes "k7/8/8/8/8/8/8/7K w - - 0 1", _, is, refl)
+
+-- {a} 1. e4 $1 (1. d4 {no} $2 (1. c4 {nor}) {no}) {b} e5 $3 *
+abbrev annotated : List Item
+annotated =
+    CommentText (codes "a") ∷ MoveText (codes "e4") ∷ GlyphNumber 1 ∷ VariationOpen
+    ∷ MoveText (codes "d4") ∷ CommentText (codes "no") ∷ GlyphNumber 2 ∷ VariationOpen
+    ∷ MoveText (codes "c4") ∷ CommentText (codes "nor") ∷ VariationClose ∷ CommentText (codes "no")
+    ∷ VariationClose ∷ CommentText (codes "b") ∷ MoveText (codes "e5") ∷ GlyphNumber 3 ∷ []
+
+-- those of each ply; none of the variations
+annotations_by_ply : annotation_lists annotated
+    ≡ (CommentText (codes "a") ∷ []) ∷ (GlyphNumber 1 ∷ CommentText (codes "b") ∷ [])
+    ∷ (GlyphNumber 3 ∷ []) ∷ []
+annotations_by_ply = refl
+
+no_annotations_past_the_end : annotations_at annotated 3 ≡ []
+no_annotations_past_the_end = refl
+
+nags_shown : annotation_value Nags
+    (GlyphNumber 1 ∷ CommentText (codes "x") ∷ GlyphNumber 14 ∷ [])
+    ≡ 36 ∷ (decimal 1 ++ (32 ∷ 36 ∷ decimal 14))
+nags_shown = refl
+
+-- its words alone, and those of the next comment
+comments_shown : annotation_value Comment
+    (CommentText (codes " a\n b ") ∷ GlyphNumber 1 ∷ CommentText [] ∷ CommentText (codes "c") ∷ [])
+    ≡ codes "a b c"
+comments_shown = refl

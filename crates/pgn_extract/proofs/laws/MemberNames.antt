@@ -10,12 +10,15 @@ use Rattle.std.proofs.lemmas.Str.{is_utf8-from_IsUtf8}
 use Rattle.pgn_text.specs.Public.Bytes.{is_name_byte}
 use Rattle.pgn_game.specs.declared.exports.notation.Notation.TheVariants.{San, Uci}
 use Rattle.pgn_extract.specs.Public.Columns.{column_name, game_column_name, ply_column_name}
-use Rattle.pgn_extract.specs.Public.Columns.{IsColumnOf, HaveNames}
+use Rattle.pgn_extract.specs.Public.Columns.{IsColumnOf, HaveNames, annotation_column_name}
 use Rattle.pgn_extract.specs.Public.Json.{Member, text_of}
 use Rattle.pgn_extract.specs.Public.ObjectLaws.{NamesAreAsAsked, read_members}
 use Rattle.pgn_extract.specs.Public.Rows.{RowPlace, AreCells}
+use Rattle.pgn_extract.specs.declared.rows.column.AnnotationColumn.{AnnotationColumn}
+use Rattle.pgn_extract.specs.declared.rows.column.AnnotationColumn.TheVariants.{Nags, Comment}
 use Rattle.pgn_extract.specs.declared.rows.column.Column.{Column}
 use Rattle.pgn_extract.specs.declared.rows.column.Column.TheVariants.{Tag, OfGame, OfPly}
+use Rattle.pgn_extract.specs.declared.rows.column.Column.TheVariants.{OfAnnotations}
 use Rattle.pgn_extract.specs.declared.rows.column.GameColumn.{GameColumn}
 use Rattle.pgn_extract.specs.declared.rows.column.GameColumn.TheVariants.{File, Game, Offset, Id}
 use Rattle.pgn_extract.specs.declared.rows.column.GameColumn.TheVariants.{Result}
@@ -52,6 +55,11 @@ ply_name_is_low (OfLine (Last Uci)) = refl
 ply_name_is_low (OfLine (Moves San)) = refl
 ply_name_is_low (OfLine (Moves Uci)) = refl
 
+annotation_name_is_low : (own : AnnotationColumn)
+    → list_all is_low (annotation_column_name own) ≡ true
+annotation_name_is_low Nags = refl
+annotation_name_is_low Comment = refl
+
 name_byte_is_low : (b : ℕ) → is_name_byte b ≡ true → is_low b ≡ true
 name_byte_is_low b is = grind (arith, nat_tests)
 
@@ -68,6 +76,8 @@ column_is_low : (name : List ℕ) (column : Column) → IsColumnOf name column
 column_is_low name (Tag own) (is, (some, each)) = tag_name_is_low name each
 column_is_low name (OfGame own) is = ap (list_all is_low) is ∙ game_name_is_low own
 column_is_low name (OfPly own) is = ap (list_all is_low) is ∙ ply_name_is_low own
+column_is_low name (OfAnnotations own) is =
+    ap (list_all is_low) is ∙ annotation_name_is_low own
 
 -- and is read as it is
 
@@ -76,6 +86,7 @@ name_of_column : (name : List ℕ) (column : Column) → IsColumnOf name column
 name_of_column name (Tag own) (is, named) = is
 name_of_column name (OfGame own) is = sym is
 name_of_column name (OfPly own) is = sym is
+name_of_column name (OfAnnotations own) is = sym is
 
 name_is_read : (name : List ℕ) (column : Column) → IsColumnOf name column
     → text_of (column_name column) ≡ name

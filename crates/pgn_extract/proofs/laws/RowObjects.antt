@@ -18,6 +18,7 @@ use Rattle.pgn_extract.specs.Public.ObjectLaws.{LinesAreReadBack, LinesAreReadOn
 use Rattle.pgn_extract.specs.Public.Rows.{RowPlace, IsCell, AreCells, members, row_text}
 use Rattle.pgn_extract.specs.declared.rows.column.Column.{Column}
 use Rattle.pgn_extract.specs.declared.rows.column.Column.TheVariants.{Tag, OfGame, OfPly}
+use Rattle.pgn_extract.specs.declared.rows.column.Column.TheVariants.{OfAnnotations}
 use Rattle.pgn_extract.specs.declared.rows.column.Format.TheVariants.{Jsonl}
 use Rattle.pgn_extract.specs.declared.rows.column.GameColumn.TheVariants.{File, Game, Offset, Id}
 use Rattle.pgn_extract.specs.declared.rows.column.GameColumn.TheVariants.{Result}
@@ -81,6 +82,7 @@ cell_is_sound (OfPly NextUci) place cell has is = refl
 cell_is_sound (OfPly (OfLine Plies)) place cell has is = is_int_of _ cell has.plies is
 cell_is_sound (OfPly (OfLine (Last notation))) place cell has is = refl
 cell_is_sound (OfPly (OfLine (Moves notation))) place cell has is = refl
+cell_is_sound (OfAnnotations own) place cell has is = refl
 
 cells_are_sound : (columns : List Column) (place : RowPlace) (cells : List (List ℕ))
     → HasNumbers place → AreCells columns place cells

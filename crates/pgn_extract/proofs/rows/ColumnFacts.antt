@@ -1,8 +1,8 @@
 -- The names that are read so far.
 use Rattle.std.proofs.Common.{◌≡◌, ◌⊎◌, inl, inr, ◌<◌, ℕ, Bool, true, false, List, [], ◌∷◌, ◌++◌}
-use Rattle.std.proofs.Common.{length, sym, ap, refl, subst, ◌∙◌, arith, append_assoc, length-append}
-use Rattle.std.specs.Prelude.{bytes_eq, ◌||◌, Option, Some, None, MatchOption}
-use Rattle.std.specs.List.{Contains, list_any}
+use Rattle.std.proofs.Common.{Bor, length, sym, ap, refl, subst, ◌∙◌, arith, append_assoc, length-append}
+use Rattle.std.specs.Prelude.{bytes_eq, ◌||◌, Option, Some, None, MatchOption, option_map}
+use Rattle.std.specs.List.{Contains, find, list_any}
 use Rattle.std.proofs.lemmas.List.Elements.{Contains-append_left, Contains-append_right}
 use Rattle.std.proofs.lemmas.List.Elements.{Contains-append_cases, Contains-push}
 use Rattle.std.proofs.lemmas.List.Elements.{Contains-push_cases}
@@ -18,7 +18,8 @@ use Rattle.chess.specs.Shared.Runs.{run_of, after_run}
 use Rattle.pgn_extract.specs.Private.ColumnLists.{HasRead}
 use Rattle.pgn_extract.specs.Public.Columns.{IsRefusedList, IsWrongAfter}
 use Rattle.pgn_extract.specs.Public.Columns.{column_name, IsColumnOf, AreDistinct, HaveNames}
-use Rattle.pgn_extract.specs.Public.Columns.{AreColumns}
+use Rattle.pgn_extract.specs.Public.Columns.{AreColumns, shows_annotations}
+use Rattle.pgn_extract.proofs.Common.{cases_Bool}
 
 no_element : (name : List ℕ) → Contains [] name → ⊥
 no_element name (k, lt, is) = omega arith
@@ -28,6 +29,24 @@ has_its_name : (name : List ℕ) (column : Column) → IsColumnOf name column
 has_its_name name (col.Tag own) (is, named) = is
 has_its_name name (col.OfGame own) is = sym is
 has_its_name name (col.OfPly own) is = sym is
+has_its_name name (col.OfAnnotations own) is = sym is
+
+-- where none is found that shows annotations, none does
+pub none_found : (columns : List Column) → find shows_annotations columns ≡ None
+    → list_any shows_annotations columns ≡ false
+none_found [] none = refl
+none_found (column ∷ columns) none = elim (cases_Bool (shows_annotations column)) [
+  | inl is ↦ absurd (cc (rw is at none))
+  | inr is ↦ rw is (none_found columns (rw is at none))
+]
+
+-- so it is where a column is looked for
+pub unpacked : (found : Option (Bor Column)) (columns : List Column) (So : Type 0)
+    → (list_any shows_annotations columns ≡ false → So)
+    → option_map (λ (column : Bor Column). column.now) found ≡ find shows_annotations columns
+    → MatchOption found So (λ column. Unit {0})
+unpacked None columns So gives is = gives (none_found columns (sym is))
+unpacked (Some column) columns So gives is = tt
 
 -- one more name at the end
 pub names_more : (names : List (List ℕ)) (columns : List Column) (name : List ℕ) (column : Column)

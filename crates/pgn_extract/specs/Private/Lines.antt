@@ -15,6 +15,9 @@ use Rattle.pgn_extract.specs.Public.Listing.{Entry, Shown, AreFields, IsShownOf,
 use Rattle.pgn_extract.specs.Public.Listing.{shown_line, IsFenField, IsNextField}
 use Rattle.pgn_extract.specs.declared.entries.line_maker.LineMaker.{LineMaker}
 use Rattle.pgn_extract.specs.declared.entries.line_maker.LineMaker.TheVariants as maker
+use Rattle.pgn_extract.specs.declared.entries.row_maker.PartColumn.{PartColumn}
+use Rattle.pgn_extract.specs.declared.entries.row_maker.RowMaker.{RowMaker}
+use Rattle.pgn_extract.specs.declared.entries.row_maker.RowPart.{RowPart}
 use Rattle.pgn_extract.specs.declared.rows.column.PlyColumn.{PlyColumn}
 use Rattle.pgn_extract.specs.declared.rows.column.PlyColumn.TheVariants.{OfPosition, Next}
 use Rattle.pgn_extract.specs.declared.rows.column.PositionColumn.TheVariants.{Fen}
@@ -23,7 +26,9 @@ use Rattle.pgn_extract.specs.declared.settings.EntryLine.TheVariants.{Marked, In
 use Rattle.pgn_extract.specs.declared.settings.Fields.{Fields}
 use Rattle.pgn_extract.specs.declared.entries.finding.Finder.{Finder}
 use Rattle.pgn_extract.specs.Private.Finding.{IsOfGame}
-use Rattle.pgn_extract.specs.Private.RowTexts.{ArePlyCells, MakesRows, EachColumn, need_line}
+use Rattle.pgn_extract.specs.Private.AnnotationLists.{lists_in}
+use Rattle.pgn_extract.specs.Private.RowTexts.{IsPartText, ArePartTexts, MakesRows, columns_of}
+use Rattle.pgn_extract.specs.Private.RowTexts.{EachColumn, need_line}
 use Rattle.pgn_extract.specs.Public.Rows.{IsPlyCell}
 
 -- so it is of each replay of the game that has these positions, then this one, and then others
@@ -62,17 +67,26 @@ ShowsFields fields shown aim game before P =
 abbrev pub ShowsMore : Aim → Type 0
 ShowsMore aim = is_bare aim.line ≡ false
 
--- this is the value that the column shows there, and these are those of several columns
+-- this is the value that the column shows there
 abbrev pub ShowsValue : PlyColumn → List ℕ → Aim → GameText → List State → State → Type 0
 ShowsValue column value aim game before P =
     ShowsMore aim
     → EachReplay game before P (λ replay. IsPlyCell column replay (length before) value)
 
-abbrev pub ShowsValues : List PlyColumn → List (List ℕ) → Aim → GameText → List State → State
-    → Type 0
-ShowsValues columns values aim game before P =
+-- this is what a maker of rows writes there for a column, and these are the texts of several parts
+abbrev pub ShowsPart : RowMaker → PartColumn → List ℕ → Aim → GameText → List State → State → Type 0
+ShowsPart rows column text aim game before P =
     ShowsMore aim
-    → EachReplay game before P (λ replay. ArePlyCells columns replay (length before) values)
+    → EachReplay game before P (λ replay.
+    IsPartText rows.row.now.format (lists_in rows.annotations) column replay (length before) text)
+
+abbrev pub ShowsParts : RowMaker → List RowPart → List (List ℕ) → Aim → GameText → List State
+    → State → Type 0
+ShowsParts rows parts texts aim game before P =
+    ShowsMore aim
+    → EachReplay game before P (λ replay.
+    ArePartTexts rows.row.now.format (lists_in rows.annotations) (columns_of parts) replay
+    (length before) texts)
 
 -- this is shown there of the text of the position, where it is asked for, and of the next move
 abbrev pub ShowsFen : Bool → List ℕ → Aim → GameText → List State → State → Type 0

@@ -1,5 +1,5 @@
 -- The game that rows are of, where it stands.
-use Rattle.std.specs.Prelude.{◌≡◌, ℕ, List, Option, option_map}
+use Rattle.std.specs.Prelude.{◌≡◌, ℕ, Bool, true, false, List, Option, option_map}
 use Rattle.pgn_text.specs.Public.GameTexts.{GameText}
 use Rattle.pgn_game.specs.Public.PackedGames.{PackedGame}
 use Rattle.pgn_game.specs.Public.Replays.{Replay}
@@ -13,6 +13,11 @@ abbrev pub IsGameIn : GameSource → GameText → Type 0
 IsGameIn (Text raw) game = raw.now ≡ game
 IsGameIn (Record raw) game =
     (replay : Replay) × (packed : PackedGame) × IsOfRecord raw.now game replay packed
+
+-- it is a text, which has annotations; a record has none
+abbrev pub is_text : GameSource → Bool
+is_text (Text raw) = true
+is_text (Record raw) = false
 
 -- the name of its file, where lines have one
 abbrev pub name_of : RowGame → Option (List ℕ)

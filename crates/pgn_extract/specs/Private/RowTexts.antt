@@ -1,19 +1,25 @@
 -- The text of a row, part by part: what is made once a game, and what its plies show.
 use Rattle.std.specs.Prelude.{◌≡◌, ◌≢◌, ◌≤◌, ◌<◌, ℕ, Bool, true, false, not, List, [], ◌∷◌, ◌++◌}
-use Rattle.std.specs.Prelude.{map}
+use Rattle.std.specs.Prelude.{map, get_or}
 use Rattle.std.specs.Prelude.{Option, if◌then◌else◌}
 use Rattle.std.specs.List.{list_any}
 use Rattle.pgn_text.specs.Public.GameTexts.{GameText}
+use Rattle.pgn_text.specs.Public.Games.{Item}
 use Rattle.pgn_game.specs.Public.Replays.{Replay}
+use Rattle.pgn_extract.specs.Public.Annotations.{annotation_value}
 use Rattle.pgn_extract.specs.Public.Columns.{column_name, is_number_column, is_number_of_ply}
 use Rattle.pgn_extract.specs.Public.Csv as csv
 use Rattle.pgn_extract.specs.Public.Json as json
 use Rattle.pgn_extract.specs.Public.Rows.{IsPlyCell, IsCell, AreCells, place_of}
 use Rattle.pgn_extract.specs.Public.Tsv as tsv
+use Rattle.pgn_extract.specs.Private.AnnotationLists.{lists_in}
 use Rattle.pgn_extract.specs.declared.marks.GameId.{GameId}
+use Rattle.pgn_extract.specs.declared.entries.row_maker.PartColumn.{PartColumn}
+use Rattle.pgn_extract.specs.declared.entries.row_maker.PartColumn.TheVariants as kind
 use Rattle.pgn_extract.specs.declared.entries.row_maker.RowMaker.{RowMaker}
 use Rattle.pgn_extract.specs.declared.entries.row_maker.RowPart.{RowPart}
 use Rattle.pgn_extract.specs.declared.rows.column.Column.{Column}
+use Rattle.pgn_extract.specs.declared.rows.column.Column.TheVariants.{OfPly, OfAnnotations}
 use Rattle.pgn_extract.specs.declared.rows.column.Format.{Format}
 use Rattle.pgn_extract.specs.declared.rows.column.Format.TheVariants.{Csv, Tsv, Jsonl}
 use Rattle.pgn_extract.specs.declared.rows.column.PlyColumn.{PlyColumn}
@@ -84,10 +90,6 @@ abbrev pub IsPlainValue : List ℕ → Type 0
 IsPlainValue [] = Unit {0}
 IsPlainValue (b ∷ x) = IsPlainByte b × IsPlainValue x
 
-abbrev pub ArePlainValues : List (List ℕ) → Type 0
-ArePlainValues [] = Unit {0}
-ArePlainValues (value ∷ more) = IsPlainValue value × ArePlainValues more
-
 -- values stand in quotes where they are no numbers, in an object
 abbrev pub is_quoted : Format → Bool → Bool
 is_quoted Csv is_number = false
@@ -110,12 +112,27 @@ names_text format [] = []
 names_text format (column ∷ columns) =
     value_text format false (column_name column) ++ later_names format columns
 
--- the values that columns show of a ply
-abbrev pub ArePlyCells : List PlyColumn → Replay → ℕ → List (List ℕ) → Type 0
-ArePlyCells [] replay ply values = values ≡ []
-ArePlyCells (column ∷ columns) replay ply values =
+-- the column of a part, among all columns
+abbrev pub column_of : PartColumn → Column
+column_of (kind.OfPly own) = OfPly own
+column_of (kind.OfAnnotations own) = OfAnnotations own
+
+-- what is written of a ply for a column: a plain value, or the text of one that may have any byte,
+-- where plies have these annotations
+abbrev pub IsPartText : Format → List (List Item) → PartColumn → Replay → ℕ → List ℕ → Type 0
+IsPartText format lists (kind.OfPly own) replay ply text =
+    IsPlyCell own replay ply text × IsPlainValue text
+IsPartText format lists (kind.OfAnnotations own) replay ply text =
+    text ≡ value_text format false (annotation_value own (get_or lists ply []))
+
+-- what is written for several columns
+abbrev pub ArePartTexts : Format → List (List Item) → List PartColumn → Replay → ℕ
+    → List (List ℕ) → Type 0
+ArePartTexts format lists [] replay ply values = values ≡ []
+ArePartTexts format lists (column ∷ columns) replay ply values =
     (value : List ℕ) × (more : List (List ℕ)) × (values ≡ value ∷ more)
-    × IsPlyCell column replay ply value × ArePlyCells columns replay ply more
+    × IsPartText format lists column replay ply value
+    × ArePartTexts format lists columns replay ply more
 
 -- the whole main line is kept for the column, and for one of the parts
 abbrev pub needs_line : PlyColumn → Bool
@@ -125,16 +142,24 @@ needs_line Next = false
 needs_line NextUci = false
 needs_line (OfLine own) = true
 
-abbrev pub need_line : List RowPart → Bool
-need_line parts = list_any (λ part. needs_line part.column) parts
+abbrev pub part_needs_line : PartColumn → Bool
+part_needs_line (kind.OfPly own) = needs_line own
+part_needs_line (kind.OfAnnotations own) = false
 
--- each of the parts has a column with the fact
+abbrev pub need_line : List RowPart → Bool
+need_line parts = list_any (λ part. part_needs_line part.column) parts
+
+-- it is shown where columns with the fact are, and each of the parts is
+abbrev pub IsShownWith : (PlyColumn → Type 0) → PartColumn → Type 0
+IsShownWith So (kind.OfPly own) = So own
+IsShownWith So (kind.OfAnnotations own) = Unit {0}
+
 abbrev pub EachColumn : (PlyColumn → Type 0) → List RowPart → Type 0
 EachColumn So [] = Unit {0}
-EachColumn So (part ∷ parts) = So part.column × EachColumn So parts
+EachColumn So (part ∷ parts) = IsShownWith So part.column × EachColumn So parts
 
 -- the columns of parts
-abbrev pub columns_of : List RowPart → List PlyColumn
+abbrev pub columns_of : List RowPart → List PartColumn
 columns_of parts = map (λ part. part.column) parts
 
 -- parts with the values of a ply, and what stands after them
@@ -145,21 +170,21 @@ filled (part ∷ parts) (value ∷ values) last =
     part.before.items ++ (value ++ filled parts values last)
 
 -- whatever the plies show, the parts and what stands after them make the cells of these columns
-abbrev pub MakesCells : Format → List Column → List RowPart → List ℕ → Option (List ℕ) → GameId
-    → GameText → Type 0
-MakesCells format columns parts last name id game =
+abbrev pub MakesCells : Format → List (List Item) → List Column → List RowPart → List ℕ
+    → Option (List ℕ) → GameId → GameText → Type 0
+MakesCells format lists columns parts last name id game =
     (replay : Replay) (ply : ℕ) (values : List (List ℕ))
-    → ArePlyCells (columns_of parts) replay ply values → ArePlainValues values
+    → ArePartTexts format lists (columns_of parts) replay ply values
     → (cells : List (List ℕ))
     × AreCells columns (place_of name id game replay ply) cells
     × (filled parts values last ≡ front format ++ cells_text format columns cells)
 
 -- the same of all that stands before the end of a row
-abbrev pub MakesRow : Format → List Column → List RowPart → List ℕ → Option (List ℕ) → GameId
-    → GameText → Type 0
-MakesRow format columns parts last name id game =
+abbrev pub MakesRow : Format → List (List Item) → List Column → List RowPart → List ℕ
+    → Option (List ℕ) → GameId → GameText → Type 0
+MakesRow format lists columns parts last name id game =
     (replay : Replay) (ply : ℕ) (values : List (List ℕ))
-    → ArePlyCells (columns_of parts) replay ply values → ArePlainValues values
+    → ArePartTexts format lists (columns_of parts) replay ply values
     → (cells : List (List ℕ))
     × AreCells columns (place_of name id game replay ply) cells
     × (filled parts values last
@@ -168,30 +193,36 @@ MakesRow format columns parts last name id game =
 -- rows of this game are made, under this name
 abbrev pub MakesRows : RowMaker → Option (List ℕ) → GameId → GameText → Type 0
 MakesRows maker name id game =
-    MakesRow maker.row.now.format maker.row.now.columns.items maker.parts.items maker.last.items
-    name id game
+    MakesRow maker.row.now.format (lists_in maker.annotations) maker.row.now.columns.items
+    maker.parts.items maker.last.items name id game
 
 -- the quotes around the value of a column of the ply
 abbrev pub quote_text : Format → Bool → List ℕ
 quote_text format is_number = if is_quoted format is_number then 34 ∷ [] else []
 
+abbrev pub part_quote : Format → PartColumn → List ℕ
+part_quote format (kind.OfPly own) = quote_text format (is_number_of_ply own)
+part_quote format (kind.OfAnnotations own) = []
+
 -- a part ends with a column of the ply: its value stands between quotes where it is quoted
-pub record EndsPart (old new : RowMaker) (column : PlyColumn) : Type 0 where
+pub record EndsPart (old new : RowMaker) (column : PartColumn) : Type 0 where
   pub row : new.row.now ≡ old.row.now
+  pub annotations : new.annotations ≡ old.annotations
   pub part : RowPart
   pub of_column : part.column ≡ column
-  pub before : part.before.items
-      ≡ old.last.items ++ quote_text old.row.now.format (is_number_of_ply column)
+  pub before : part.before.items ≡ old.last.items ++ part_quote old.row.now.format column
   pub parts : new.parts.items ≡ old.parts.items ++ part ∷ []
-  pub after : new.last.items ≡ quote_text old.row.now.format (is_number_of_ply column)
+  pub after : new.last.items ≡ part_quote old.row.now.format column
 
 -- the cell of a column follows, whatever the ply shows
 abbrev pub AddsCell : RowMaker → RowMaker → Option (List ℕ) → GameId → GameText → Column → Type 0
 AddsCell old new name id game column =
     (replay : Replay) (ply : ℕ) (values : List (List ℕ))
-    → ArePlyCells (columns_of new.parts.items) replay ply values → ArePlainValues values
+    → ArePartTexts old.row.now.format (lists_in old.annotations) (columns_of new.parts.items) replay
+    ply values
     → (before : List (List ℕ)) × (cell : List ℕ)
-    × ArePlyCells (columns_of old.parts.items) replay ply before × ArePlainValues before
+    × ArePartTexts old.row.now.format (lists_in old.annotations) (columns_of old.parts.items) replay
+    ply before
     × IsCell column (place_of name id game replay ply) cell
     × (filled new.parts.items values new.last.items
     ≡ filled old.parts.items before old.last.items

@@ -11,6 +11,8 @@ use Rattle.pgn_extract.specs.declared.rows.column.GameColumn.TheVariants.{File, 
 use Rattle.pgn_extract.specs.declared.rows.column.GameColumn.TheVariants.{Result}
 use Rattle.pgn_extract.specs.declared.rows.column.LineColumn.{LineColumn}
 use Rattle.pgn_extract.specs.declared.rows.column.LineColumn.TheVariants.{Plies, Last, Moves}
+use Rattle.pgn_extract.specs.declared.rows.column.AnnotationColumn.{AnnotationColumn}
+use Rattle.pgn_extract.specs.declared.rows.column.AnnotationColumn.TheVariants.{Nags, Comment}
 use Rattle.pgn_extract.specs.declared.rows.column.PlyColumn.{PlyColumn}
 use Rattle.pgn_extract.specs.declared.rows.column.PlyColumn.TheVariants.{Ply, OfPosition, Next}
 use Rattle.pgn_extract.specs.declared.rows.column.PlyColumn.TheVariants.{NextUci, OfLine}
@@ -52,11 +54,16 @@ ply_column_name Next = codes "@next"
 ply_column_name NextUci = codes "@next-uci"
 ply_column_name (OfLine own) = line_column_name own
 
+abbrev pub annotation_column_name : AnnotationColumn → List ℕ
+annotation_column_name Nags = codes "@nags"
+annotation_column_name Comment = codes "@comment"
+
 -- the name of a column, as the header and the names of members show it
 abbrev pub column_name : Column → List ℕ
 column_name (column.Tag name) = name.items
 column_name (column.OfGame own) = game_column_name own
 column_name (column.OfPly own) = ply_column_name own
+column_name (column.OfAnnotations own) = annotation_column_name own
 
 -- the values of the column are numbers
 abbrev pub is_number_of_game : GameColumn → Bool
@@ -90,6 +97,14 @@ abbrev pub is_number_column : Column → Bool
 is_number_column (column.Tag name) = false
 is_number_column (column.OfGame own) = is_number_of_game own
 is_number_column (column.OfPly own) = is_number_of_ply own
+is_number_column (column.OfAnnotations own) = false
+
+-- the column shows annotations, which no pack has
+abbrev pub shows_annotations : Column → Bool
+shows_annotations (column.Tag name) = false
+shows_annotations (column.OfGame own) = false
+shows_annotations (column.OfPly own) = false
+shows_annotations (column.OfAnnotations own) = true
 
 -- the name of a tag: bytes of names, at least one
 abbrev pub IsTagName : List ℕ → Type 0
@@ -100,11 +115,13 @@ abbrev pub IsColumnOf : List ℕ → Column → Type 0
 IsColumnOf name (column.Tag own) = (own.items ≡ name) × IsTagName name
 IsColumnOf name (column.OfGame own) = name ≡ game_column_name own
 IsColumnOf name (column.OfPly own) = name ≡ ply_column_name own
+IsColumnOf name (column.OfAnnotations own) = name ≡ annotation_column_name own
 
 -- no column has this name but maybe that of a tag
 abbrev pub IsNoOwnName : List ℕ → Type 0
 IsNoOwnName name = ((own : GameColumn) → name ≡ game_column_name own → ⊥)
     × ((own : PlyColumn) → name ≡ ply_column_name own → ⊥)
+    × ((own : AnnotationColumn) → name ≡ annotation_column_name own → ⊥)
 
 -- no column is called so, for this reason
 abbrev pub IsColumnFault : List ℕ → ColumnsError → Type 0

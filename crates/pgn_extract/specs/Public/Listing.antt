@@ -2,7 +2,7 @@
 -- mark of its game.
 use Rattle.std.specs.Prelude.{◌≡◌, nat_le, List, length, Option, MatchOption, false, codes, decimal}
 use Rattle.std.specs.Prelude.{◌↔◌, ◌⊎◌, ℕ, ◌+◌, ◌<◌, [], ◌∷◌, ◌++◌, Some, Bool, true, not, ◌&&◌}
-use Rattle.std.specs.List.{Contains, filter, slice_get}
+use Rattle.std.specs.List.{Contains, filter, list_any, slice_get}
 use Rattle.chess.specs.Public.Fen.{IsFen}
 use Rattle.chess.specs.Public.Positions.{State}
 use Rattle.chess.specs.Public.San.{IsSan}
@@ -15,6 +15,7 @@ use Rattle.pgn_game.specs.Public.Starts.{fen_tag}
 use Rattle.pgn_criteria.specs.Public.Meeting.{heading_of}
 use Rattle.pgn_extract.specs.Public.Aims.{Aim, GameId, IsEntry}
 use Rattle.pgn_extract.specs.Public.Choices.{is_chosen}
+use Rattle.pgn_extract.specs.Public.Columns.{shows_annotations}
 use Rattle.pgn_extract.specs.Public.Index.{mark, titled}
 use Rattle.pgn_extract.specs.Public.Rows.{RowPlace, place_of, IsRow}
 use Rattle.pgn_extract.specs.declared.settings.EntryLine.{EntryLine}
@@ -82,6 +83,11 @@ AreFields fields replay ply shown =
 abbrev pub is_bare : EntryLine → Bool
 is_bare (Marked fields) = is_plain fields
 is_bare (InColumns row) = false
+
+-- the line of an entry shows annotations
+abbrev pub has_annotations : EntryLine → Bool
+has_annotations (Marked fields) = false
+has_annotations (InColumns row) = list_any shows_annotations row.columns.items
 
 -- what the line of an entry shows of its place
 abbrev pub IsShownBy : EntryLine → RowPlace → Shown → Type 0

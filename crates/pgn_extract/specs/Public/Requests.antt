@@ -9,6 +9,7 @@ use Rattle.pgn_criteria.specs.Public.Conditions.{Conditions}
 use Rattle.pgn_extract.specs.Public.Aims.{Aim, GameId}
 use Rattle.pgn_extract.specs.Public.Columns.{AreColumns}
 use Rattle.pgn_extract.specs.Public.GivenMarks.{game_id, mark_in}
+use Rattle.pgn_extract.specs.Public.Listing.{has_annotations}
 use Rattle.pgn_extract.specs.Public.Rows.{header_text}
 use Rattle.pgn_extract.specs.declared.app.command.Request.{Request}
 use Rattle.pgn_extract.specs.declared.rows.column.Format.{Format}
@@ -71,6 +72,10 @@ IsAskedRow request (Some row) =
 abbrev pub asked_line : Request → Option Row → EntryLine
 asked_line request None = Marked (record { fen = request.fen; next = request.next })
 asked_line request (Some row) = InColumns row
+
+-- where packs are searched, the line of an entry shows none of what they leave out
+abbrev pub IsInPacks : Request → Option Row → Type 0
+IsInPacks request row = request.packed ≡ true → has_annotations (asked_line request row) ≡ false
 
 -- all that a run is to do, with notes or without, with this row, these criteria, and of the pieces
 -- with these marks; its lines have no name yet

@@ -1,14 +1,18 @@
 //! The columns of rows as the arguments list them, and the line of their names.
-ghost use Rattle.std.specs.Prelude.{◌≡◌, ◌↔◌, false, true, IfOk, OnOk, IsErrOf};
-ghost use Rattle.pgn_extract.specs.Public.Requests.{IsAskedRow, asked_header};
+ghost use Rattle.std.specs.Prelude.{◌≡◌, ◌↔◌, false, true, option_map, IfOk, OnOk, IsErrOf, Some};
+ghost use Rattle.std.specs.Prelude.{MatchOption};
+ghost use Rattle.std.specs.List.{find};
+ghost use Rattle.pgn_extract.specs.Public.Columns.{shows_annotations};
+ghost use Rattle.pgn_extract.specs.Public.Requests.{IsAskedRow, IsInPacks, asked_header};
 ghost use Rattle.pgn_extract.specs.Public.Runs.{Adds, passage};
 
+use crate::app::command::Request;
 use crate::app::messages;
 use crate::app::order::{Order, format_of};
 use crate::output::file_name::shown_bytes;
 use crate::output::outcome::RunError;
 use crate::output::write_all::write_all;
-use crate::rows::column::Row;
+use crate::rows::column::{Column, Row};
 use crate::rows::format::push_header;
 use crate::rows::list::{ColumnsError, parse_columns};
 use crate::settings::{EntryLine, Settings};
@@ -18,7 +22,7 @@ use std::io::Write;
 use strsim::levenshtein;
 
 /// The names of the columns that are no tags.
-const OWN_NAMES: [&str; 19] = [
+const OWN_NAMES: [&str; 21] = [
     "@file",
     "@game",
     "@offset",
@@ -38,6 +42,8 @@ const OWN_NAMES: [&str; 19] = [
     "@plies",
     "@moves",
     "@uci",
+    "@nags",
+    "@comment",
 ];
 
 /// Why the columns are refused: a line of the program, or one that names a column.
@@ -112,19 +118,44 @@ fn refused_columns(alloc: Global, error: &ColumnsError<'_>) -> Result<RefusedCol
     })
 }
 
-/// The row that is asked for, if one is.
+/// The first of the columns that shows annotations, if one does.
+fn of_annotations(columns: &[Column]) -> Option<&Column>
+    ensures { option_map (λ column. column.now) result ≡ find shows_annotations columns.now }
+{
+    columns.iter().find(|column| column.shows_annotations())
+}
+
+/// The first column of a row that packs leave out, where packs are searched.
+fn unpacked_column<'r>(request: &Request<'_>, row: &'r Row) -> Option<&'r Column>
+    ensures { MatchOption result (IsInPacks request.now (Some row.now)) (λ column. Unit {0}) }
+{
+    if !request.packed {
+        return None;
+    }
+    of_annotations(&row.columns)
+}
+
+/// The row that is asked for, if one is. One of packs shows no annotations.
 pub fn read_row(alloc: Global, order: &Order<'_>) -> Result<Option<Row>, RefusedColumns>
-    ensures { IfOk result (λ row. IsAskedRow order.now.request row) }
+    ensures asked { IfOk result (λ row. IsAskedRow order.now.request row) }
+    ensures packed { IfOk result (λ row. IsInPacks order.now.request row) }
 {
     let Some(text) = order.request.rows else {
         return Ok(None);
     };
-    match parse_columns(alloc, text.as_bytes()) {
-        Ok(columns) => Ok(Some(Row {
+    let row = match parse_columns(alloc, text.as_bytes()) {
+        Ok(columns) => Row {
             columns,
             format: format_of(&order.request),
-        })),
-        Err(error) => Err(refused_columns(alloc, &error)?),
+        },
+        Err(error) => return Err(refused_columns(alloc, &error)?),
+    };
+    match unpacked_column(&order.request, &row) {
+        Some(column) => {
+            let line = named_column(alloc, column.name(), "stands in no pack")?;
+            Err(RefusedColumns::Named(line))
+        }
+        None => Ok(Some(row)),
     }
 }
 

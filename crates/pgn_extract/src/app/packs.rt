@@ -2,6 +2,7 @@
 ghost use Rattle.std.specs.Prelude.{◌≡◌, ◌≢◌, ℕ, List, [], false, true, IfErr, IfSome, OnOk};
 ghost use Rattle.pgn_extract.specs.Private.PackStops.{StopsAmongPacks, StopsAtPack, StopsInPack};
 ghost use Rattle.pgn_extract.specs.Public.Aims.{aim_of};
+ghost use Rattle.pgn_extract.specs.Public.Listing.{has_annotations};
 ghost use Rattle.pgn_extract.specs.Public.Requests.{asked_header};
 ghost use Rattle.pgn_extract.specs.Public.Runs.{Adds, Stream, passage, stream_of};
 ghost use Rattle.pgn_extract.specs.Public.Searching.{IndexesWhatWasPacked, ListsWhatWasPacked};
@@ -61,6 +62,7 @@ fn search_input<'a, I: Read, O: Write>(
 where
     I: Drop,
     requires sound { out.old.faulted ≡ false }
+    requires held { has_annotations task.now.settings.line ≡ false }
     ensures listed { OnOk result (IfSome (I.remaining input)
         (λ whole. ListsWhatWasPacked (aim_of task.now.settings) whole
         (O.contents out.old.inner) (O.contents out.new.inner))) }
@@ -98,6 +100,7 @@ fn search_path<'a, F: Files, O: Write, E: Write>(
 where
     F::Input: Drop,
     requires sound { (out.old.faulted ≡ false) × (err.old.faulted ≡ false) }
+    requires held { has_annotations task.now.settings.line ≡ false }
     ensures searched { OnOk result (F.known files.old path.now ≢ Unknown
         → SearchesPath (aim_of task.now.settings) path.now (F.known files.old path.now)
         (passage O.contents out.old out.new) (passage E.contents err.old err.new)) }
@@ -130,6 +133,7 @@ fn search_paths<'a, F: Files, O: Write, E: Write>(
 where
     F::Input: Drop,
     requires sound { (out.old.faulted ≡ false) × (err.old.faulted ≡ false) }
+    requires held { has_annotations task.now.settings.line ≡ false }
     ensures searched { OnOk result (AreKnown (F.known files.old) (pack_paths task.now)
         → SearchesPaths (aim_of task.now.settings) (F.known files.old) (pack_paths task.now)
         (passage O.contents out.old out.new) (passage E.contents err.old err.new)) }
@@ -159,6 +163,7 @@ pub fn search_packs<F: Files, O: Write, E: Write>(
 where
     F::Input: Drop,
     requires sound { (out.old.faulted ≡ false) × (err.old.faulted ≡ false) }
+    requires held { has_annotations task.now.settings.line ≡ false }
     ensures searched { result ≢ 3 → pack_paths task.now ≢ []
         → AreKnown (F.known files.old) (pack_paths task.now)
         → (out_there : Stream) × (err_there : Stream)

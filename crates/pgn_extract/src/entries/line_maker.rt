@@ -1,7 +1,8 @@
 //! How the lines of the entries of a game are made.
-ghost use Rattle.std.specs.Prelude.{◌≡◌, IfOk};
+ghost use Rattle.std.specs.Prelude.{◌≡◌, true, IfOk};
 ghost use Rattle.pgn_extract.specs.Private.Lines.{MakesLines, made_line, keeps_line};
-ghost use Rattle.pgn_extract.specs.Private.RowGames.{IsGameIn, name_of};
+ghost use Rattle.pgn_extract.specs.Private.RowGames.{IsGameIn, name_of, is_text};
+ghost use Rattle.pgn_extract.specs.Public.Listing.{has_annotations};
 ghost use Rattle.pgn_text.specs.Public.GameTexts.{GameText};
 
 use crate::entries::row_game::RowGame;
@@ -31,8 +32,9 @@ impl<'s> LineMaker<'s> {
     pub(crate) fn of_game(
         alloc: Global,
         line: &'s EntryLine,
-        game: RowGame<'_, '_>,
+        game: RowGame<'_, 's>,
     ) -> Result<Self, AllocError>
+        requires { has_annotations line.now ≡ true → is_text game.source ≡ true }
         ensures { IfOk result (λ lines. (line.now ≡ made_line lines)
             × ((text : GameText) → IsGameIn game.entry.source text
             → MakesLines lines (name_of game.entry) game.entry.id text)) }

@@ -1,7 +1,7 @@
 //! The game that rows are of, where it stands: in a text or in a pack.
-ghost use Rattle.std.specs.Prelude.{◌≡◌, Some, option_map, IfSome};
+ghost use Rattle.std.specs.Prelude.{◌≡◌, true, Some, option_map, IfSome};
 ghost use Rattle.pgn_extract.specs.Private.Packed.{EachOfRecord, raw_id};
-ghost use Rattle.pgn_extract.specs.Private.RowGames.{IsGameIn, name_of};
+ghost use Rattle.pgn_extract.specs.Private.RowGames.{IsGameIn, name_of, is_text};
 ghost use Rattle.pgn_text.specs.Public.GameTexts.{GameText, tag_in};
 ghost use Rattle.pgn_text.specs.Public.Strings.{IsContents};
 
@@ -36,6 +36,7 @@ impl<'g, 'a> RowGame<'g, 'a> {
         ensures name { name_of result ≡ context.entry.settings.now.name }
         ensures id { result.id ≡ context.entry.own }
         ensures source { IsGameIn result.source game.now }
+        ensures text { is_text result.source ≡ true }
     {
         RowGame {
             name: match &context.settings.name {

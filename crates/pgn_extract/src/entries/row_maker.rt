@@ -1,40 +1,55 @@
 //! The rows of a game: what its plies do not change is made once.
 ghost use Rattle.std.specs.Prelude.{◌≡◌, ◌++◌, ◌∷◌, [], ℕ, List, OnOk, IfErr, IfOk, IfSome};
-ghost use Rattle.std.specs.Prelude.{option_map};
-ghost use Rattle.pgn_extract.specs.Private.Lines.{Where, HasFault, ShowsValues};
+ghost use Rattle.std.specs.Prelude.{option_map, true};
+ghost use Rattle.std.specs.List.{list_any};
+ghost use Rattle.pgn_extract.specs.Private.AnnotationLists.{lists_in};
+ghost use Rattle.pgn_extract.specs.Private.Lines.{Where, HasFault, ShowsPart, ShowsParts};
 ghost use Rattle.pgn_extract.specs.Private.RowTexts.{MakesRows, EndsPart, AddsCell, or_quotes};
-ghost use Rattle.pgn_extract.specs.Private.RowTexts.{filled, columns_of, ArePlainValues};
-ghost use Rattle.pgn_extract.specs.Private.RowTexts.{quote_text, EachColumn, need_line};
-ghost use Rattle.pgn_extract.specs.Public.Columns.{is_number_of_ply};
+ghost use Rattle.pgn_extract.specs.Private.RowTexts.{filled, part_quote, quote_text};
+ghost use Rattle.pgn_extract.specs.Private.RowTexts.{EachColumn, need_line, part_needs_line};
+ghost use Rattle.pgn_extract.specs.Private.RowTexts.{IsShownWith};
+ghost use Rattle.pgn_extract.specs.Public.Annotations.{annotation_lists};
+ghost use Rattle.pgn_extract.specs.Public.Columns.{is_number_of_ply, shows_annotations};
 ghost use Rattle.pgn_extract.specs.Public.Rows.{game_cell, IsTagCell};
 ghost use Rattle.pgn_criteria.specs.Public.Meeting.{heading_of};
 ghost use Rattle.pgn_text.specs.Public.GameTexts.{GameText, tag_in};
-ghost use Rattle.pgn_extract.specs.Private.RowGames.{IsGameIn, name_of};
+ghost use Rattle.pgn_extract.specs.Private.RowGames.{IsGameIn, name_of, is_text};
 ghost use Rattle.pgn_text.specs.Public.Strings.{IsContents};
 ghost use Rattle.pgn_game.specs.Public.Starts.{IsValueOf};
 
+use crate::entries::annotations::{Annotations, push_annotation_value};
 use crate::entries::line::Line;
-use crate::entries::row_game::RowGame;
+use crate::entries::row_game::{GameSource, RowGame};
 use crate::output::texts::{push_mark, push_number};
-use crate::rows::column::{Column, Format, GameColumn, PlyColumn, Row};
+use crate::rows::column::{AnnotationColumn, Column, Format, GameColumn, PlyColumn, Row};
 use crate::rows::format::{end_row, push_gap, push_key, push_value};
 use pgn_text::value;
 use std::alloc::{AllocError, Global};
 use std::mem;
 
+/// What a column shows of a ply.
+#[derive(Clone, Copy, Debug, PartialEq, Eq)]
+pub(crate) enum PartColumn {
+    /// Something of the ply itself.
+    OfPly(PlyColumn),
+    /// Something of its annotations.
+    OfAnnotations(AnnotationColumn),
+}
+
 /// What stands before the value of a column of the ply.
 #[derive(Drop)]
 pub(crate) struct RowPart {
     pub(crate) before: Vec<u8>,
-    pub(crate) column: PlyColumn,
+    pub(crate) column: PartColumn,
 }
 
-/// The rows of a game: the columns, the parts with a value of the ply each, and what stands after
-/// them.
+/// The rows of a game: the columns, the annotations where a column shows them, the parts with a
+/// value of the ply each, and what stands after them.
 #[derive(Drop)]
 pub(crate) struct RowMaker<'s> {
     pub(crate) alloc: Global,
     pub(crate) row: &'s Row,
+    pub(crate) annotations: Annotations<'s>,
     pub(crate) parts: Vec<RowPart>,
     pub(crate) last: Vec<u8>,
 }
@@ -97,7 +112,7 @@ fn put_game_value(
 }
 
 /// The quotes around the values of a column of the ply, where they have any.
-fn quote_of(format: Format, column: PlyColumn) -> &'static [u8]
+fn ply_quote(format: Format, column: PlyColumn) -> &'static [u8]
     ensures { result.now ≡ quote_text format (is_number_of_ply column) }
 {
     if format == Format::Jsonl && !column.is_number() {
@@ -107,9 +122,50 @@ fn quote_of(format: Format, column: PlyColumn) -> &'static [u8]
     }
 }
 
+/// The quotes around what is written for a column. The text of what is shown of annotations has its
+/// own.
+fn quote_of(format: Format, column: PartColumn) -> &'static [u8]
+    ensures { result.now ≡ part_quote format column }
+{
+    match column {
+        PartColumn::OfPly(own) => ply_quote(format, own),
+        PartColumn::OfAnnotations(_) => b"",
+    }
+}
+
+impl PartColumn {
+    /// Whether the whole main line is kept for it.
+    fn needs_line(self) -> bool
+        ensures { result ≡ part_needs_line self }
+    {
+        match self {
+            PartColumn::OfPly(own) => own.needs_line(),
+            PartColumn::OfAnnotations(_) => false,
+        }
+    }
+}
+
+/// The annotations of the game, where the row shows them.
+fn annotations_for<'a>(
+    alloc: Global,
+    row: &Row,
+    game: RowGame<'_, 'a>,
+) -> Result<Annotations<'a>, AllocError>
+    requires { list_any shows_annotations row.now.columns.items ≡ true
+        → is_text game.source ≡ true }
+    ensures { IfOk result (λ kept. list_any shows_annotations row.now.columns.items ≡ true
+        → (text : GameText) → IsGameIn game.entry.source text
+        → lists_in kept ≡ annotation_lists text.elements) }
+{
+    match game.source {
+        GameSource::Text(game) if row.shows_annotations() => Annotations::of_game(alloc, game),
+        _ => Ok(Annotations::none(alloc)),
+    }
+}
+
 impl<'s> RowMaker<'s> {
     /// Ends a part with a column of the ply.
-    fn end_part(&mut self, column: PlyColumn) -> Result<(), AllocError>
+    fn end_part(&mut self, column: PartColumn) -> Result<(), AllocError>
         ensures { OnOk result (EndsPart self.old self.new column) }
     {
         let quote = quote_of(self.row.format, column);
@@ -127,7 +183,11 @@ impl<'s> RowMaker<'s> {
         game: RowGame<'_, '_>,
         column: &Column,
     ) -> Result<(), AllocError>
+        requires annotations { shows_annotations column.now ≡ true
+            → (text : GameText) → IsGameIn game.source text
+            → lists_in self.old.annotations ≡ annotation_lists text.elements }
         ensures row { OnOk result (self.new.row.now ≡ self.old.row.now) }
+        ensures annotations { OnOk result (self.new.annotations ≡ self.old.annotations) }
         ensures cell { OnOk result ((text : GameText) → IsGameIn game.entry.source text
             → AddsCell self.old self.new (name_of game.entry) game.entry.id text column.now) }
     {
@@ -142,7 +202,8 @@ impl<'s> RowMaker<'s> {
                 put_game_value(own, game, *shown)?;
                 push_value(&mut self.last, format, shown.is_number(), own)
             }
-            Column::OfPly(shown) => self.end_part(*shown),
+            Column::OfPly(shown) => self.end_part(PartColumn::OfPly(*shown)),
+            Column::OfAnnotations(shown) => self.end_part(PartColumn::OfAnnotations(*shown)),
         }
     }
 
@@ -150,8 +211,10 @@ impl<'s> RowMaker<'s> {
     pub(crate) fn of_game(
         alloc: Global,
         row: &'s Row,
-        game: RowGame<'_, '_>,
+        game: RowGame<'_, 's>,
     ) -> Result<Self, AllocError>
+        requires { list_any shows_annotations row.now.columns.items ≡ true
+            → is_text game.source ≡ true }
         ensures { IfOk result (λ maker. (maker.row.now ≡ row.now)
             × ((text : GameText) → IsGameIn game.entry.source text
             → MakesRows maker (name_of game.entry) game.entry.id text)) }
@@ -159,6 +222,7 @@ impl<'s> RowMaker<'s> {
         let mut maker = RowMaker {
             alloc,
             row,
+            annotations: annotations_for(alloc, row, game)?,
             parts: Vec::new(alloc),
             last: Vec::from_slice(alloc, row.format.front())?,
         };
@@ -180,14 +244,40 @@ impl<'s> RowMaker<'s> {
         self.parts.iter().any(|part| part.column.needs_line())
     }
 
+    /// Appends the text of a column where the line stands.
+    #[inline(always)]
+    fn push_part<L: Line>(
+        &self,
+        text: &mut Vec<u8>,
+        line: &L,
+        column: PartColumn,
+    ) -> Result<(), L::Fault>
+        requires valid { L.Valid line.now }
+        requires shows { IsShownWith L.Shows column }
+        ensures shown { OnOk result ((value : List ℕ)
+            × Where (L.At line.now) (ShowsPart self.now column value)
+            × (text.new.items ≡ text.old.items ++ value)) }
+        ensures fault { IfErr result (λ fault. IfSome (L.fault_of fault)
+            (λ own. Where (L.At line.now) (HasFault own) × (some : List ℕ)
+            × (text.new.items ≡ text.old.items ++ some))) }
+    {
+        match column {
+            PartColumn::OfPly(own) => line.push_value(text, own),
+            PartColumn::OfAnnotations(own) => {
+                let elements = self.annotations.at(line.ply());
+                push_annotation_value(text, self.alloc, self.row.format, own, elements)?;
+                Ok(())
+            }
+        }
+    }
+
     /// Appends the row of the ply where the line stands.
     #[inline(always)]
     pub(crate) fn push_row<L: Line>(&self, text: &mut Vec<u8>, line: &L) -> Result<(), L::Fault>
         requires valid { L.Valid line.now }
         requires shows { EachColumn L.Shows self.now.parts.items }
         ensures shown { OnOk result ((values : List (List ℕ))
-            × Where (L.At line.now) (ShowsValues (columns_of self.now.parts.items) values)
-            × ArePlainValues values
+            × Where (L.At line.now) (ShowsParts self.now self.now.parts.items values)
             × (text.new.items ≡ text.old.items ++ (or_quotes self.now.row.now.format
             (filled self.now.parts.items values self.now.last.items) ++ 10 ∷ []))) }
         ensures fault { IfErr result (λ fault. IfSome (L.fault_of fault)
@@ -197,7 +287,7 @@ impl<'s> RowMaker<'s> {
         let begin = text.len();
         for part in &self.parts {
             text.extend_from_slice(&part.before)?;
-            line.push_value(text, part.column)?;
+            self.push_part(text, line, part.column)?;
         }
         text.extend_from_slice(&self.last)?;
         end_row(text, self.row.format, begin)?;

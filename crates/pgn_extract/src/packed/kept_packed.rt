@@ -1,12 +1,12 @@
 //! The entries of a packed game whose criteria speak of its moves or of several plies: its line is
 //! replayed and kept, and then looked through.
-ghost use Rattle.std.specs.Prelude.{◌≡◌, OnOk, IfOk, IfErr, length};
+ghost use Rattle.std.specs.Prelude.{◌≡◌, false, OnOk, IfOk, IfErr, length};
 ghost use Rattle.pgn_text.specs.Public.GameTexts.{tag_in};
 ghost use Rattle.pgn_game.specs.Public.Starts.{fen_tag};
 ghost use Rattle.pgn_game.specs.Public.PackReading.{IsRawOfGame};
 ghost use Rattle.pgn_extract.specs.Public.Aims.{Aim, aim_of};
 ghost use Rattle.pgn_extract.specs.Private.KeptPacked.{IsStartOf, IsKeptOf};
-ghost use Rattle.pgn_extract.specs.Public.Listing.{is_bare};
+ghost use Rattle.pgn_extract.specs.Public.Listing.{has_annotations};
 ghost use Rattle.pgn_extract.specs.Private.Packed.{EachOfRecord, HasNoText, ListsRecord};
 ghost use Rattle.pgn_extract.specs.Private.Packed.{StandsInRecord};
 ghost use Rattle.pgn_extract.specs.Private.KeptLines.{AreReported, IsKeptWith};
@@ -126,6 +126,7 @@ pub(crate) fn push_kept_record<'a>(
     text: &mut Vec<u8>,
     context: RecordContext<'a, '_, 'a>,
 ) -> Result<(), PackedFault>
+    requires held { has_annotations context.settings.now.line ≡ false }
     requires shows { IsRawOfGame context.record.now }
     ensures ok { OnOk result (ListsRecord (aim_of context.entry.settings.now)
         context.entry.record.now text.old.items text.new.items) }

@@ -3,7 +3,7 @@ ghost use Rattle.std.specs.Prelude.{◌≡◌, ◌↔◌, ◌⊎◌, ℕ, ◌+�
 ghost use Rattle.std.specs.Prelude.{OnOk, IsErrOf};
 ghost use Rattle.std.specs.Io.KnownBytes.{Appends};
 ghost use Rattle.pgn_extract.specs.Public.Aims.{aim_of};
-ghost use Rattle.pgn_extract.specs.Public.Listing.{is_bare};
+ghost use Rattle.pgn_extract.specs.Public.Listing.{has_annotations};
 ghost use Rattle.pgn_extract.specs.Public.Outcomes.{AppendsFront};
 ghost use Rattle.pgn_extract.specs.Public.Searching.{IsSearch};
 ghost use Rattle.pgn_extract.specs.Private.SearchSteps.{PutsRest, PutsSome, search_error_of};
@@ -132,6 +132,7 @@ pub fn search<R: Read, O: Write>(
     settings: &Settings,
 ) -> Result<Searched, SearchError>
     requires sound { (input.old.faulted ≡ false) × (out.old.faulted ≡ false) }
+    requires held { has_annotations settings.now.line ≡ false }
     ensures stands { IsSearch (aim_of settings.now) (R.remaining input.old.inner)
         (R.remaining input.new.inner)
         (O.contents out.old.inner) (O.contents out.new.inner) result }

@@ -4,7 +4,9 @@ ghost use Rattle.pgn_extract.specs.Public.Columns.{column_name, game_column_name
 ghost use Rattle.pgn_extract.specs.Public.Columns.{position_column_name, is_number_of_game};
 ghost use Rattle.pgn_extract.specs.Public.Columns.{is_number_of_ply, is_number_of_position};
 ghost use Rattle.pgn_extract.specs.Public.Columns.{line_column_name, is_number_of_line};
+ghost use Rattle.pgn_extract.specs.Public.Columns.{annotation_column_name, shows_annotations};
 ghost use Rattle.pgn_extract.specs.Private.RowTexts.{needs_line};
+ghost use Rattle.std.specs.List.{list_any};
 
 use pgn_game::Notation;
 
@@ -77,6 +79,16 @@ pub enum PlyColumn {
     OfLine(LineColumn),
 }
 
+/// What a column shows of the annotations of a ply: of the NAGs and comments of the main line that
+/// stand after the move which leads there, and before the next.
+#[derive(Clone, Copy, Debug, PartialEq, Eq)]
+pub enum AnnotationColumn {
+    /// The NAGs.
+    Nags,
+    /// The words of the comments.
+    Comment,
+}
+
 /// What a column shows.
 #[derive(Debug, Drop)]
 pub enum Column {
@@ -86,6 +98,8 @@ pub enum Column {
     OfGame(GameColumn),
     /// Something of the ply.
     OfPly(PlyColumn),
+    /// Something of the annotations of the ply.
+    OfAnnotations(AnnotationColumn),
 }
 
 /// What a row has, and how it is written.
@@ -216,7 +230,29 @@ impl PlyColumn {
     }
 }
 
+impl AnnotationColumn {
+    /// Its name.
+    pub(crate) fn name(self) -> &'static [u8]
+        ensures { result.now ≡ annotation_column_name self }
+    {
+        match self {
+            AnnotationColumn::Nags => b"@nags",
+            AnnotationColumn::Comment => b"@comment",
+        }
+    }
+}
+
 impl Column {
+    /// Whether it shows annotations.
+    pub(crate) fn shows_annotations(&self) -> bool
+        ensures { result ≡ shows_annotations self.now }
+    {
+        match self {
+            Column::OfAnnotations(_) => true,
+            Column::Tag(_) | Column::OfGame(_) | Column::OfPly(_) => false,
+        }
+    }
+
     /// The name with which the header shows it.
     pub(crate) fn name(&self) -> &[u8]
         ensures { result.now ≡ column_name self.now }
@@ -225,6 +261,16 @@ impl Column {
             Column::Tag(name) => name,
             Column::OfGame(own) => own.name(),
             Column::OfPly(own) => own.name(),
+            Column::OfAnnotations(own) => own.name(),
         }
+    }
+}
+
+impl Row {
+    /// Whether one of the columns shows annotations.
+    pub(crate) fn shows_annotations(&self) -> bool
+        ensures { result ≡ list_any shows_annotations self.now.columns.items }
+    {
+        self.columns.iter().any(|column| column.shows_annotations())
     }
 }

@@ -9,13 +9,17 @@ ghost use Rattle.pgn_extract.specs.Public.Columns.{IsTagName, IsColumnOf, IsColu
 ghost use Rattle.pgn_extract.specs.Public.Columns.{IsNoOwnName, AreColumns, IsRefusedList};
 ghost use Rattle.pgn_extract.specs.Public.Columns.{column_name, game_column_name, ply_column_name};
 ghost use Rattle.pgn_extract.specs.Public.Columns.{position_column_name, line_column_name};
+ghost use Rattle.pgn_extract.specs.Public.Columns.{annotation_column_name};
+ghost use Rattle.pgn_extract.specs.declared.rows.column.AnnotationColumn.{AnnotationColumn};
 ghost use Rattle.pgn_extract.specs.declared.rows.column.GameColumn.{GameColumn};
 ghost use Rattle.pgn_extract.specs.declared.rows.column.LineColumn.{LineColumn};
 ghost use Rattle.pgn_extract.specs.declared.rows.column.PlyColumn.{PlyColumn};
 ghost use Rattle.pgn_extract.specs.declared.rows.column.PositionColumn.{PositionColumn};
 ghost use Rattle.pgn_extract.specs.declared.rows.list.ColumnsError.TheVariants.{OutOfMemory};
 
-use crate::rows::column::{Column, GameColumn, LineColumn, PlyColumn, PositionColumn};
+use crate::rows::column::{
+    AnnotationColumn, Column, GameColumn, LineColumn, PlyColumn, PositionColumn,
+};
 use pgn_game::Notation;
 use std::alloc::{AllocError, Global};
 
@@ -116,6 +120,19 @@ fn ply_column(name: &[u8]) -> Option<PlyColumn>
     }
 }
 
+/// The column of annotations with this name.
+fn annotation_column(name: &[u8]) -> Option<AnnotationColumn>
+    ensures { MatchOption result
+        ((own : AnnotationColumn) → name.now ≡ annotation_column_name own → ⊥)
+        (λ own. name.now ≡ annotation_column_name own) }
+{
+    match name {
+        b"@nags" => Some(AnnotationColumn::Nags),
+        b"@comment" => Some(AnnotationColumn::Comment),
+        _ => None,
+    }
+}
+
 /// The column with this name that is no tag.
 fn own_column(name: &[u8]) -> Option<Column>
     ensures { MatchOption result (IsNoOwnName name.now) (IsColumnOf name.now) }
@@ -123,8 +140,11 @@ fn own_column(name: &[u8]) -> Option<Column>
     if let Some(own) = game_column(name) {
         return Some(Column::OfGame(own));
     }
-    match ply_column(name) {
-        Some(own) => Some(Column::OfPly(own)),
+    if let Some(own) = ply_column(name) {
+        return Some(Column::OfPly(own));
+    }
+    match annotation_column(name) {
+        Some(own) => Some(Column::OfAnnotations(own)),
         None => None,
     }
 }

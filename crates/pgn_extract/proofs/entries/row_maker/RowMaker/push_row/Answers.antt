@@ -2,38 +2,38 @@ use Rattle.pgn_extract.proofs.Common.{◌≡◌, ◌++◌, ◌∷◌, [], ℕ, L
 use Rattle.pgn_extract.proofs.Common.{arith}
 use Rattle.pgn_extract.proofs.Common.{take, take-length, append_assoc, IfSome_then, Fault, Where}
 use Rattle.pgn_extract.proofs.Common.{err_from_is_err_and, HasFault, get_or}
-use Rattle.pgn_extract.specs.Private.Lines.{ShowsValues}
-use Rattle.pgn_extract.specs.Private.RowTexts.{columns_of, filled}
+use Rattle.pgn_extract.specs.Private.Lines.{ShowsParts}
+use Rattle.pgn_extract.specs.Private.RowTexts.{filled}
 use Rattle.pgn_extract.specs.Private.Sinks.{grows_more}
 use Rattle.pgn_extract.specs.declared.entries.row_maker.RowPart.{RowPart}
-use Rattle.pgn_extract.proofs.entries.RowMaking.{part_taken, plain_push, shows_more, writes_more}
+use Rattle.pgn_extract.proofs.entries.RowMaking.{part_taken, shows_more, writes_more}
 use Rattle.pgn_extract.proofs.entries.RowMaking.{size_more, filled_more}
 use Rattle.pgn_extract.proofs.entries.LineValues.{column_shown}
 use Rattle.pgn_extract.proofs.entries.row_maker.RowMaker.push_row.Goals as goal
 
-pub returns-in_err-push_value-clause-fault : goal.returns-in_err-push_value-clause-fault
-returns-in_err-push_value-clause-fault g c =
-    let p = err_from_is_err_and c.from_residual-in_err-push_value.result
-    c.from_residual-in_err-push_value.ensures.1 in
-    let (values, shown, plain, size, so_far) = c.loop-part.invariant in
+pub returns-in_err-push_part-clause-fault : goal.returns-in_err-push_part-clause-fault
+returns-in_err-push_part-clause-fault g c =
+    let p = err_from_is_err_and c.from_residual-in_err-push_part.result
+    c.from_residual-in_err-push_part.ensures.1 in
+    let (values, shown, size, so_far) = c.loop-part.invariant in
     let line = g.L.Line.At c.args.line.now in
     let carries : (own : Fault) → Where line (HasFault own) × (some : List ℕ)
-    × (c.push_value.new.text.items ≡ c.extend_from_slice.new.self.items ++ some)
+    × (c.push_part.new.text.items ≡ c.extend_from_slice.new.self.items ++ some)
     → Where line (HasFault own) × (some : List ℕ)
-    × (c.push_value.new.text.items ≡ c.args.text.now.items ++ some) = λ own (fails, some, grew).
+    × (c.push_part.new.text.items ≡ c.args.text.now.items ++ some) = λ own (fails, some, grew).
     let grown = grows_more c.args.text.now.items c.extend_from_slice.new.self.items
-    c.push_value.new.text.items
+    c.push_part.new.text.items
     (grows_more c.args.text.now.items c.loop-part.text.items
     c.extend_from_slice.new.self.items (_, so_far)
     (_, c.in_ok-extend_from_slice.ensures.items))
     (some, grew) in
     (fails, grown.0, grown.1) in
-    rw (p.1, p.2) (IfSome_then _ c.in_err-push_value.ensures.fault carries)
+    rw (p.1, p.2) (IfSome_then _ c.in_err-push_part.ensures.fault carries)
 
 pub loop-part-preserved : goal.loop-part-preserved
 loop-part-preserved g c =
-    let (values, shown, plain, size, so_far) = c.loop-part.invariant in
-    let (value, flat, own, pushed) = c.in_ok-push_value.ensures.shown in
+    let (values, shown, size, so_far) = c.loop-part.invariant in
+    let (value, own, pushed) = c.in_ok-push_part.ensures.shown in
     let all = c.args.self.now.parts.items in
     let i = c.loop-part.part-index in
     let part = c.part-item.result in
@@ -46,19 +46,19 @@ loop-part-preserved g c =
     (c.part-item.is ∙ ap (λ ps. get_or ps i part) slice) in (
       values ++ value ∷ [],
       subst (λ (ps : List RowPart). Where (g.L.Line.At c.args.line.now)
-          (ShowsValues (columns_of ps) (values ++ value ∷ []))) (sym next)
-          (shows_more (take i all) part values value (g.L.Line.At c.args.line.now) shown own),
-      plain_push values value plain flat,
+          (ShowsParts c.args.self.now ps (values ++ value ∷ []))) (sym next)
+          (shows_more c.args.self.now (take i all) part values value
+          (g.L.Line.At c.args.line.now) shown own),
       size_more (take i all) part values value size ∙ ap length (sym next),
       writes_more (take i all) part values value c.args.text.now.items c.loop-part.text.items
-          c.extend_from_slice.new.self.items c.push_value.new.text.items size so_far before pushed
+          c.extend_from_slice.new.self.items c.push_part.new.text.items size so_far before pushed
           ∙ ap (λ (ps : List RowPart). c.args.text.now.items
           ++ filled ps (values ++ value ∷ []) []) (sym next),
     )
 
 pub returns-clause-shown : goal.returns-clause-shown
 returns-clause-shown g c =
-    let (values, shown, plain, size, so_far) = c.loop-part.invariant in
+    let (values, shown, size, so_far) = c.loop-part.invariant in
     let all = c.args.self.now.parts.items in
     let i = c.loop-part.part-index in
     let last = c.args.self.now.last.items in
@@ -76,13 +76,12 @@ returns-clause-shown g c =
     ∙ ap (λ t. old ++ t) (sym (filled_more all values [] last)) in (
       values,
       subst (λ (ps : List RowPart). Where (g.L.Line.At c.args.line.now)
-          (ShowsValues (columns_of ps) values)) whole shown,
-      plain,
+          (ShowsParts c.args.self.now ps values)) whole shown,
       c.in_ok-end_row.ensures old (filled all values last) text begin,
     )
 
-pub push_value-requires-clause-shows : goal.push_value-requires-clause-shows
-push_value-requires-clause-shows g c =
+pub push_part-requires-clause-shows : goal.push_part-requires-clause-shows
+push_part-requires-clause-shows g c =
     let all = c.args.self.now.parts.items in
     let i = c.loop-part.part-index in
     let part = c.part-item.result in

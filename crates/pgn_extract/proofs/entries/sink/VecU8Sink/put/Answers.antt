@@ -34,10 +34,10 @@ returns-in-Rows-clause-put g c =
     let rows = c.in-Rows.rows in
     let start = c.args.self.now.items in
     on_ok_weaker c.push_row.result
-    (λ (values, shown, plain, pushed). (
+    (λ (values, shown, pushed). (
       AsRow (made_text rows values),
       λ aim game before P at id makes. (
-        shows_row c.args.lines.now rows values aim id game before P c.in-Rows.is makes plain
+        shows_row c.args.lines.now rows values aim id game before P c.in-Rows.is makes
             (shown aim game before P at),
         pushed ∙ ap (λ t. start ++ t) (sym (append-nil (made_text rows values))),
       ),

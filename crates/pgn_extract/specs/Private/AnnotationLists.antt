@@ -1,0 +1,37 @@
+-- The annotations of a game as they are kept, and how the value of a column is made of them.
+use Rattle.std.specs.Prelude.{◌≡◌, ℕ, Bool, not, if◌then◌else◌, List, [], ◌∷◌, ◌++◌, map}
+use Rattle.std.specs.Prelude.{flat_map}
+use Rattle.pgn_text.specs.Public.Bytes.{is_white}
+use Rattle.pgn_text.specs.Public.Elements.{item_of}
+use Rattle.pgn_text.specs.Public.Games.{Item}
+use Rattle.pgn_extract.specs.Public.Annotations.{main_items, parted_at_moves}
+use Rattle.pgn_extract.specs.declared.entries.annotations.Annotations.{Annotations}
+use Rattle.pgn_extract.specs.declared.entries.annotations.AnnotationKeeper.{AnnotationKeeper}
+
+-- the lists that are kept, as a game's elements
+abbrev pub lists_in : Annotations → List (List Item)
+lists_in annotations = map (λ own. map item_of own.items) annotations.lists.items
+
+-- elements before those of the first list
+abbrev pub before_first : List Item → List (List Item) → List (List Item)
+before_first own [] = own ∷ []
+before_first own (list ∷ lists) = (own ++ list) ∷ lists
+
+-- what is kept and what these elements have make those lists
+abbrev pub MakesLists : AnnotationKeeper → List Item → List (List Item) → Type 0
+MakesLists keeper items all =
+    map (λ own. map item_of own.items) keeper.lists.items
+    ++ before_first (map item_of keeper.own.items)
+    (parted_at_moves (main_items items keeper.depth)) ≡ all
+
+-- words, a space before each
+abbrev pub spaced : List (List ℕ) → List ℕ
+spaced words = flat_map (λ word. 32 ∷ word) words
+
+-- a byte of a text whose words are written so: `inside` where the byte before it is one of a word
+abbrev pub spaced_byte : Bool → ℕ → List ℕ
+spaced_byte inside b = if is_white b then [] else (if inside then b ∷ [] else 32 ∷ b ∷ [])
+
+abbrev pub spaced_bytes : Bool → List ℕ → List ℕ
+spaced_bytes inside [] = []
+spaced_bytes inside (b ∷ text) = spaced_byte inside b ++ spaced_bytes (not (is_white b)) text
