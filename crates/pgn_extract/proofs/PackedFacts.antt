@@ -17,7 +17,8 @@ use Rattle.pgn_game.proofs.RecordFacts.{plies_size}
 use Rattle.pgn_game.proofs.RecordWriting.{codes_count}
 use Rattle.pgn_extract.specs.Private.Packed.{PutsRecord, HasItsMarks, Grows, ListsRecord}
 use Rattle.pgn_extract.specs.Private.Packed.{HasNoEntry, bare_aim}
-use Rattle.pgn_extract.specs.Public.Listing.{IsShownOf, IsShownBy, Shown, AfterPly, AsRow, is_bare}
+use Rattle.pgn_extract.specs.Public.Listing.{IsShownOf, IsShownBy, Shown, AfterPly, AsRow}
+use Rattle.pgn_extract.specs.Private.Lines.{is_bare}
 use Rattle.pgn_extract.specs.Public.Rows.{RowPlace, place_of}
 use Rattle.pgn_extract.specs.declared.settings.EntryLine.{EntryLine}
 use Rattle.pgn_extract.specs.declared.settings.EntryLine.TheVariants.{Marked, InColumns}

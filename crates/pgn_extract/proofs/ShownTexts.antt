@@ -13,7 +13,8 @@ use Rattle.pgn_game.proofs.OnBoard.{line_on_board}
 use Rattle.pgn_game.proofs.OneReplay.{same_value}
 use Rattle.pgn_game.specs.Public.MainLines.{main_words}
 use Rattle.pgn_text.specs.Public.Strings.{IsContents, value_of_sign}
-use Rattle.pgn_extract.specs.Public.Listing.{Shown, AfterPly, AsRow, IsShownBy, IsShownOf, is_bare}
+use Rattle.pgn_extract.specs.Public.Listing.{Shown, AfterPly, AsRow, IsShownBy, IsShownOf}
+use Rattle.pgn_extract.specs.Private.Lines.{is_bare}
 use Rattle.pgn_extract.specs.Public.Rows.{RowPlace, place_of, IsTagCell, IsPositionCell}
 use Rattle.pgn_extract.specs.Public.Rows.{IsAt, IsPlyCell, IsCell, AreCells, row_text}
 use Rattle.pgn_extract.specs.declared.rows.column.Column.{Column}

@@ -1,6 +1,7 @@
 //! What a run is to do.
 ghost use Rattle.std.specs.Prelude.{◌≡◌};
-ghost use Rattle.pgn_extract.specs.Public.Listing.{is_plain, is_bare};
+ghost use Rattle.pgn_extract.specs.Public.Listing.{is_plain};
+ghost use Rattle.pgn_extract.specs.Private.Lines.{is_bare};
 
 use crate::marks::Marks;
 use crate::output::file_name::FileName;

@@ -7,7 +7,8 @@ use Rattle.pgn_extract.proofs.Common.{entry_line, listing, plies_of, AreListed, 
 use Rattle.pgn_extract.specs.Private.Blockwise.{IsPlainEntry, lines_from}
 use Rattle.pgn_extract.proofs.Chosen.{entry_at}
 use Rattle.pgn_extract.proofs.ShownTexts.{nothing_shown}
-use Rattle.pgn_extract.specs.Public.Listing.{Shown, AfterPly, IsShownOf, is_bare}
+use Rattle.pgn_extract.specs.Public.Listing.{Shown, AfterPly, IsShownOf}
+use Rattle.pgn_extract.specs.Private.Lines.{is_bare}
 use Rattle.pgn_extract.specs.Public.Rows.{place_of}
 use Rattle.pgn_extract.proofs.Picks.{leaves, leaves_all, dropped}
 

@@ -6,7 +6,7 @@ use Rattle.pgn_extract.proofs.Common.{length, MatchOption, slice_get, State, Mov
 use Rattle.pgn_extract.proofs.Common.{Replay, IsSan, Fields, Fault, ShowsFields}
 use Rattle.pgn_extract.proofs.Common.{IsFenField, IsNextField, IsNextMove}
 use Rattle.std.specs.Prelude.{codes}
-use Rattle.pgn_extract.specs.Public.Listing.{is_bare}
+use Rattle.pgn_extract.specs.Private.Lines.{is_bare}
 use Rattle.pgn_extract.specs.Public.Rows.{IsMoveCell, IsAt}
 use Rattle.pgn_extract.specs.Private.Lines.{ShowsFen, ShowsNext, ShowsValue}
 use Rattle.pgn_extract.specs.declared.rows.column.PlyColumn.TheVariants.{OfPosition, Next}

@@ -6,7 +6,7 @@ use Rattle.pgn_text.specs.Public.GameTexts.{GameText}
 use Rattle.pgn_game.specs.Public.Replays.{Replay}
 use Rattle.pgn_extract.specs.Public.Aims.{Aim, GameId}
 use Rattle.pgn_extract.specs.Public.Listing.{AfterPly, AsRow, IsShownBy}
-use Rattle.pgn_extract.specs.Public.Listing.{is_bare}
+use Rattle.pgn_extract.specs.Private.Lines.{is_bare}
 use Rattle.pgn_extract.specs.Public.Rows.{IsRow, place_of}
 use Rattle.pgn_extract.specs.Private.AnnotationLists.{lists_in}
 use Rattle.pgn_extract.specs.Private.Lines.{ShowsFields, ShowsParts, ShowsLine, Makes}

@@ -1,6 +1,6 @@
 -- Worked examples of objects: what is read as one, and what is none.
-use Rattle.std.proofs.Common.{◌≡◌, ◌++◌, ◌^◌, ℕ, List, [], ◌∷◌, true, false, refl, sym, subst, arith}
-use Rattle.std.proofs.Common.{◌∙◌}
+use Rattle.std.proofs.Common.{◌≡◌, ◌++◌, ◌^◌, ◌∙◌, ℕ, List, [], ◌∷◌, true, false, refl, sym}
+use Rattle.std.proofs.Common.{arith, subst}
 use Rattle.std.specs.Prelude.{codes, Bool}
 use Rattle.std.specs.List.{list_all}
 use Rattle.std.specs.Str.{chars, is_utf8}

@@ -117,7 +117,7 @@ later_ends (member ∷ more) rest = ap (λ (xs : List ℕ). 44 ∷ xs)
     ∙ ap (λ xs. member_text member ++ xs) (later_ends more rest)
     ∙ sym (append_assoc (member_text member) (later_line more) (10 ∷ rest)))
 
-pub object_ends : (members : List Member) (rest : List ℕ)
+object_ends : (members : List Member) (rest : List ℕ)
     → object_text members ++ rest ≡ object_line members ++ 10 ∷ rest
 object_ends [] rest = refl
 object_ends (member ∷ more) rest = ap (λ (xs : List ℕ). 123 ∷ xs)

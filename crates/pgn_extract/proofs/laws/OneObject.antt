@@ -25,7 +25,7 @@ space_is_no_digit d is = grind (arith, nat_tests)
 abbrev pub Begins : List ℕ → Type 0
 Begins text = LeavesRun is_space text
 
-pub one_skip : (text t u : List ℕ) → SkipsSpace text t → SkipsSpace text u → Begins t → Begins u
+one_skip : (text t u : List ℕ) → SkipsSpace text t → SkipsSpace text u → Begins t → Begins u
     → t ≡ u
 one_skip text t u skips skips' begins begins' =
     (one_run is_space skips.space skips'.space t u skips.each skips'.each begins begins'
@@ -39,7 +39,7 @@ one_byte b c text rest more b_is c_is reads reads' =
     (b, rest, refl, b_is) (c, more, refl, c_is) in
     (heads same, tails same)
 
-pub string_begins : (bytes text rest : List ℕ) → ReadsString bytes text rest → Begins bytes
+string_begins : (bytes text rest : List ℕ) → ReadsString bytes text rest → Begins bytes
 string_begins bytes text rest reads = (34, _, reads.spells, refl)
 
 -- after white space a byte that is no digit is none

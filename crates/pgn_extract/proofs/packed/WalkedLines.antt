@@ -21,7 +21,7 @@ use Rattle.pgn_criteria.specs.Public.Walks.{stepped}
 use Rattle.pgn_criteria.proofs.WalkFacts.{step_shows_next_position}
 use Rattle.pgn_extract.specs.Private.Packed.{StartsWith, StartsThere, StandsInRecord}
 use Rattle.pgn_extract.specs.Private.WalkedLines.{IsWalkedTo, IsMarkedWith, AreMetWith}
-use Rattle.pgn_extract.specs.Public.Listing.{is_bare}
+use Rattle.pgn_extract.specs.Private.Lines.{is_bare}
 use Rattle.pgn_extract.specs.Private.Lines.{ShowsValue}
 use Rattle.pgn_extract.specs.declared.rows.column.PlyColumn.{PlyColumn}
 use Rattle.pgn_extract.proofs.Common.{false≢true}

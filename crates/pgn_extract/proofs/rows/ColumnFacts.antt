@@ -1,6 +1,7 @@
 -- The names that are read so far.
 use Rattle.std.proofs.Common.{◌≡◌, ◌⊎◌, inl, inr, ◌<◌, ℕ, Bool, true, false, List, [], ◌∷◌, ◌++◌}
-use Rattle.std.proofs.Common.{Bor, length, sym, ap, refl, subst, ◌∙◌, arith, append_assoc, length-append}
+use Rattle.std.proofs.Common.{Bor, length, sym, ap, refl, subst, ◌∙◌, arith, append_assoc}
+use Rattle.std.proofs.Common.{length-append}
 use Rattle.std.specs.Prelude.{bytes_eq, ◌||◌, Option, Some, None, MatchOption, option_map}
 use Rattle.std.specs.List.{Contains, find, list_any}
 use Rattle.std.proofs.lemmas.List.Elements.{Contains-append_left, Contains-append_right}

@@ -11,8 +11,8 @@ use Rattle.pgn_game.specs.declared.replays.replayer.Lines.TheVariants.{Main}
 use Rattle.pgn_criteria.specs.Public.Meeting.{heading_of}
 use Rattle.pgn_extract.specs.Public.Aims.{Aim, GameId, IsMet, IsWanted, IsEntry, aim_of}
 use Rattle.pgn_extract.specs.Public.GameReports.{plies_of, AreChosen, AreListed}
-use Rattle.pgn_extract.specs.Public.Listing.{Entry, Shown, AreFields, IsShownOf, is_bare}
-use Rattle.pgn_extract.specs.Public.Listing.{shown_line, IsFenField, IsNextField}
+use Rattle.pgn_extract.specs.Public.Listing.{Entry, Shown, AreFields, IsShownOf}
+use Rattle.pgn_extract.specs.Public.Listing.{shown_line, is_plain, IsFenField, IsNextField}
 use Rattle.pgn_extract.specs.declared.entries.line_maker.LineMaker.{LineMaker}
 use Rattle.pgn_extract.specs.declared.entries.line_maker.LineMaker.TheVariants as maker
 use Rattle.pgn_extract.specs.declared.entries.row_maker.PartColumn.{PartColumn}
@@ -62,6 +62,11 @@ abbrev pub ShowsFields : Fields → List ℕ → Aim → GameText → List State
 ShowsFields fields shown aim game before P =
     aim.line ≡ Marked fields
     → EachReplay game before P (λ replay. AreFields fields replay (length before) shown)
+
+-- the line of an entry is the mark and the ply alone
+abbrev pub is_bare : EntryLine → Bool
+is_bare (Marked fields) = is_plain fields
+is_bare (InColumns row) = false
 
 -- more is shown than the mark and the ply
 abbrev pub ShowsMore : Aim → Type 0

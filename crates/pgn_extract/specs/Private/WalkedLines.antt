@@ -16,7 +16,7 @@ use Rattle.pgn_criteria.specs.Public.Conditions.{Conditions}
 use Rattle.pgn_criteria.specs.Public.Meeting.{Heading, heading_of}
 use Rattle.pgn_criteria.specs.Public.Walks.{Sight, IsSightOf}
 use Rattle.pgn_extract.specs.Public.Aims.{Aim, IsMet}
-use Rattle.pgn_extract.specs.Public.Listing.{is_bare}
+use Rattle.pgn_extract.specs.Private.Lines.{is_bare}
 use Rattle.pgn_extract.specs.Private.Finding.{AsksFor}
 use Rattle.pgn_extract.specs.Private.Lines.{Stands}
 

@@ -79,11 +79,6 @@ AreFields fields replay ply shown =
     (fen : List ℕ) × (next : List ℕ) × IsFenField fields.fen replay ply fen
     × IsNextField fields.next replay ply next × (shown ≡ fen ++ next)
 
--- the line of an entry is the mark and the ply alone
-abbrev pub is_bare : EntryLine → Bool
-is_bare (Marked fields) = is_plain fields
-is_bare (InColumns row) = false
-
 -- the line of an entry shows annotations
 abbrev pub has_annotations : EntryLine → Bool
 has_annotations (Marked fields) = false

@@ -2,7 +2,7 @@
 ghost use Rattle.std.specs.Prelude.{◌≡◌, ◌||◌, true, option_map, IfErr, IfOk, IfSome, OnOk};
 ghost use Rattle.pgn_extract.specs.Public.Aims.{aim_of};
 ghost use Rattle.pgn_extract.specs.Public.GivenMarks.{IsGameMark};
-ghost use Rattle.pgn_extract.specs.Public.Listing.{is_bare};
+ghost use Rattle.pgn_extract.specs.Private.Lines.{is_bare};
 ghost use Rattle.pgn_extract.specs.Public.Requests.{asked, asked_form, asked_mode, asked_select};
 ghost use Rattle.pgn_extract.specs.Public.Requests.{asked_style, asks_names};
 ghost use Rattle.pgn_extract.specs.Public.Requests.{bad_mark, begin_of, end_of, file_refusals};

@@ -11,7 +11,7 @@ ghost use Rattle.pgn_extract.specs.Private.Blockwise.{IsBlockVerdict};
 ghost use Rattle.pgn_extract.specs.Private.Blockwise.{IsMarkReport, StopsIn, too_long_piece};
 ghost use Rattle.pgn_extract.specs.Private.Finding.{AddsEntries};
 ghost use Rattle.pgn_extract.specs.Public.Index.{fault_text};
-ghost use Rattle.pgn_extract.specs.Public.Listing.{is_bare};
+ghost use Rattle.pgn_extract.specs.Private.Lines.{is_bare};
 ghost use Rattle.pgn_extract.specs.Public.GameReports.{cause_text};
 ghost use Rattle.pgn_extract.specs.Public.Notes.{IsNote};
 ghost use Rattle.pgn_extract.specs.Public.Verdicts.{Verdict, FaultyGame, replayed_lines};

@@ -2,7 +2,7 @@
 ghost use Rattle.std.specs.Prelude.{◌≡◌, ◌↔◌, ℕ, ◌^◌, ◌<◌, ◌≤◌, None, true, OnOk};
 ghost use Rattle.pgn_extract.specs.Public.Aims.{aim_of};
 ghost use Rattle.pgn_extract.specs.Private.Blockwise.{IsPlainEntry, AddsPlies, AddsLines};
-ghost use Rattle.pgn_extract.specs.Public.Listing.{is_bare};
+ghost use Rattle.pgn_extract.specs.Private.Lines.{is_bare};
 
 use crate::entries::GameContext;
 use crate::entries::ten_lines::push_range;

@@ -1,7 +1,8 @@
 //! What is done with the entries that are found.
 ghost use Rattle.std.specs.Prelude.{◌≡◌, ◌∷◌, ◌++◌, [], ℕ, List, true, OnOk, IfErr, IfSome, length};
 ghost use Rattle.std.specs.Prelude.{refl};
-ghost use Rattle.pgn_extract.specs.Public.Listing.{Entry, is_bare};
+ghost use Rattle.pgn_extract.specs.Public.Listing.{Entry};
+ghost use Rattle.pgn_extract.specs.Private.Lines.{is_bare};
 ghost use Rattle.pgn_extract.specs.Private.Lines.{Where, HasFault, marked_lines};
 ghost use Rattle.pgn_extract.specs.Private.Lines.{or_some, made_line, IsEnoughFor};
 ghost use Rattle.pgn_extract.specs.Private.Sinks.{PutsHere, lines_none, lines_more, some_more};

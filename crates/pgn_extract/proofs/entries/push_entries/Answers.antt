@@ -89,8 +89,8 @@ returns-in_default-2 c =
     let named = named_mark settings.name id in
     let marked : mark ≡ named =
     c.in_ok-push_named_mark.ensures ∙ ap (λ t. t ++ named) c.in_ok-mark.ensures.items in
-    on_result c.find_kept-in_default-2.result (AddsEntries (aim_of settings) id game old new) (λ fault.
-    IfSome (fault_of fault) (StopsAtFault game old new))
+    on_result c.find_kept-in_default-2.result (AddsEntries (aim_of settings) id game old new)
+    (λ fault. IfSome (fault_of fault) (StopsAtFault game old new))
     (on_ok_weaker c.find_kept-in_default-2.result
     (λ found.
     adds_lines (aim_of settings) id game mark old new marked

@@ -1,5 +1,5 @@
-use Rattle.pgn_extract.proofs.Common.{◌≡◌, ℕ, List, [], ◌∷◌, length, refl, sym, ◌∙◌, subst, eqb-true}
-use Rattle.pgn_extract.proofs.Common.{arith, false}
+use Rattle.pgn_extract.proofs.Common.{◌≡◌, ℕ, List, [], ◌∷◌, length, refl, sym, ◌∙◌}
+use Rattle.pgn_extract.proofs.Common.{subst, eqb-true, arith, false}
 use Rattle.pgn_extract.specs.Private.Packed.{bare_aim, ListsRecord}
 use Rattle.pgn_extract.proofs.PackedFacts.{none_listed}
 use Rattle.pgn_extract.proofs.packed.may_have_entry.Goals as goal

@@ -1,5 +1,6 @@
 use Rattle.std.proofs.Common.{[], length, refl, ap, ◌∙◌}
-use Rattle.pgn_extract.specs.Public.Listing.{AfterPly, is_bare}
+use Rattle.pgn_extract.specs.Public.Listing.{AfterPly}
+use Rattle.pgn_extract.specs.Private.Lines.{is_bare}
 use Rattle.pgn_extract.specs.Public.Rows.{place_of}
 use Rattle.pgn_extract.proofs.ShownTexts.{nothing_shown}
 use Rattle.pgn_extract.proofs.entries.sink.BoolSink.put.Goals as goal
