@@ -13,6 +13,7 @@ use Rattle.pgn_game.proofs.OnBoard.{line_on_board}
 use Rattle.pgn_game.proofs.OneReplay.{same_value}
 use Rattle.pgn_game.specs.Public.MainLines.{main_words}
 use Rattle.pgn_text.specs.Public.Strings.{IsContents, value_of_sign}
+use Rattle.pgn_extract.specs.Public.Annotations.{annotations_at}
 use Rattle.pgn_extract.specs.Public.Listing.{Shown, AfterPly, AsRow, IsShownBy, IsShownOf}
 use Rattle.pgn_extract.specs.Private.Lines.{is_bare}
 use Rattle.pgn_extract.specs.Public.Rows.{RowPlace, place_of, IsTagCell, IsPositionCell}
@@ -29,6 +30,7 @@ use Rattle.pgn_extract.specs.declared.rows.column.PositionColumn.TheVariants.{Me
 use Rattle.pgn_extract.specs.declared.settings.EntryLine.{EntryLine}
 use Rattle.pgn_extract.specs.declared.settings.EntryLine.TheVariants.{Marked, InColumns}
 use Rattle.pgn_extract.proofs.Chosen.{shown_so}
+use Rattle.pgn_extract.proofs.entries.AnnotationFacts.{annotation_is, one_annotation_cell}
 use Rattle.pgn_extract.proofs.PositionTexts.{one_men_text, some_men_text, one_check_text}
 use Rattle.pgn_extract.proofs.PositionTexts.{some_check_text}
 use Rattle.pgn_extract.proofs.FieldTexts.{one_text, some_fields, no_fields, some_position}
@@ -77,7 +79,8 @@ one_cell (Tag name) place x y first other =
 one_cell (OfGame own) place x y first other = first ∙ sym other
 one_cell (OfPly own) place x y first other =
     one_ply_cell own place.replay place.ply x y first other
-one_cell (OfAnnotations own) place x y first other = first ∙ sym other
+one_cell (OfAnnotations own) place x y first other =
+    one_annotation_cell own (annotations_at place.items place.ply) x y first other
 
 one_cells : (columns : List Column) (place : RowPlace) (xs ys : List (List ℕ))
     → AreCells columns place xs → AreCells columns place ys → xs ≡ ys
@@ -140,7 +143,7 @@ module _ (game : GameText) (good : IsGameText game) (lines : Lines) (replay : Re
       some_tag_cell (tag_in own.items game.tags) (λ contents. good.strings own.items contents)
   some_cell name id (OfGame own) = (_, refl)
   some_cell name id (OfPly own) = some_ply_cell own
-  some_cell name id (OfAnnotations own) = (_, refl)
+  some_cell name id (OfAnnotations own) = (_, annotation_is own (annotations_at game.elements ply))
 
   some_cells : (name : Option (List ℕ)) (id : GameId) (columns : List Column)
       → (cells : List (List ℕ)) × AreCells columns (place_of name id game replay ply) cells

@@ -1,4 +1,5 @@
 pub mod ColumnFacts
+pub mod CommandFacts
 pub mod CsvCells
 pub mod JsonCells
 pub mod TsvCells

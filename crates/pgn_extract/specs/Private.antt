@@ -1,5 +1,6 @@
 -- Private words: what the parts of a run do. No public contract cites them.
 pub mod ColumnLists
+pub mod Commands
 pub mod AnnotationLists
 pub mod RowTexts
 pub mod PositionSigns

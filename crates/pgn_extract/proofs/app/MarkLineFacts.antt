@@ -6,7 +6,7 @@ use Rattle.std.proofs.lemmas.Bool.{eq-eqb}
 use Rattle.pgn_extract.proofs.Common.{option_map, cases_Bool, eqb-true, rest_after}
 
 -- a text that begins with the prefix
-follows : (prefix rest : List ℕ) → rest_after prefix (prefix ++ rest) ≡ Some rest
+pub follows : (prefix rest : List ℕ) → rest_after prefix (prefix ++ rest) ≡ Some rest
 follows [] rest = refl
 follows (first ∷ more) rest = rw (eq-eqb first first refl) (follows more rest)
 

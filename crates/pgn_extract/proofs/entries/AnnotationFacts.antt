@@ -2,6 +2,7 @@
 use Rattle.std.proofs.Common.{◌≡◌, ℕ, zero, suc, Bool, true, false, List, [], ◌∷◌, ◌++◌, refl, sym}
 use Rattle.std.proofs.Common.{ap, ◌∙◌, subst, map, append_assoc, append-nil, drop, ◌<◌, arith}
 use Rattle.std.specs.Prelude.{◌==◌, not, ◌-◌, ◌+◌, filter, flat_map, if◌then◌else◌}
+use Rattle.std.specs.Prelude.{codes}
 use Rattle.pgn_text.specs.Public.Bytes.{is_white, is_empty}
 use Rattle.pgn_text.specs.Public.Games.{Item, MoveText, GlyphNumber, CommentText, VariationOpen}
 use Rattle.pgn_text.specs.Public.Games.{VariationClose}
@@ -9,7 +10,12 @@ use Rattle.pgn_game.specs.Public.Comments.{cut_at_white, words_in}
 use Rattle.pgn_game.specs.Public.Comments as comment
 use Rattle.pgn_game.specs.Public.TextLines.{joined}
 use Rattle.pgn_extract.specs.Public.Annotations.{main_items, parted_at_moves, in_first}
-use Rattle.pgn_extract.specs.Public.Annotations.{annotation_lists}
+use Rattle.pgn_extract.specs.Public.Annotations.{annotation_lists, comments_text, IsAnnotationCell}
+use Rattle.pgn_extract.specs.Private.AnnotationLists.{annotation_value}
+use Rattle.pgn_extract.specs.declared.rows.column.AnnotationColumn.{AnnotationColumn}
+use Rattle.pgn_extract.specs.declared.rows.column.AnnotationColumn.TheVariants.{Nags, Comment}
+use Rattle.pgn_extract.specs.declared.rows.column.AnnotationColumn.TheVariants.{Clock, Eval}
+use Rattle.pgn_extract.proofs.rows.CommandFacts.{is_command_value, one_command_value}
 use Rattle.pgn_extract.specs.Private.AnnotationLists.{before_first, spaced, spaced_bytes}
 use Rattle.pgn_extract.proofs.entries.PlainValues.{other_byte}
 
@@ -116,3 +122,21 @@ moved lists new own word items all depth none grown makes =
 pub none_kept : (lists : List (List Item)) (own items : List Item) → lists ≡ [] → own ≡ []
     → lists ++ before_first own (parted_at_moves (main_items items 0)) ≡ annotation_lists items
 none_kept lists own items none empty = rw (none, empty) (first_of (main_items items 0))
+
+-- What a column shows.
+
+pub annotation_is : (own : AnnotationColumn) (items : List Item)
+    → IsAnnotationCell own items (annotation_value own items)
+annotation_is Nags items = refl
+annotation_is Comment items = refl
+annotation_is Clock items = is_command_value (codes "[%clk ") (comments_text items)
+annotation_is Eval items = is_command_value (codes "[%eval ") (comments_text items)
+
+pub one_annotation_cell : (own : AnnotationColumn) (items : List Item) (x y : List ℕ)
+    → IsAnnotationCell own items x → IsAnnotationCell own items y → x ≡ y
+one_annotation_cell Nags items x y first other = first ∙ sym other
+one_annotation_cell Comment items x y first other = first ∙ sym other
+one_annotation_cell Clock items x y first other =
+    one_command_value (codes "[%clk ") (comments_text items) x y first other
+one_annotation_cell Eval items x y first other =
+    one_command_value (codes "[%eval ") (comments_text items) x y first other

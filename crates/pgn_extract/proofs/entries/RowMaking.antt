@@ -11,11 +11,11 @@ use Rattle.pgn_text.specs.Public.Games.{Item}
 use Rattle.pgn_game.specs.Public.Replays.{Replay}
 use Rattle.pgn_extract.specs.Public.Aims.{Aim}
 use Rattle.pgn_extract.specs.Private.Lines.{Where, ShowsPart, ShowsParts}
-use Rattle.pgn_extract.specs.Public.Annotations.{annotation_lists, annotation_value}
+use Rattle.pgn_extract.specs.Public.Annotations.{annotation_lists, IsAnnotationCell}
 use Rattle.pgn_extract.specs.Public.Columns.{is_number_of_ply, is_number_column}
 use Rattle.pgn_extract.specs.Public.Columns.{shows_annotations}
 use Rattle.pgn_extract.specs.Public.Rows.{IsCell, AreCells, place_of}
-use Rattle.pgn_extract.specs.Private.AnnotationLists.{lists_in}
+use Rattle.pgn_extract.specs.Private.AnnotationLists.{annotation_value, lists_in}
 use Rattle.pgn_extract.specs.Private.RowTexts.{IsPartText, ArePartTexts, column_of, value_text}
 use Rattle.pgn_extract.specs.Private.RowTexts.{part_quote}
 use Rattle.pgn_extract.specs.Private.RowTexts.{columns_of}
@@ -30,6 +30,7 @@ use Rattle.pgn_extract.specs.declared.entries.row_maker.RowPart.{RowPart}
 use Rattle.pgn_extract.specs.declared.marks.GameId.{GameId}
 use Rattle.pgn_extract.specs.declared.rows.column.Column.{Column}
 use Rattle.pgn_extract.specs.declared.rows.column.Format.{Format}
+use Rattle.pgn_extract.proofs.entries.AnnotationFacts.{annotation_is}
 use Rattle.pgn_extract.proofs.entries.PlainValues.{plain_text, other_byte}
 
 -- what stands after all parts stands at the end
@@ -118,7 +119,9 @@ cell_of format lists (kind.OfPly own) name id game replay ply text known (is, pl
     (text, is, plain_text format (is_number_of_ply own) text plain)
 cell_of format lists (kind.OfAnnotations own) name id game replay ply text known is = (
   annotation_value own (get_or lists ply []),
-  ap (λ (all : List (List Item)). annotation_value own (get_or all ply [])) (known refl),
+  subst (λ (all : List (List Item)). IsAnnotationCell own (get_or all ply [])
+      (annotation_value own (get_or lists ply []))) (known refl)
+      (annotation_is own (get_or lists ply [])),
   append-nil text ∙ is,
 )
 

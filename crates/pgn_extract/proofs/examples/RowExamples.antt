@@ -1,6 +1,7 @@
 -- Worked examples of rows: cells, strings and members as they are written, names and numbers.
-use Rattle.std.proofs.Common.{◌≡◌, ◌++◌, ℕ, List, [], ◌∷◌, true, false, inl, inr, refl}
-use Rattle.std.specs.Prelude.{codes, decimal, Option, Some, None}
+use Rattle.std.proofs.Common.{◌≡◌, ◌≤◌, ◌++◌, ℕ, List, [], ◌∷◌, true, false, inl, inr, refl}
+use Rattle.std.proofs.Common.{ap, arith, drop, length}
+use Rattle.std.specs.Prelude.{bytes_eq, codes, decimal, Option, Some, None, ◌==◌}
 use Rattle.std.specs.List.{slice_get}
 use Rattle.chess.specs.Public.Fen.{IsFen}
 use Rattle.chess.specs.Public.Moves.{IsStalemate}
@@ -9,9 +10,11 @@ use Rattle.pgn_game.specs.Public.Replays.{Replay}
 use Rattle.pgn_game.specs.declared.exports.notation.Notation.{Notation}
 use Rattle.pgn_game.specs.declared.exports.notation.Notation.TheVariants.{San, Uci}
 use Rattle.pgn_criteria.specs.Public.Meeting.{Heading}
+use Rattle.pgn_text.specs.Public.Bytes.{begins}
 use Rattle.pgn_text.specs.Public.Games.{Item, MoveText, GlyphNumber, CommentText, VariationOpen}
 use Rattle.pgn_text.specs.Public.Games.{VariationClose}
-use Rattle.pgn_extract.specs.Public.Annotations.{annotations_at, annotation_lists, annotation_value}
+use Rattle.pgn_extract.specs.Public.Annotations.{annotations_at, annotation_lists, IsCommandAt}
+use Rattle.pgn_extract.specs.Public.Annotations.{IsCommandValue, IsAnnotationCell, missing, stands}
 use Rattle.pgn_extract.specs.Public.Columns.{column_name, is_number_column}
 use Rattle.pgn_extract.specs.Public.Csv as csv
 use Rattle.pgn_extract.specs.Public.GivenMarks.{game_id}
@@ -21,6 +24,7 @@ use Rattle.pgn_extract.specs.Public.Rows.{IsLineCell, IsMoveCell, IsPlyCell, IsT
 use Rattle.pgn_extract.specs.Public.Rows.{row_text}
 use Rattle.pgn_extract.specs.Public.Tsv as tsv
 use Rattle.pgn_extract.specs.declared.rows.column.AnnotationColumn.TheVariants.{Nags, Comment}
+use Rattle.pgn_extract.specs.declared.rows.column.AnnotationColumn.TheVariants.{Clock, Eval}
 use Rattle.pgn_extract.specs.declared.rows.column.Column.TheVariants.{OfGame, OfPly, OfAnnotations}
 use Rattle.pgn_extract.specs.declared.rows.column.Format.TheVariants.{Csv, Tsv, Jsonl}
 use Rattle.pgn_extract.specs.declared.rows.column.GameColumn.TheVariants.{File, Game, Offset, Id}
@@ -30,6 +34,9 @@ use Rattle.pgn_extract.specs.declared.rows.column.PlyColumn.TheVariants.{Ply, Of
 use Rattle.pgn_extract.specs.declared.rows.column.PlyColumn.TheVariants.{NextUci, OfLine}
 use Rattle.pgn_extract.specs.declared.rows.column.PositionColumn.TheVariants.{Fen, Turn, Number}
 use Rattle.pgn_extract.specs.declared.rows.column.PositionColumn.TheVariants.{Men, Check, Material}
+use Rattle.pgn_extract.proofs.Common.{false≢true}
+use Rattle.pgn_extract.proofs.rows.CommandFacts.{command_closes, is_command_value}
+use Rattle.pgn_extract.proofs.rows.CommandFacts.{one_command_value}
 
 plain_cell : csv.cell_text (codes "Tal") ≡ codes "Tal"
 plain_cell = refl
@@ -70,11 +77,12 @@ names : column_name (OfGame File) ∷ column_name (OfGame Game) ∷ column_name 
     ∷ column_name (OfPly (OfPosition Number)) ∷ column_name (OfPly Next)
     ∷ column_name (OfPly (OfPosition Men)) ∷ column_name (OfPly (OfPosition Check))
     ∷ column_name (OfPly (OfPosition Material)) ∷ column_name (OfPly NextUci)
-    ∷ column_name (OfAnnotations Nags) ∷ column_name (OfAnnotations Comment) ∷ []
+    ∷ column_name (OfAnnotations Nags) ∷ column_name (OfAnnotations Comment)
+    ∷ column_name (OfAnnotations Clock) ∷ column_name (OfAnnotations Eval) ∷ []
     ≡ codes "@file" ∷ codes "@game" ∷ codes "@offset" ∷ codes "@id" ∷ codes "@result"
     ∷ codes "@ply" ∷ codes "@fen" ∷ codes "@turn" ∷ codes "@number" ∷ codes "@next"
     ∷ codes "@placement" ∷ codes "@check" ∷ codes "@material" ∷ codes "@next-uci"
-    ∷ codes "@nags" ∷ codes "@comment" ∷ []
+    ∷ codes "@nags" ∷ codes "@comment" ∷ codes "@clk" ∷ codes "@eval" ∷ []
 names = refl
 
 numbers : is_number_column (OfGame File) ∷ is_number_column (OfGame Game)
@@ -84,9 +92,10 @@ numbers : is_number_column (OfGame File) ∷ is_number_column (OfGame Game)
     ∷ is_number_column (OfPly (OfPosition Number)) ∷ is_number_column (OfPly Next)
     ∷ is_number_column (OfPly (OfPosition Men)) ∷ is_number_column (OfPly (OfPosition Check))
     ∷ is_number_column (OfPly (OfPosition Material)) ∷ is_number_column (OfPly NextUci)
-    ∷ is_number_column (OfAnnotations Nags) ∷ is_number_column (OfAnnotations Comment) ∷ []
+    ∷ is_number_column (OfAnnotations Nags) ∷ is_number_column (OfAnnotations Comment)
+    ∷ is_number_column (OfAnnotations Clock) ∷ is_number_column (OfAnnotations Eval) ∷ []
     ≡ false ∷ true ∷ true ∷ false ∷ false ∷ true ∷ false ∷ false ∷ true ∷ false ∷ false ∷ false
-    ∷ false ∷ false ∷ false ∷ false ∷ []
+    ∷ false ∷ false ∷ false ∷ false ∷ false ∷ false ∷ []
 numbers = refl
 
 -- what columns show of the second game, which begins at the byte 22
@@ -178,13 +187,57 @@ annotations_by_ply = refl
 no_annotations_past_the_end : annotations_at annotated 3 ≡ []
 no_annotations_past_the_end = refl
 
-nags_shown : annotation_value Nags
+nags_shown : IsAnnotationCell Nags
     (GlyphNumber 1 ∷ CommentText (codes "x") ∷ GlyphNumber 14 ∷ [])
-    ≡ 36 ∷ (decimal 1 ++ (32 ∷ 36 ∷ decimal 14))
+    (36 ∷ (decimal 1 ++ (32 ∷ 36 ∷ decimal 14)))
 nags_shown = refl
 
 -- its words alone, and those of the next comment
-comments_shown : annotation_value Comment
+comments_shown : IsAnnotationCell Comment
     (CommentText (codes " a\n b ") ∷ GlyphNumber 1 ∷ CommentText [] ∷ CommentText (codes "c") ∷ [])
-    ≡ codes "a b c"
+    (codes "a b c")
 comments_shown = refl
+
+-- The values of commands.
+
+abbrev two_clocks : List ℕ
+two_clocks = codes "b [%clk 0:09] [%clk 0:08]"
+
+not_before : (other own : List ℕ) → IsCommandAt (codes "[%clk ") two_clocks other own
+    → 2 ≤ length other
+not_before [] own at = absurd (false≢true (ap (begins (λ b. b == 91)) at.parted))
+not_before (a ∷ []) own at =
+    absurd (false≢true (ap (λ t. begins (λ b. b == 91) (drop 1 t)) at.parted))
+not_before (a ∷ b ∷ other) own at = omega arith
+
+first_clock : IsAnnotationCell Clock
+    (CommentText (codes "b [%clk 0:09]\n") ∷ CommentText (codes "[%clk 0:08]") ∷ []) (codes "0:09")
+first_clock =
+    stands (codes "b ") (record { after = codes " [%clk 0:08]"; parted = refl; within = refl })
+    not_before
+
+-- not that of the second
+no_second_clock : IsCommandValue (codes "[%clk ") two_clocks (codes "0:08") → ⊥
+no_second_clock is =
+    false≢true (ap (λ t. bytes_eq t (codes "0:08"))
+    (one_command_value (codes "[%clk ") two_clocks _ _ first_clock is))
+
+-- a command has a bracket after its value
+abbrev open_clock : List ℕ
+open_clock = codes "[%clk 0:09"
+
+never_closed : (before own : List ℕ) → IsCommandAt (codes "[%clk ") open_clock before own → ⊥
+never_closed before own at = cc (command_closes (codes "[%clk ") open_clock before own at)
+
+no_clock : IsCommandValue (codes "[%clk ") open_clock []
+no_clock = missing never_closed refl
+
+-- and is called so
+no_clock_of_an_evaluation : IsAnnotationCell Clock (CommentText (codes "[%eval 0.3]") ∷ [])
+    (codes "0.3") → ⊥
+no_clock_of_an_evaluation is =
+    cc (one_command_value (codes "[%clk ") (codes "[%eval 0.3]") _ _ is
+    (is_command_value (codes "[%clk ") (codes "[%eval 0.3]")))
+
+evaluation_shown : IsAnnotationCell Eval (CommentText (codes "[%eval #-3]") ∷ []) (codes "#-3")
+evaluation_shown = is_command_value (codes "[%eval ") (codes "[%eval #-3]")

@@ -16,6 +16,7 @@ use Rattle.pgn_extract.specs.Public.ObjectLaws.{NamesAreAsAsked, read_members}
 use Rattle.pgn_extract.specs.Public.Rows.{RowPlace, AreCells}
 use Rattle.pgn_extract.specs.declared.rows.column.AnnotationColumn.{AnnotationColumn}
 use Rattle.pgn_extract.specs.declared.rows.column.AnnotationColumn.TheVariants.{Nags, Comment}
+use Rattle.pgn_extract.specs.declared.rows.column.AnnotationColumn.TheVariants.{Clock, Eval}
 use Rattle.pgn_extract.specs.declared.rows.column.Column.{Column}
 use Rattle.pgn_extract.specs.declared.rows.column.Column.TheVariants.{Tag, OfGame, OfPly}
 use Rattle.pgn_extract.specs.declared.rows.column.Column.TheVariants.{OfAnnotations}
@@ -59,6 +60,8 @@ annotation_name_is_low : (own : AnnotationColumn)
     → list_all is_low (annotation_column_name own) ≡ true
 annotation_name_is_low Nags = refl
 annotation_name_is_low Comment = refl
+annotation_name_is_low Clock = refl
+annotation_name_is_low Eval = refl
 
 name_byte_is_low : (b : ℕ) → is_name_byte b ≡ true → is_low b ≡ true
 name_byte_is_low b is = grind (arith, nat_tests)

@@ -6,13 +6,12 @@ use Rattle.std.specs.List.{list_any}
 use Rattle.pgn_text.specs.Public.GameTexts.{GameText}
 use Rattle.pgn_text.specs.Public.Games.{Item}
 use Rattle.pgn_game.specs.Public.Replays.{Replay}
-use Rattle.pgn_extract.specs.Public.Annotations.{annotation_value}
 use Rattle.pgn_extract.specs.Public.Columns.{column_name, is_number_column, is_number_of_ply}
 use Rattle.pgn_extract.specs.Public.Csv as csv
 use Rattle.pgn_extract.specs.Public.Json as json
 use Rattle.pgn_extract.specs.Public.Rows.{IsPlyCell, IsCell, AreCells, place_of}
 use Rattle.pgn_extract.specs.Public.Tsv as tsv
-use Rattle.pgn_extract.specs.Private.AnnotationLists.{lists_in}
+use Rattle.pgn_extract.specs.Private.AnnotationLists.{annotation_value, lists_in}
 use Rattle.pgn_extract.specs.declared.marks.GameId.{GameId}
 use Rattle.pgn_extract.specs.declared.entries.row_maker.PartColumn.{PartColumn}
 use Rattle.pgn_extract.specs.declared.entries.row_maker.PartColumn.TheVariants as kind

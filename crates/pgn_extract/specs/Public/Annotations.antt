@@ -1,13 +1,14 @@
 -- The annotations of a game: the NAGs and comments of its main line, by the ply after which they
 -- stand.
-use Rattle.std.specs.Prelude.{ℕ, ◌+◌, ◌-◌, ◌==◌, if◌then◌else◌, List, [], ◌∷◌, flat_map, get_or}
-use Rattle.std.specs.Prelude.{decimal}
+use Rattle.std.specs.Prelude.{◌≡◌, ◌≤◌, ℕ, ◌+◌, ◌-◌, ◌==◌, false, if◌then◌else◌, List, [], ◌∷◌}
+use Rattle.std.specs.Prelude.{◌++◌, flat_map, get_or, decimal, codes, length}
 use Rattle.pgn_text.specs.Public.Games.{Item, MoveText, GlyphNumber, CommentText, VariationOpen}
 use Rattle.pgn_text.specs.Public.Games.{VariationClose}
-use Rattle.pgn_game.specs.Public.Comments.{words_in}
+use Rattle.pgn_game.specs.Public.Comments.{has_bracket, words_in}
 use Rattle.pgn_game.specs.Public.TextLines.{joined}
 use Rattle.pgn_extract.specs.declared.rows.column.AnnotationColumn.{AnnotationColumn}
 use Rattle.pgn_extract.specs.declared.rows.column.AnnotationColumn.TheVariants.{Nags, Comment}
+use Rattle.pgn_extract.specs.declared.rows.column.AnnotationColumn.TheVariants.{Clock, Eval}
 
 -- the elements that stand in no variation, where so many variations are open before the elements
 -- (PGN 8.2.5)
@@ -54,11 +55,29 @@ abbrev pub comment_words : Item → List (List ℕ)
 comment_words (CommentText text) = words_in text
 comment_words _ = []
 
--- what a column shows of annotations: the NAGs, or the words of the comments, with a space between
--- two
-abbrev pub annotation_words : AnnotationColumn → Item → List (List ℕ)
-annotation_words Nags item = nag_texts item
-annotation_words Comment item = comment_words item
+-- the words of all comments, with a space between two
+abbrev pub comments_text : List Item → List ℕ
+comments_text items = joined (flat_map comment_words items)
 
-abbrev pub annotation_value : AnnotationColumn → List Item → List ℕ
-annotation_value own items = joined (flat_map (annotation_words own) items)
+-- a command begins so after these bytes of a text, and this is its value: what stands before the
+-- next closing bracket
+pub record IsCommandAt (opening text before value : List ℕ) : Type 0 where
+  pub after : List ℕ
+  pub parted : text ≡ before ++ (opening ++ (value ++ 93 ∷ after))
+  pub within : has_bracket value ≡ false
+
+-- the value of the first command of a text that begins so, and nothing where none does
+pub data IsCommandValue (opening text value : List ℕ) : Type 0 where
+  stands : (before : List ℕ) → IsCommandAt opening text before value
+      → ((other own : List ℕ) → IsCommandAt opening text other own → length before ≤ length other)
+      → IsCommandValue opening text value
+  missing : ((before own : List ℕ) → IsCommandAt opening text before own → ⊥) → value ≡ []
+      → IsCommandValue opening text value
+
+-- what a column shows of annotations: the NAGs with a space between two, the comments, or the value
+-- of a command of theirs
+abbrev pub IsAnnotationCell : AnnotationColumn → List Item → List ℕ → Type 0
+IsAnnotationCell Nags items cell = cell ≡ joined (flat_map nag_texts items)
+IsAnnotationCell Comment items cell = cell ≡ comments_text items
+IsAnnotationCell Clock items cell = IsCommandValue (codes "[%clk ") (comments_text items) cell
+IsAnnotationCell Eval items cell = IsCommandValue (codes "[%eval ") (comments_text items) cell

@@ -13,6 +13,7 @@ use Rattle.pgn_extract.specs.declared.rows.column.LineColumn.{LineColumn}
 use Rattle.pgn_extract.specs.declared.rows.column.LineColumn.TheVariants.{Plies, Last, Moves}
 use Rattle.pgn_extract.specs.declared.rows.column.AnnotationColumn.{AnnotationColumn}
 use Rattle.pgn_extract.specs.declared.rows.column.AnnotationColumn.TheVariants.{Nags, Comment}
+use Rattle.pgn_extract.specs.declared.rows.column.AnnotationColumn.TheVariants.{Clock, Eval}
 use Rattle.pgn_extract.specs.declared.rows.column.PlyColumn.{PlyColumn}
 use Rattle.pgn_extract.specs.declared.rows.column.PlyColumn.TheVariants.{Ply, OfPosition, Next}
 use Rattle.pgn_extract.specs.declared.rows.column.PlyColumn.TheVariants.{NextUci, OfLine}
@@ -57,6 +58,8 @@ ply_column_name (OfLine own) = line_column_name own
 abbrev pub annotation_column_name : AnnotationColumn → List ℕ
 annotation_column_name Nags = codes "@nags"
 annotation_column_name Comment = codes "@comment"
+annotation_column_name Clock = codes "@clk"
+annotation_column_name Eval = codes "@eval"
 
 -- the name of a column, as the header and the names of members show it
 abbrev pub column_name : Column → List ℕ

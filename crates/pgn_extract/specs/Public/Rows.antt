@@ -17,7 +17,7 @@ use Rattle.pgn_extract.specs.Public.Columns.{column_name, is_number_column}
 use Rattle.pgn_extract.specs.Public.Csv as csv
 use Rattle.pgn_extract.specs.Public.Index.{mark}
 use Rattle.pgn_extract.specs.Public.Json.{Member, object_text}
-use Rattle.pgn_extract.specs.Public.Annotations.{annotations_at, annotation_value}
+use Rattle.pgn_extract.specs.Public.Annotations.{annotations_at, IsAnnotationCell}
 use Rattle.pgn_extract.specs.Public.PositionCells.{IsMenText, IsCheckText, material_text}
 use Rattle.pgn_extract.specs.Public.Tsv as tsv
 use Rattle.pgn_extract.specs.declared.marks.GameId.{GameId}
@@ -137,7 +137,7 @@ IsCell (Tag name) place cell = IsTagCell (place.heading.named name.items) cell
 IsCell (OfGame own) place cell = cell ≡ game_cell own place.name place.id place.heading
 IsCell (OfPly own) place cell = IsPlyCell own place.replay place.ply cell
 IsCell (OfAnnotations own) place cell =
-    cell ≡ annotation_value own (annotations_at place.items place.ply)
+    IsAnnotationCell own (annotations_at place.items place.ply) cell
 
 -- the cells of columns, in their order
 abbrev pub AreCells : List Column → RowPlace → List (List ℕ) → Type 0

@@ -182,8 +182,8 @@ const MODES: &[Choice] = &[
         "A row for each position that --list has: names of\n\
          tags, and @file @game @offset @id @ply @fen @placement\n\
          @turn @number @check @material @next @next-uci @last\n\
-         @last-uci @nags @comment @result @plies @moves @uci, with\n\
-         commas between",
+         @last-uci @nags @comment @clk @eval @result @plies\n\
+         @moves @uci, with commas between",
     ),
     choice!("csv", "With --rows, values with commas between [default]"),
     choice!("tsv", "With --rows, values with tabs between"),

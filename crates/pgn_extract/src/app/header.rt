@@ -22,7 +22,7 @@ use std::io::Write;
 use strsim::levenshtein;
 
 /// The names of the columns that are no tags.
-const OWN_NAMES: [&str; 21] = [
+const OWN_NAMES: [&str; 23] = [
     "@file",
     "@game",
     "@offset",
@@ -44,6 +44,8 @@ const OWN_NAMES: [&str; 21] = [
     "@uci",
     "@nags",
     "@comment",
+    "@clk",
+    "@eval",
 ];
 
 /// Why the columns are refused: a line of the program, or one that names a column.

@@ -5,14 +5,15 @@ ghost use Rattle.pgn_text.specs.Public.Bytes.{is_white as is_white_byte};
 ghost use Rattle.pgn_text.specs.Public.Elements.{item_of};
 ghost use Rattle.pgn_text.specs.Public.Games.{Item};
 ghost use Rattle.pgn_game.specs.Public.Comments.{words_in};
-ghost use Rattle.pgn_extract.specs.Public.Annotations.{annotation_lists, annotation_words};
-ghost use Rattle.pgn_extract.specs.Public.Annotations.{annotation_value};
-ghost use Rattle.pgn_extract.specs.Private.AnnotationLists.{lists_in, MakesLists, spaced};
-ghost use Rattle.pgn_extract.specs.Private.AnnotationLists.{spaced_byte};
+ghost use Rattle.pgn_extract.specs.Public.Annotations.{annotation_lists};
+ghost use Rattle.pgn_extract.specs.Private.AnnotationLists.{annotation_value, annotation_words};
+ghost use Rattle.pgn_extract.specs.Private.AnnotationLists.{lists_in, MakesLists, shown_of};
+ghost use Rattle.pgn_extract.specs.Private.AnnotationLists.{spaced, spaced_byte};
 ghost use Rattle.pgn_extract.specs.Private.RowTexts.{value_text};
 
 use crate::output::texts::push_number;
 use crate::rows::column::{AnnotationColumn, Format};
+use crate::rows::commands::command_value;
 use crate::rows::format::push_value;
 use pgn_text::{Element, RawGame};
 use std::alloc::{AllocError, Global};
@@ -152,7 +153,7 @@ fn push_annotation(
 {
     match element {
         Element::Glyph(number) if column == AnnotationColumn::Nags => push_nag(own, number),
-        Element::Comment(text) if column == AnnotationColumn::Comment => push_words(own, text),
+        Element::Comment(text) if column != AnnotationColumn::Nags => push_words(own, text),
         _ => Ok(()),
     }
 }
@@ -182,6 +183,17 @@ fn without_first(text: &[u8]) -> &[u8]
     }
 }
 
+/// What a column shows, of the NAGs or of the text of the comments.
+fn shown_of(column: AnnotationColumn, text: &[u8]) -> &[u8]
+    ensures { result.now ≡ shown_of column text.now }
+{
+    match column {
+        AnnotationColumn::Nags | AnnotationColumn::Comment => text,
+        AnnotationColumn::Clock => command_value(b"[%clk ", text),
+        AnnotationColumn::Eval => command_value(b"[%eval ", text),
+    }
+}
+
 /// Appends the text of what a column shows of annotations.
 pub(crate) fn push_annotation_value(
     text: &mut Vec<u8>,
@@ -195,5 +207,5 @@ pub(crate) fn push_annotation_value(
 {
     let mut own = Vec::new(alloc);
     push_annotations(&mut own, column, elements)?;
-    push_value(text, format, false, without_first(&own))
+    push_value(text, format, false, shown_of(column, without_first(&own)))
 }

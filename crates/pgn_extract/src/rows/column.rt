@@ -87,6 +87,10 @@ pub enum AnnotationColumn {
     Nags,
     /// The words of the comments.
     Comment,
+    /// The value of the first command `%clk` of them.
+    Clock,
+    /// The value of the first command `%eval` of them.
+    Eval,
 }
 
 /// What a column shows.
@@ -238,6 +242,8 @@ impl AnnotationColumn {
         match self {
             AnnotationColumn::Nags => b"@nags",
             AnnotationColumn::Comment => b"@comment",
+            AnnotationColumn::Clock => b"@clk",
+            AnnotationColumn::Eval => b"@eval",
         }
     }
 }

@@ -129,6 +129,8 @@ fn annotation_column(name: &[u8]) -> Option<AnnotationColumn>
     match name {
         b"@nags" => Some(AnnotationColumn::Nags),
         b"@comment" => Some(AnnotationColumn::Comment),
+        b"@clk" => Some(AnnotationColumn::Clock),
+        b"@eval" => Some(AnnotationColumn::Eval),
         _ => None,
     }
 }

@@ -1,7 +1,6 @@
 use Rattle.std.proofs.Common.{◌≡◌, ◌++◌, take, map, flat_map}
 use Rattle.pgn_text.specs.Public.Elements.{item_of}
-use Rattle.pgn_extract.specs.Public.Annotations.{annotation_words}
-use Rattle.pgn_extract.specs.Private.AnnotationLists.{spaced}
+use Rattle.pgn_extract.specs.Private.AnnotationLists.{annotation_words, spaced}
 use Rattle.pgn_extract.proofs.entries.annotations.push_annotations.Given as goal
 
 abbrev pub invariant-loop-element : goal.invariant-loop-element

@@ -2,8 +2,7 @@ use Rattle.pgn_extract.proofs.Common.{[], List, length, sym, ap, ◌∙◌, subs
 use Rattle.std.proofs.Common.{false, map}
 use Rattle.pgn_text.specs.Public.Elements.{item_of}
 use Rattle.pgn_text.specs.Public.Games.{Item}
-use Rattle.pgn_extract.specs.Public.Annotations.{annotation_value}
-use Rattle.pgn_extract.specs.Private.AnnotationLists.{lists_in}
+use Rattle.pgn_extract.specs.Private.AnnotationLists.{annotation_value, lists_in}
 use Rattle.pgn_extract.specs.Private.RowTexts.{IsPartText, IsShownWith, value_text}
 use Rattle.pgn_extract.specs.declared.entries.row_maker.PartColumn.{PartColumn}
 use Rattle.pgn_extract.proofs.entries.row_maker.RowMaker.push_part.Goals as goal
