@@ -1,8 +1,8 @@
 -- What is known of the games that have a record.
 use Rattle.std.specs.Prelude.{◌==◌, ◌/◌, ◌%◌}
-use Rattle.pgn_extract.proofs.Common.{◌≡◌, ◌⊎◌, ℕ, ◌+◌, ◌*◌, ◌<◌, inl, inr, List, [], ◌∷◌}
+use Rattle.pgn_extract.proofs.Common.{◌≡◌, ◌⊎◌, ℕ, ◌+◌, ◌*◌, inl, inr, List, [], ◌∷◌}
 use Rattle.pgn_extract.proofs.Common.{◌++◌, length, false, IsTrue, or_some, false≢true, decimal}
-use Rattle.pgn_extract.proofs.Common.{length-append, GameId, Option, AreChosen, plies_of, none}
+use Rattle.pgn_extract.proofs.Common.{GameId, Option, AreChosen, plies_of, none}
 use Rattle.pgn_extract.proofs.Common.{keep, leave, Bool, not, ◌&&◌, refl, aim_of}
 use Rattle.pgn_extract.proofs.Common.{Some, sym, ap, ◌∙◌, subst, append-nil, arith, slice_get}
 use Rattle.pgn_extract.proofs.Common.{same_Some, State, Move, GameText, tag_in, main_words}

@@ -1,7 +1,7 @@
 -- How the annotations of a game are kept, and how the value of a column is made of them.
-use Rattle.std.proofs.Common.{◌≡◌, ℕ, zero, suc, Bool, true, false, List, [], ◌∷◌, ◌++◌, refl, sym}
-use Rattle.std.proofs.Common.{ap, ◌∙◌, subst, map, append_assoc, append-nil, drop, ◌<◌, arith}
-use Rattle.std.specs.Prelude.{◌==◌, not, ◌-◌, ◌+◌, filter, flat_map, if◌then◌else◌}
+use Rattle.std.proofs.Common.{◌≡◌, ℕ, Bool, true, false, List, [], ◌∷◌, ◌++◌, refl, sym}
+use Rattle.std.proofs.Common.{ap, ◌∙◌, append_assoc, append-nil, drop}
+use Rattle.std.specs.Prelude.{not, filter}
 use Rattle.std.specs.Prelude.{codes}
 use Rattle.pgn_text.specs.Public.Bytes.{is_white, is_empty}
 use Rattle.pgn_text.specs.Public.Games.{Item, MoveText, GlyphNumber, CommentText, VariationOpen}
@@ -17,7 +17,6 @@ use Rattle.pgn_extract.specs.declared.rows.column.AnnotationColumn.TheVariants.{
 use Rattle.pgn_extract.specs.declared.rows.column.AnnotationColumn.TheVariants.{Clock, Eval}
 use Rattle.pgn_extract.proofs.rows.CommandFacts.{is_command_value, one_command_value}
 use Rattle.pgn_extract.specs.Private.AnnotationLists.{before_first, spaced, spaced_bytes}
-use Rattle.pgn_extract.proofs.entries.PlainValues.{other_byte}
 
 -- The words of a text.
 

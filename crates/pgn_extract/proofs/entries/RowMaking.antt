@@ -3,7 +3,7 @@ use Rattle.std.proofs.Common.{◌≡◌, ℕ, true, false, List, [], ◌∷◌, 
 use Rattle.std.proofs.Common.{◌+◌, ◌<◌, subst, append_assoc, append-nil, arith, get_or, length}
 use Rattle.std.proofs.Common.{length-append}
 use Rattle.std.proofs.Common.{take}
-use Rattle.std.specs.Prelude.{Option, zero, suc, ◌==◌, map, if◌then◌else◌}
+use Rattle.std.specs.Prelude.{Option, zero, suc, ◌==◌, if◌then◌else◌}
 use Rattle.std.proofs.lemmas.List.{map-append, take_more}
 use Rattle.chess.specs.Public.Positions.{State}
 use Rattle.pgn_text.specs.Public.GameTexts.{GameText}

@@ -4,11 +4,11 @@ use Rattle.std.specs.Prelude.{◌≢◌, ◌↔◌, codes, Result, Err, IsErrOf}
 use Rattle.std.proofs.Math.Seq.{drop-append_seam}
 use Rattle.std.proofs.lemmas.List.{take_all, take_at, length-append}
 use Rattle.pgn_extract.proofs.Common.{◌≡◌, ℕ, List, [], ◌∷◌, ◌++◌, length, Option, Some}
-use Rattle.pgn_extract.proofs.Common.{None, refl, sym, ap, ◌∙◌, subst, arith, slice_get}
+use Rattle.pgn_extract.proofs.Common.{None, refl, sym, ap, ◌∙◌, arith, slice_get}
 use Rattle.pgn_extract.proofs.Common.{IsLegal, State, Move, IsMainLine}
 use Rattle.chess.specs.Public.Letters.{square_text}
 use Rattle.chess.specs.Public.Positions.{IsSound}
-use Rattle.chess.specs.Public.San.{IsNamed, IsOnlyNamed, IsSan}
+use Rattle.chess.specs.Public.San.{IsNamed, IsOnlyNamed}
 use Rattle.chess.specs.declared.board.man.Kind.{Kind}
 use Rattle.chess.specs.declared.move_text.SanError.{SanError}
 use Rattle.chess.specs.declared.move_text.SanError.TheVariants as err

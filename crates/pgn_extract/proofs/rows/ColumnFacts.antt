@@ -12,7 +12,6 @@ use Rattle.pgn_extract.specs.declared.rows.column.Column.{Column}
 use Rattle.pgn_extract.specs.declared.rows.column.Column.TheVariants as col
 use Rattle.std.proofs.lemmas.Bool.{or_parts}
 use Rattle.pgn_extract.specs.declared.rows.list.ColumnsError.{ColumnsError}
-use Rattle.pgn_extract.specs.declared.rows.list.ColumnsError.TheVariants as err
 use Rattle.chess.proofs.FieldFacts.{parted_after, parted_by_run}
 use Rattle.chess.specs.Public.Fen.{parted_at}
 use Rattle.chess.specs.Shared.Runs.{run_of, after_run}

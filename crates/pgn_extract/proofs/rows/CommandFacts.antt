@@ -1,9 +1,7 @@
 -- The value that is found of a command is the one that its definition says.
-use Rattle.std.proofs.lemmas.Bool.{eq-eqb}
-use Rattle.std.proofs.lemmas.List.Folds.{list_any-append}
-use Rattle.std.specs.Prelude.{◌==◌, ◌||◌, if◌then◌else◌}
-use Rattle.pgn_extract.proofs.Common.{◌≡◌, ◌≢◌, ◌<◌, ◌≤◌, ℕ, Bool, true, false, List, [], ◌∷◌, ◌++◌}
-use Rattle.pgn_extract.proofs.Common.{Option, None, Some, length, refl, sym, ap, ◌∙◌, subst, arith}
+use Rattle.std.specs.Prelude.{◌==◌}
+use Rattle.pgn_extract.proofs.Common.{◌≡◌, ◌≢◌, ◌≤◌, ℕ, true, false, List, [], ◌∷◌, ◌++◌}
+use Rattle.pgn_extract.proofs.Common.{Option, None, Some, length, refl, sym, ap, ◌∙◌, arith}
 use Rattle.pgn_extract.proofs.Common.{cases_Bool, eqb-true, same_Some, inl, inr, length-append}
 use Rattle.pgn_extract.proofs.Common.{append_assoc, rest_after, drop}
 use Rattle.chess.proofs.FieldFacts.{run_whole}

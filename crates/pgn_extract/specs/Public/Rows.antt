@@ -11,7 +11,7 @@ use Rattle.pgn_game.specs.Public.GameLines.{IsMoveText, AreMoveTexts, uci_text}
 use Rattle.pgn_game.specs.Public.Replays.{Replay}
 use Rattle.pgn_game.specs.Public.Starts.{IsValueOf}
 use Rattle.pgn_game.specs.declared.exports.notation.Notation.{Notation}
-use Rattle.pgn_game.specs.declared.exports.notation.Notation.TheVariants.{San, Uci}
+use Rattle.pgn_game.specs.declared.exports.notation.Notation.TheVariants.{San}
 use Rattle.pgn_criteria.specs.Public.Meeting.{Heading, heading_of}
 use Rattle.pgn_extract.specs.Public.Columns.{column_name, is_number_column}
 use Rattle.pgn_extract.specs.Public.Csv as csv

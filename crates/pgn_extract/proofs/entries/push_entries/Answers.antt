@@ -1,10 +1,10 @@
-use Rattle.std.proofs.Common.{◌≡◌, ◌++◌, [], ap, ◌∙◌, sym, subst, List, IfSome}
+use Rattle.std.proofs.Common.{◌≡◌, ◌++◌, ap, ◌∙◌, sym, subst, List, IfSome}
 use Rattle.pgn_extract.proofs.Common.{IfSome_then, on_ok_weaker, MatchResult-weaker, Aim, aim_of}
 use Rattle.pgn_extract.proofs.Common.{fault_of, named_mark, AddsEntries, StopsAtFault, HandsOn}
 use Rattle.pgn_extract.proofs.Common.{Entry, GameId, GameText, marked_lines}
 use Rattle.pgn_extract.specs.Private.Lines.{made_line}
 use Rattle.pgn_extract.specs.declared.settings.EntryLine.{EntryLine}
-use Rattle.pgn_extract.proofs.Finds.{adds_lines, none_yet, on_result, stops_of}
+use Rattle.pgn_extract.proofs.Finds.{adds_lines, on_result, stops_of}
 use Rattle.pgn_extract.proofs.Picks.{asks_given, none_given}
 use Rattle.pgn_extract.proofs.entries.LineMaking.{makes_named}
 use Rattle.pgn_extract.proofs.entries.push_entries.Goals as goal

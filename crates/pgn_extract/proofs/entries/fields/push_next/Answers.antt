@@ -1,5 +1,5 @@
-use Rattle.pgn_extract.proofs.Common.{◌≡◌, ◌∷◌, ◌++◌, [], List, ℕ, sym, ap, ◌∙◌, subst, arith}
-use Rattle.pgn_extract.proofs.Common.{append_assoc, append-nil, length, IfSome_then, on_ok_weaker}
+use Rattle.pgn_extract.proofs.Common.{◌≡◌, ◌∷◌, ◌++◌, [], sym, ap, ◌∙◌, arith}
+use Rattle.pgn_extract.proofs.Common.{append_assoc, append-nil, IfSome_then}
 use Rattle.pgn_extract.proofs.Common.{err_from_is_err_and}
 use Rattle.std.specs.Prelude.{codes}
 use Rattle.pgn_extract.proofs.entries.FieldFacts.{no_next, next_shown, some_text, no_text}

@@ -1,5 +1,3 @@
-use Rattle.pgn_extract.proofs.examples.RowExamples as row_examples
-use Rattle.pgn_extract.proofs.examples.RequestExamples as request_examples
 use Rattle.std.specs.Prelude.{◌==◌}
 use Rattle.pgn_extract.proofs.Common.{length, sym, ap, ◌∙◌}
 use Rattle.chess.proofs.RestFacts.{no_length}

@@ -1,4 +1,4 @@
-use Rattle.std.proofs.Common.{◌+◌, ◌∷◌, ap, subst, map, drop, arith, List}
+use Rattle.std.proofs.Common.{◌+◌, ap, subst, map, drop, arith, List}
 use Rattle.std.proofs.lemmas.List.{drop_more}
 use Rattle.pgn_text.specs.Public.Elements.{item_of}
 use Rattle.pgn_text.specs.Public.Games.{Item}
