@@ -34,23 +34,22 @@ _pgn_extract_excluded() {
     case $1 in
     --list) _pgn_extract_without --rows --csv --tsv --jsonl --no-header --index --moves --uci \
         --pack --others --faulty --as-is ;;
-    --fen) _pgn_extract_without --rows --csv --tsv --jsonl --no-header --packed --index --moves \
-        --uci --pack --others --faulty --as-is ;;
-    --next) _pgn_extract_without --rows --csv --tsv --jsonl --no-header --packed --index --moves \
-        --uci --pack --others --faulty --as-is ;;
-    --rows) _pgn_extract_without --list --fen --next --packed --index --moves --uci --pack \
+    --fen) _pgn_extract_without --rows --csv --tsv --jsonl --no-header --index --moves --uci \
+        --pack --others --faulty --as-is ;;
+    --next) _pgn_extract_without --rows --csv --tsv --jsonl --no-header --index --moves --uci \
+        --pack --others --faulty --as-is ;;
+    --rows) _pgn_extract_without --list --fen --next --index --moves --uci --pack --others \
+        --faulty --as-is ;;
+    --csv) _pgn_extract_without --list --fen --next --tsv --jsonl --index --moves --uci --pack \
         --others --faulty --as-is ;;
-    --csv) _pgn_extract_without --list --fen --next --tsv --jsonl --packed --index --moves --uci \
-        --pack --others --faulty --as-is ;;
-    --tsv) _pgn_extract_without --list --fen --next --csv --jsonl --packed --index --moves --uci \
-        --pack --others --faulty --as-is ;;
-    --jsonl) _pgn_extract_without --list --fen --next --csv --tsv --packed --index --moves --uci \
-        --pack --others --faulty --as-is ;;
-    --no-header) _pgn_extract_without --list --fen --next --packed --index --moves --uci --pack \
+    --tsv) _pgn_extract_without --list --fen --next --csv --jsonl --index --moves --uci --pack \
         --others --faulty --as-is ;;
-    --packed) _pgn_extract_without --fen --next --rows --csv --tsv --jsonl --no-header --moves \
-        --uci --pack --tags-first --others --faulty --as-is --from --until --at --with-names \
-        --no-names ;;
+    --jsonl) _pgn_extract_without --list --fen --next --csv --tsv --index --moves --uci --pack \
+        --others --faulty --as-is ;;
+    --no-header) _pgn_extract_without --list --fen --next --index --moves --uci --pack --others \
+        --faulty --as-is ;;
+    --packed) _pgn_extract_without --moves --uci --pack --tags-first --others --faulty --as-is \
+        --from --until --at --with-names --no-names ;;
     --index) _pgn_extract_without --list --fen --next --rows --csv --tsv --jsonl --no-header \
         --moves --uci --pack --tags-first --others --faulty --as-is ;;
     --moves) _pgn_extract_without --list --fen --next --rows --csv --tsv --jsonl --no-header \
