@@ -1,4 +1,5 @@
-"""Twenty sources as an archivist has them, a file of today, and what became of each of their games, counted without any code of this project.
+"""Twenty sources as an archivist has them, a file of today, and what became of each of their games,
+counted without any code of this project.
 
 Each game has a tag Annotator with a mark of its own, by which it is found wherever it stands.
 """
@@ -21,16 +22,20 @@ SEED = 64
 PLIES = range(12, 60)
 EVENT = b'[Event "'
 RESULTS = ("1-0", "0-1", "1/2-1/2", "*")
-LOCATION = re.compile(rb"^(?:pgn-extract: )?(?:(?P<file>[^:\n]*): ?)?(?:game )?\d+@(?P<offset>\d+)(?P<kind>: | = | ~ )", re.MULTILINE)
+LOCATION = re.compile(
+    rb"^(?:pgn-extract: )?(?:(?P<file>[^:\n]*): ?)?(?:game )?\d+@(?P<offset>\d+)"
+    rb"(?P<kind>: | = | ~ )", re.MULTILINE)
 # The places where a game may have gone.
 BASE, FAULTS, DUPLICATES = "the base", "faults", "duplicates"
 # What other programs write in place of e.p. captures and castling; and the moves.
-SPELT, MEANT = "e4 Nf6 e5 d5 exd6e.p. exd6 Nf3 Be7 Be2 o-o 0-0", "e4 Nf6 e5 d5 exd6 exd6 Nf3 Be7 Be2 O-O O-O"
+SPELT = "e4 Nf6 e5 d5 exd6e.p. exd6 Nf3 Be7 Be2 o-o 0-0"
+MEANT = "e4 Nf6 e5 d5 exd6 exd6 Nf3 Be7 Be2 O-O O-O"
 
 
 @dataclass
 class Game:
-    """A game of a source: its tags, its moves and its result; where it is to go; and moves that the base has in place of these."""
+    """A game of a source: its tags, its moves and its result; where it is to go; and moves that the
+    base has in place of these."""
 
     tags: dict
     moves: list
@@ -41,7 +46,10 @@ class Game:
     def text(self, result=None, before="", signs=""):
         """It as it stands in a file."""
         tags = "".join(f'[{name} "{value}"]\n' for name, value in self.tags.items())
-        numbered = [f"{ply // 2 + 1}. {move}" if ply % 2 == 0 else move for ply, move in enumerate(self.moves)]
+        numbered = [
+            f"{ply // 2 + 1}. {move}" if ply % 2 == 0 else move
+            for ply, move in enumerate(self.moves)
+        ]
         return f"{before}{tags}\n{make_games.wrapped([*numbered[:4], *signs.split(), *numbered[4:], self.result if result is None else result])}\n\n"
 
 
@@ -97,7 +105,10 @@ def near(made):
     """Games that are nearly the same: the second goes on, and a name is spelt otherwise."""
     for number in range(2):
         line = made.lines[90 + number]
-        first, second = (made.make("13", 2 * number + it, 90 + number, line[: len(line) - 2 + 2 * it]) for it in range(2))
+        first, second = (
+            made.make("13", 2 * number + it, 90 + number, line[: len(line) - 2 + 2 * it])
+            for it in range(2)
+        )
         second.tags["White"] = f"K. MÜLLER{90 + number}"
         yield from (first.text(), second.text())
 
@@ -110,11 +121,13 @@ def variants(made):
 
 
 def broken(made):
-    """A lost brace, an illegal move, an illegal variation, and text that is no game, each before a game that is none of these."""
+    """A lost brace, an illegal move, an illegal variation, and text that is no game, each before a
+    game that is none of these."""
     sound = iter(made.some("16", 110, 4))
     yield made.make("16", 5, 120, goal=FAULTS).text(signs="{lost") + next(sound).text()
     moves = made.lines[121]
-    yield made.make("16", 6, 121, [*moves[:6], "Qa9", *moves[7:]], goal=FAULTS).text() + next(sound).text()
+    no_square = made.make("16", 6, 121, [*moves[:6], "Qa9", *moves[7:]], goal=FAULTS)
+    yield no_square.text() + next(sound).text()
     yield made.make("16", 7, 122, goal=FAULTS).text(signs="(3. Qh8)") + next(sound).text()
     yield "> a letter\n\n" + next(sound).text()
 
@@ -124,13 +137,17 @@ def untidy(made):
     games = made.some("19", 130, 4)
     white = games[0].tags.pop("White")
     games[1].tags["Event"] = 'Café "Rex"'
-    yield from (games[0].text(before=f'[White "{white}"]\n'), games[1].text(), games[2].text(signs="{one {two} three}"), games[3].text(signs="+-"))
+    yield from (
+        games[0].text(before=f'[White "{white}"]\n'), games[1].text(),
+        games[2].text(signs="{one {two} three}"), games[3].text(signs="+-"),
+    )
 
 
 def spelt(made):
     """Castling and captures in passing as other programs write them."""
     for number, end in enumerate(("", " a6", " a6 h3")):
-        yield made.make("06", number, 60 + number, (SPELT + end).split(), meant=(MEANT + end).split()).text()
+        spelt, meant = (SPELT + end).split(), (MEANT + end).split()
+        yield made.make("06", number, 60 + number, spelt, meant=meant).text()
 
 
 def of_1252(text):
@@ -145,7 +162,10 @@ def write_sources(folder):
     unended, cut = made.some("07", 64, 3), made.some("15", 104, 3)
     half = "".join(it.text() for it in cut)
     cut[-1].meant = cut[-1].moves[:4]
-    doubled = [made.make("02", number, 4 + number, goal=DUPLICATES if number < 4 else BASE) for number in range(8)]
+    doubled = [
+        made.make("02", number, 4 + number, goal=DUPLICATES if number < 4 else BASE)
+        for number in range(8)
+    ]
     again = [made.make("20", number, number, goal=DUPLICATES) for number in range(8)]
     files = {
         "01 café.pgn": "".join(it.text() for it in first).encode(),
@@ -155,8 +175,11 @@ def write_sources(folder):
         "05-german.pgn": of_1252("".join(map(german, made.some("05", 40, 5)))),
         "06-spelt.pgn": "".join(spelt(made)).encode(),
         "07-unended.pgn": "".join(it.text("" if it is unended[-1] else None) for it in unended).encode(),
-        "08-week.zip": zipped(("readme.txt", "no game"), *((f"{it}.pgn", of_1252(made.texts(f"08{it}", 70 + 2 * it, 2))) for it in range(2))),
-        "09-clocks.pgn.zst": with_zstd("".join(it.text(signs="{[%clk 0:03:00]}") for it in made.some("09", 75, 3)).encode()),
+        "08-week.zip": zipped(
+            ("readme.txt", "no game"),
+            *((f"{it}.pgn", of_1252(made.texts(f"08{it}", 70 + 2 * it, 2))) for it in range(2))),
+        "09-clocks.pgn.zst": with_zstd(
+            "".join(it.text(signs="{[%clk 0:03:00]}") for it in made.some("09", 75, 3)).encode()),
         "10.pgn.gz": gzip.compress(made.texts("10", 80, 3).encode()),
         "11.pgn.bz2": bz2.compress(made.texts("11", 84, 3).encode()),
         "12.pgn.xz": lzma.compress(made.texts("12", 87, 3).encode()),
@@ -174,7 +197,8 @@ def write_sources(folder):
     (folder / "sources").mkdir()
     for name, text in files.items():
         (folder / "sources" / name).write_bytes(text)
-    (folder / "today.pgn").write_bytes(of_1252("".join(it.text() for it in [*known, bad, *made.some("today+", 140, 4)])))
+    today = [*known, bad, *made.some("today+", 140, 4)]
+    (folder / "today.pgn").write_bytes(of_1252("".join(it.text() for it in today)))
     return made.games
 
 
@@ -194,7 +218,8 @@ def piece_at(text, offset):
 
 
 def named_in(folder, report, kind, texts):
-    """The marks of the games that a report names, which stand in the files of a folder, or in a file."""
+    """The marks of the games that a report names, which stand in the files of a folder, or in a
+    file."""
     for found in LOCATION.finditer(text_of(folder / report)):
         if found["kind"] == kind:
             file = folder / (found["file"].decode() if found["file"] else texts)
@@ -221,7 +246,8 @@ def faults_of_base(folder, games):
         mark, *more = marks_in(text) or [""]
         if more or mark not in games or line != " ".join(games[mark].meant or games[mark].moves):
             yield f"{mark} has in the base: {line}"
-        if mark != "19/1" and 'Event "Café' not in text.decode() or "García, José" not in text.decode():
+        said = text.decode()
+        if mark != "19/1" and 'Event "Café' not in said or "García, José" not in said:
             yield f"{mark} has lost letters in the base"
 
 
@@ -231,7 +257,10 @@ def faults_of_parts(folder):
     years = {it.stem: games_of(it.read_bytes()) for it in (folder / "years").glob("*")}
     if sorted(it for some in years.values() for it in some) != sorted(base):
         yield "the years are not the base"
-    yield from (f"a game stands in {year}" for year, some in years.items() for it in some if f'[Date "{year}.'.encode() not in it)
+    yield from (
+        f"a game stands in {year}" for year, some in years.items()
+        for it in some if f'[Date "{year}.'.encode() not in it
+    )
 
 
 def faults(folder, games):
@@ -244,7 +273,10 @@ def faults(folder, games):
             places[mark].append(FAULTS)
         for mark in named_in(folder, f"duplicates{day}.txt", b" = ", f"clean{texts}"):
             places[mark].append(DUPLICATES)
-    yield from (f"{mark} is in {found}" for mark, found in places.items() if mark not in games or found != [games[mark].goal])
+    yield from (
+        f"{mark} is in {found}" for mark, found in places.items()
+        if mark not in games or found != [games[mark].goal]
+    )
     pairs = [*named_in(folder, "duplicates.txt", b" ~ ", "")]
     yield from [] if sorted(pairs) == ["13/0", "13/2"] else [f"nearly the same are {pairs}"]
     yield from faults_of_base(folder, games)
