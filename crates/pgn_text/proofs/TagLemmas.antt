@@ -78,6 +78,21 @@ kept_back m n back name wanted contents first overwritten restored had =
         ∙ ap (λ v. cond v (Some contents) (get_by (λ k. slice_cmp nat_cmp wanted k.now) m)) is)
         ∙ sym (option_or-none (tag_at m wanted))
 
+-- what stands under each name after one was given contents, or none
+pub tag_set : (m n : BTreeMap (Bor (List ℕ)) (Bor (List ℕ))) (name wanted : List ℕ)
+    (contents : Option (Bor (List ℕ)))
+    → UpdatesBy (λ x y. slice_cmp nat_cmp x.now y.now) (λ k.
+    slice_cmp nat_cmp name k.now) m n contents
+    → tag_at n wanted
+    ≡ (if bytes_eq name wanted then option_map (λ text. text.now) contents
+    else tag_at m wanted)
+tag_set m n name wanted contents updates =
+    ap (option_map (λ c. c.now)) (btree_map_updates_str name m n contents updates wanted)
+    ∙ elim (bytes_eq name wanted) as (λ v.
+    option_map (λ c. c.now) (cond v contents (get_by (λ k. slice_cmp nat_cmp wanted k.now) m))
+    ≡ (if v then option_map (λ text. text.now) contents else tag_at m wanted))
+    [ true ↦ refl | false ↦ refl ]
+
 -- a word names no tag
 named-word : (wanted word : List ℕ) → named_kept wanted (kept_word word) ≡ None
 named-word wanted word =
@@ -142,3 +157,16 @@ tag_in-tags_of m wanted = go m.entries
           | true ↦ refl
           | false ↦ go entries
         ]
+
+-- and of the game that has the map
+pub retagged : (m n : BTreeMap (Bor (List ℕ)) (Bor (List ℕ))) (name wanted : List ℕ)
+    (contents : Option (Bor (List ℕ)))
+    → UpdatesBy (λ x y. slice_cmp nat_cmp x.now y.now) (λ k.
+    slice_cmp nat_cmp name k.now) m n contents
+    → tag_in wanted (tags_of n)
+    ≡ (if bytes_eq name wanted then option_map (λ text. text.now) contents
+    else tag_in wanted (tags_of m))
+retagged m n name wanted contents updates =
+    tag_in-tags_of n wanted ∙ tag_set m n name wanted contents updates
+    ∙ ap (λ o. if bytes_eq name wanted then option_map (λ text. text.now) contents else o)
+    (sym (tag_in-tags_of m wanted))

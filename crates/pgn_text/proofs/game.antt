@@ -5,3 +5,4 @@ pub mod Pairing
 pub mod PlainLemmas
 pub mod ReadLemmas
 pub mod ReadingLemmas
+pub mod Retagging

@@ -1,18 +1,22 @@
 //! A game as it stands in a block.
 
 ghost use Rattle.std.specs.Prelude.{◌≡◌, ◌≤◌, ◌⊎◌, ℕ, List, [], Option, None, length, take, drop};
-ghost use Rattle.std.specs.Prelude.{map, IfOk, MatchOption, ◌<◌, get_or, Bool};
+ghost use Rattle.std.specs.Prelude.{map, IfOk, MatchOption, ◌<◌, get_or, Bool, IfSome, IsTrue};
+ghost use Rattle.std.specs.Prelude.{option_map};
 ghost use Rattle.std.specs.Cmp.Lexicographic.{slice_cmp};
+ghost use Rattle.std.specs.List.{list_all};
 ghost use Rattle.std.specs.List.Sorted.{IsStrictlySortedBy};
 ghost use Rattle.std.specs.Ordering.{nat_cmp};
+ghost use Rattle.pgn_text.specs.Public.Bytes.{is_name_byte};
 ghost use Rattle.pgn_text.specs.Public.Elements.{item_of, tags_of};
 ghost use Rattle.pgn_text.specs.Public.GameTexts.{GameText, HoldStrings, IsGameText, IsPaired};
-ghost use Rattle.pgn_text.specs.Public.GameTexts.{ShowsGame, tag_names};
+ghost use Rattle.pgn_text.specs.Public.GameTexts.{ShowsGame, IsRetagged, tag_names};
 ghost use Rattle.pgn_text.specs.Public.Games.{Item};
 ghost use Rattle.pgn_text.specs.Public.Limits.{depth_limit};
 ghost use Rattle.pgn_text.specs.Private.Movetext.{AddsElements, PlainTo};
 ghost use Rattle.pgn_text.specs.Public.Parts.{Part};
 ghost use Rattle.pgn_text.specs.Public.Pieces.{NoGame};
+ghost use Rattle.pgn_text.specs.Public.Strings.{IsContents};
 ghost use Rattle.pgn_text.specs.Private.Readings.{IsReading, IsStep};
 ghost use Rattle.pgn_text.specs.Private.Tokens.{state_of, token_of};
 ghost use Rattle.pgn_text.specs.Private.Walk.{GameTo, GameRead, NoGapPartAt};
@@ -130,6 +134,29 @@ impl<'a> RawGame<'a> {
         ensures { result.now ≡ self.now.result }
     {
         self.result
+    }
+
+    /// The game with these contents under the name in place of its own, or with no tag of that
+    /// name.
+    pub fn retagged(
+        mut self,
+        name: &'a [u8],
+        contents: Option<&'a [u8]>,
+    ) -> Result<Self, AllocError>
+        requires name { IsTrue (list_all is_name_byte name.now) }
+        requires contents { IfSome contents (λ text. IsContents text.now) }
+        ensures { IfOk result
+            (IsRetagged name.now (option_map (λ text. text.now) contents.entry) self.entry) }
+    {
+        match contents {
+            Some(contents) => {
+                self.tags.insert(name, contents)?;
+            }
+            None => {
+                self.tags.remove(name);
+            }
+        }
+        Ok(self)
     }
 }
 

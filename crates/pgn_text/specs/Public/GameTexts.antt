@@ -70,3 +70,15 @@ pub record ShowsGame (game : GameText) (at : ℕ) (parts : List Part) : Type 0 w
   pub tags : (wanted : List ℕ) → tag_in wanted game.tags ≡ first_tag wanted parts
   pub elements : game.elements ≡ items_of parts
   pub result : game.result ≡ result_of parts
+
+-- the other game has these contents under the name, or no tag of that name, and all else as the
+-- game has it
+pub record IsRetagged (name : List ℕ) (contents : Option (List ℕ)) (game other : GameText) : Type 0
+  where
+    pub place : other.at ≡ game.at
+    pub text : other.text ≡ game.text
+    pub tags : (wanted : List ℕ)
+        → tag_in wanted other.tags
+        ≡ (if bytes_eq name wanted then contents else tag_in wanted game.tags)
+    pub elements : other.elements ≡ game.elements
+    pub result : other.result ≡ game.result
