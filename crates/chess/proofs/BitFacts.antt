@@ -14,7 +14,8 @@ use Rattle.chess.proofs.Common.{has_bit, index_of-below, false_of, man_at-men_of
 use Rattle.chess.proofs.Common.{men_of-none, IsBitboardOf, AreApart, man_in, words_men, bitboard_at}
 use Rattle.chess.proofs.Common.{square_bitboard, row_of, man_of_row, IsCleared, IsBitSet}
 use Rattle.chess.proofs.Common.{number_of_side, Man, Side, Kind, White, Black, King}
-use Rattle.chess.specs.Private.Bitboards.{man_below, is_row, number_of_kind}
+use Rattle.chess.specs.Public.Placements.{number_of_kind}
+use Rattle.chess.specs.Private.Bitboards.{man_below, is_row}
 use Rattle.chess.proofs.PlaceFacts.{true_not_false}
 use Rattle.chess.proofs.board.FillFacts.{bit_of_either, bit_of_both, no_bit, common_none}
 use Rattle.chess.proofs.board.FillFacts.{common_some}
@@ -37,7 +38,7 @@ rows_back : agree_below row_back (λ _. true) 12 ≡ true
 unfolding row_back
 rows_back = refl
 
-row_of-man_of_row : (n : ℕ) → n < 12 → row_of (man_of_row n) ≡ n
+pub row_of-man_of_row : (n : ℕ) → n < 12 → row_of (man_of_row n) ≡ n
 unfolding row_back
 row_of-man_of_row n h = eqb-true _ _ (agree_below_at row_back (λ _. true) 12 n rows_back h)
 

@@ -1,11 +1,10 @@
 -- The names that several proofs cite, passed on from one place. Declares nothing.
 pub use Rattle.chess.specs.Private.Bitboards.{AreApart, AreLeft, IsAttackedBy, IsAttackedDiagonal}
-pub use Rattle.chess.specs.Private.Bitboards.{IsAttackedStraight, IsBitSet, IsBitboardOf, IsCleared}
+pub use Rattle.chess.specs.Private.Bitboards.{IsAttackedStraight, IsBitSet, IsCleared}
 pub use Rattle.chess.specs.Private.Bitboards.{IsMan, IsNextBitboard, IsRunner, IsSlid}
 pub use Rattle.chess.specs.Private.Bitboards.{beside_bitboard, bitboard_at, man_in, man_of_row}
-pub use Rattle.chess.specs.Private.Bitboards.{number_of_side, pseudo_attacks_row_of, row_of}
-pub use Rattle.chess.specs.Private.Bitboards.{square_bitboard, step_bitboard, upright_bitboard}
-pub use Rattle.chess.specs.Private.Bitboards.{words_men}
+pub use Rattle.chess.specs.Private.Bitboards.{pseudo_attacks_row_of, square_bitboard}
+pub use Rattle.chess.specs.Private.Bitboards.{step_bitboard, upright_bitboard, words_men}
 pub use Rattle.chess.specs.Private.Cells.{cell_of, cells_men}
 pub use Rattle.chess.specs.Private.FenTextWords.{AreLetters, each_after, letter_on, rank_texts}
 pub use Rattle.chess.specs.Private.FenTextWords.{spelled_from, squares_from}
@@ -41,7 +40,8 @@ pub use Rattle.chess.specs.Public.Moves.{IsStalemate, IsUnbarred, Promotes, afte
 pub use Rattle.chess.specs.Public.Moves.{capture_square, is_en_passant, is_pawn, is_square}
 pub use Rattle.chess.specs.Public.Moves.{keeps_right, men_after, rights_after, with_rook}
 pub use Rattle.chess.specs.Public.Placements.{AreOnBoard, IsEmpty, IsOccupiedBy, Placement}
-pub use Rattle.chess.specs.Public.Placements.{first_men, man_at, men_of, no_men, opposite, with_man}
+pub use Rattle.chess.specs.Public.Placements.{first_men, man_at, men_of, no_men, number_of_side}
+pub use Rattle.chess.specs.Public.Placements.{opposite, row_of, with_man}
 pub use Rattle.chess.specs.Public.Positions.{FitsEnPassant, IsCheck, IsOnlyKing, IsSound, State}
 pub use Rattle.chess.specs.Public.Positions.{has_right, home_rank, king_from, king_of, king_to}
 pub use Rattle.chess.specs.Public.Positions.{passed_rank, pawn_of, pawn_rank, rook_from, rook_of}
@@ -54,8 +54,8 @@ pub use Rattle.chess.specs.Public.San.{castling_text, castling_with_zeros, file_
 pub use Rattle.chess.specs.Public.San.{kind_said, letter_text, pawn_text, promotion_text, rank_text}
 pub use Rattle.chess.specs.Public.San.IsCheckSign.{check, mate, quiet}
 pub use Rattle.chess.specs.Public.San.IsDisambiguation.{alone, by_both, by_file, by_rank}
-pub use Rattle.chess.specs.Public.Sets.{HoldsExactly, IsAttacker, IsSquaresOf, Places, is_in}
-pub use Rattle.chess.specs.Public.Sets.{no_places, size_of}
+pub use Rattle.chess.specs.Public.Sets.{HoldsExactly, IsAttacker, IsBitboardOf, IsSquaresOf}
+pub use Rattle.chess.specs.Public.Sets.{Places, has_bit, is_in, no_places, size_of}
 pub use Rattle.chess.specs.Public.Squares.{IsAhead, IsOnBoard, IsStraight, Place, gap, index_of}
 pub use Rattle.chess.specs.Public.Squares.{place_cmp, same_square, square_at}
 pub use Rattle.chess.specs.Public.Start.{IsInitialMen, initial, initial_man, initial_men}
@@ -65,7 +65,7 @@ pub use Rattle.chess.specs.Shared.CellFacts.{men_of-put, no_cell, on_board-men_o
 pub use Rattle.chess.specs.Shared.CellFacts.{same_men}
 pub use Rattle.chess.specs.Shared.Codes.{IsKept}
 pub use Rattle.chess.specs.Shared.Runs.{after_all, after_run, run_of}
-pub use Rattle.chess.specs.Shared.SetBitboards.{HasOnly, IsTakenFirst, has_bit, places_of}
+pub use Rattle.chess.specs.Shared.SetBitboards.{HasOnly, IsTakenFirst, places_of}
 pub use Rattle.chess.specs.Shared.SetFacts.{and_false, empty_bitboard, false_of, index_of-below}
 pub use Rattle.chess.specs.Shared.SetFacts.{is_in-empty, is_in-places_of, on_board-places_of}
 pub use Rattle.chess.specs.Shared.SetFacts.{on_board-square_at, square_at-index_of}

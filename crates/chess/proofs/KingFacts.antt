@@ -33,7 +33,7 @@ pawn_kind man e =
       | Pawn ↦ λ f. refl
     ] e
 
-is_square-then : (o : Option Place) (s : Place) → is_square o s ≡ true → o ≡ Some s
+pub is_square-then : (o : Option Place) (s : Place) → is_square o s ≡ true → o ≡ Some s
 is_square-then None s e = let f : false ≡ true = e in cc
 is_square-then (Some t) s e = ap Some (same_square-then t s e)
 

@@ -45,3 +45,6 @@ pub mod Searches
 pub mod Settled
 pub mod SoundRead
 pub mod FirstFieldFacts
+pub mod EnPassantFacts
+pub mod KeyFacts
+pub mod SameSettled

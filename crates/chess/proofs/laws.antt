@@ -1,3 +1,4 @@
 pub mod InitialFacts
 pub mod RanksSettled
 pub mod RefusalExamples
+pub mod SameKeys

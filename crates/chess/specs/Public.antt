@@ -13,4 +13,5 @@ pub mod Refusals
 pub mod Fen
 pub mod FirstFields
 pub mod Sets
+pub mod Keys
 pub mod Laws

@@ -1,6 +1,7 @@
 //! What holds of every text and position, whatever reads it. Each law is the contract of a function
 //! that does nothing.
 
+ghost use Rattle.chess.specs.Public.Laws.{KeysTellPositions, SamePositionsHaveSamePawns};
 ghost use Rattle.chess.specs.Public.Laws.{TextSpellsOnePosition, TextHasOneAnswer};
 ghost use Rattle.chess.specs.Public.Laws.{SoundPositionsAreRead, FenIsReadBack, PositionHasOneText};
 ghost use Rattle.chess.specs.Public.Laws.{EachPositionHasAText, InitialPositionIsOne};
@@ -64,4 +65,11 @@ pub fn an_answer()
     ensures after { MenStayOnBoard }
     ensures refusal { TextHasOneRefusal }
     ensures fen { EachTextIsReadOrRefused }
+{}
+
+/// Two sound positions have the same key exactly where they are the same but for their counts, and
+/// positions that are the same have the same pawns.
+pub fn keys_tell_positions()
+    ensures keys { KeysTellPositions }
+    ensures pawns { SamePositionsHaveSamePawns }
 {}

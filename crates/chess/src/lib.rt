@@ -15,6 +15,7 @@
 mod board;
 mod counts;
 mod fen;
+mod keys;
 pub mod laws;
 mod letters;
 mod move_text;

@@ -1,11 +1,12 @@
 -- Bitboards, sets of squares in 64 bits, and twelve of them as a board.
-use Rattle.std.specs.Prelude.{◌≡◌, ◌↔◌, ◌⊎◌, ◌<◌, ◌+◌, ◌*◌, ◌/◌, ◌%◌, ◌^◌, ◌||◌, ◌&&◌, ◌==◌, ltb, ℕ}
+use Rattle.std.specs.Prelude.{◌≡◌, ◌↔◌, ◌⊎◌, ◌<◌, ◌*◌, ◌/◌, ◌%◌, ◌^◌, ◌||◌, ◌&&◌, ◌==◌, ltb, ℕ}
 use Rattle.std.specs.Prelude.{zero, suc, Bool, true, false, not, if◌then◌else◌, List, get_or}
 use Rattle.std.specs.Prelude.{Option, Some, None, bit_or, bit_xor, bit_and}
 use Rattle.chess.specs.Public.Squares.{Place, IsOnBoard, IsStraight, IsAhead, index_of}
-use Rattle.chess.specs.Public.Placements.{Placement, man_at, men_of, AreOnBoard}
+use Rattle.chess.specs.Public.Placements.{Placement, man_at, men_of, AreOnBoard, row_of}
+use Rattle.chess.specs.Public.Placements.{number_of_kind}
 use Rattle.chess.specs.Public.Attacks.{IsOnRay, Reaches}
-use Rattle.chess.specs.Shared.SetBitboards.{has_bit}
+use Rattle.chess.specs.Public.Sets.{has_bit}
 use Rattle.chess.specs.declared.board.direction.Direction.{Direction}
 use Rattle.chess.specs.declared.board.direction.Direction.TheVariants.{North, South, East, West}
 use Rattle.chess.specs.declared.board.direction.Direction.TheVariants.{NorthEast, NorthWest}
@@ -16,28 +17,7 @@ use Rattle.chess.specs.declared.board.man.Side.TheVariants.{White, Black}
 use Rattle.chess.specs.declared.board.man.Kind.{Kind}
 use Rattle.chess.specs.declared.board.man.Kind.TheVariants.{King, Queen, Rook, Bishop, Knight, Pawn}
 
--- the bits of the bitboard are the squares of the board with the fact
-abbrev pub IsBitboardOf : (Place → Type 0) → ℕ → Type 0
-IsBitboardOf fact bitboard = (s : Place) → IsOnBoard s
-    → (has_bit bitboard (index_of s) ≡ true) ↔ fact s
-
 -- ---- twelve bitboards
-
-abbrev pub number_of_kind : Kind → ℕ
-number_of_kind King = 0
-number_of_kind Queen = 1
-number_of_kind Rook = 2
-number_of_kind Bishop = 3
-number_of_kind Knight = 4
-number_of_kind Pawn = 5
-
-abbrev pub number_of_side : Side → ℕ
-number_of_side White = 0
-number_of_side Black = 6
-
--- the number of a man's bitboard: White's kinds, then Black's
-abbrev pub row_of : Man → ℕ
-row_of man = number_of_side man.side + number_of_kind man.kind
 
 -- the number of the table of what a man sees: his kind's number, and one more for Black's pawns
 abbrev pub pseudo_attacks_row_of : Side → Kind → ℕ

@@ -2,10 +2,9 @@
 use Rattle.std.specs.Prelude.{◌≡◌, ℕ, zero, suc, ◌+◌, ltb, Bool, List, [], ◌∷◌, ◌++◌, get_or}
 use Rattle.std.specs.Prelude.{Option, Some, None, if◌then◌else◌}
 use Rattle.chess.specs.Public.Squares.{Place, IsOnBoard, index_of}
-use Rattle.chess.specs.Public.Placements.{Placement, man_at}
+use Rattle.chess.specs.Public.Placements.{Placement, man_at, row_of}
 use Rattle.chess.specs.Public.Letters.{man_letter}
 use Rattle.chess.specs.Public.Fen.{row}
-use Rattle.chess.specs.Private.Bitboards.{row_of}
 use Rattle.chess.specs.declared.board.man.Man.{Man}
 
 -- the digit of a run of empty squares, or nothing

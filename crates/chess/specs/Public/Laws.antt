@@ -7,6 +7,7 @@ use Rattle.chess.specs.Public.Start.{initial, IsInitial}
 use Rattle.chess.specs.Public.San.{IsSan, IsNamed, IsOnlyNamed}
 use Rattle.chess.specs.Public.Refusals.{IsRefusal}
 use Rattle.chess.specs.Public.Fen.{SpellsPosition, ReadsFen, IsRefused, IsFen}
+use Rattle.chess.specs.Public.Keys.{IsSamePosition, IsKey, ArePawns}
 use Rattle.chess.specs.declared.fen.FenError.{FenError}
 use Rattle.chess.specs.declared.move_text.refusal.Refusal.{Refusal}
 use Rattle.chess.specs.declared.moves.Move.{Move}
@@ -96,3 +97,13 @@ abbrev pub TextHasOneRefusal : Type 0
 TextHasOneRefusal =
     (P : State) (x : List ℕ) (refusal other : Refusal) → IsRefusal P x refusal → IsRefusal P x other
     → refusal ≡ other
+
+-- two sound positions have the same key exactly where they are the same
+abbrev pub KeysTellPositions : Type 0
+KeysTellPositions = (P Q : State) (x y : List ℕ) → IsSound P → IsSound Q → IsKey P x → IsKey Q y
+    → (x ≡ y) ↔ IsSamePosition P Q
+
+-- positions that are the same have the same pawns
+abbrev pub SamePositionsHaveSamePawns : Type 0
+SamePositionsHaveSamePawns = (P Q : State) (x y : List ℕ) → ArePawns P x → ArePawns Q y
+    → IsSamePosition P Q → x ≡ y

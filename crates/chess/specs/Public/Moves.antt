@@ -202,6 +202,14 @@ pub record IsLegal (P : State) (m : Move) : Type 0 where
   pub safe : IsCheck (men_after P m) P.turn → ⊥
   pub unbarred : IsUnbarred P m.castle
 
+-- the move takes a pawn en passant, and is legal; some move does
+pub record TakesEnPassant (P : State) (m : Move) : Type 0 where
+  pub capture : is_en_passant P m ≡ true
+  pub legal : IsLegal P m
+
+abbrev pub CanTakeEnPassant : State → Type 0
+CanTakeEnPassant P = (m : Move) × TakesEnPassant P m
+
 -- some legal move goes from s to t; some legal move leaves s; some move is legal
 abbrev pub CanGo : State → Place → Place → Type 0
 CanGo P s t = (promote : Option Kind) × (castle : Option Wing)

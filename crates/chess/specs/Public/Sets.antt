@@ -1,7 +1,8 @@
 -- Sets of squares.
-use Rattle.std.specs.Prelude.{◌≡◌, ◌↔◌, ℕ, Bool, true, Some}
+use Rattle.std.specs.Prelude.{◌≡◌, ◌↔◌, ◌==◌, ℕ, Bool, true, Some}
 use Rattle.std.specs.FinSet.{FinSet, empty, contains, len}
-use Rattle.chess.specs.Public.Squares.{Place, IsOnBoard, place_cmp}
+use Rattle.std.specs.Int.{bit_at}
+use Rattle.chess.specs.Public.Squares.{Place, IsOnBoard, place_cmp, index_of}
 use Rattle.chess.specs.Public.Placements.{Placement, man_at}
 use Rattle.chess.specs.Public.Attacks.{IsAttackedFrom, Reaches}
 use Rattle.chess.specs.declared.board.man.Man.{Man}
@@ -33,6 +34,15 @@ IsSquaresOf p man set = HoldsExactly (λ s. man_at p s ≡ Some man) set
 abbrev pub IsAttacker : Placement → Man → Place → Places → Place → Type 0
 IsAttacker p man target among s = (is_in among s ≡ true) × (man_at p s ≡ Some man)
     × Reaches p man.side man.kind s target
+
+-- the bitboard, a number, has the bit of the nth square
+abbrev pub has_bit : ℕ → ℕ → Bool
+has_bit bitboard n = bit_at bitboard n == 1
+
+-- the bits of the bitboard are the squares of the board with the fact
+abbrev pub IsBitboardOf : (Place → Type 0) → ℕ → Type 0
+IsBitboardOf fact bitboard = (s : Place) → IsOnBoard s
+    → (has_bit bitboard (index_of s) ≡ true) ↔ fact s
 
 -- how many squares a set has
 abbrev pub size_of : Places → ℕ

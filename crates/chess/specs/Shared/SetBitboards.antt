@@ -1,8 +1,7 @@
 -- Sets of squares as bitboards: which places have their bit, in ascending order.
-use Rattle.std.specs.Prelude.{◌≡◌, ◌≤◌, ◌==◌, ◌&&◌, ℕ, zero, suc, Bool, true, not, if◌then◌else◌}
+use Rattle.std.specs.Prelude.{◌≡◌, ◌≤◌, ◌&&◌, ℕ, zero, suc, Bool, true, not, if◌then◌else◌}
 use Rattle.std.specs.Prelude.{Option, Some, None}
 use Rattle.std.specs.Coded.{Coded}
-use Rattle.std.specs.Int.{bit_at}
 use Rattle.std.specs.FinSet.{empty, insert, code}
 use Rattle.chess.specs.Public.Squares.{Place, IsOnBoard, square_at, index_of, same_square}
 use Rattle.chess.specs.Shared.PlaceCodes.{coded_place}
@@ -17,10 +16,6 @@ first_places test (suc n) = if test n then insert (first_places test n) (square_
 -- the squares that pass the test
 abbrev pub places_of : (ℕ → Bool) → Places
 places_of test = first_places test 64
-
--- the bit of a bitboard for the nth square
-abbrev pub has_bit : ℕ → ℕ → Bool
-has_bit bitboard n = bit_at bitboard n == 1
 
 -- the first square of a set in the order a1, b1 to h1, a2 and so on was taken out; or there was
 -- none, and the set is as it was

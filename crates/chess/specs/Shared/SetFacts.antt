@@ -16,8 +16,8 @@ use Rattle.chess.specs.Public.Squares.{Place, IsOnBoard, place_cmp, square_at, i
 use Rattle.chess.specs.Public.Squares.{same_square}
 use Rattle.chess.specs.Shared.SquareFacts.{index_of-square_at}
 use Rattle.chess.specs.Shared.OrderFacts.{place_total, place_exact}
-use Rattle.chess.specs.Public.Sets.{Places, is_in, no_places, size_of}
-use Rattle.chess.specs.Shared.SetBitboards.{first_places, places_of, has_bit}
+use Rattle.chess.specs.Public.Sets.{Places, is_in, no_places, size_of, has_bit}
+use Rattle.chess.specs.Shared.SetBitboards.{first_places, places_of}
 
 -- a square of the board stands at its place in order
 pub square_at-index_of : (s : Place) → IsOnBoard s → square_at (index_of s) ≡ s

@@ -3,9 +3,8 @@ ghost use Rattle.std.specs.Prelude.{◌≡◌, ◌↔◌, ◌<◌, IsTrue, true,
 ghost use Rattle.chess.specs.Public.Squares.{Place, IsOnBoard, index_of};
 ghost use Rattle.chess.specs.Public.Placements.{Placement, IsEmpty};
 ghost use Rattle.chess.specs.Public.Attacks.{IsNear, Reaches};
-ghost use Rattle.chess.specs.Public.Sets.{HoldsExactly};
-ghost use Rattle.chess.specs.Shared.SetBitboards.{has_bit};
-ghost use Rattle.chess.specs.Private.Bitboards.{IsBitboardOf, pseudo_attacks_row_of};
+ghost use Rattle.chess.specs.Public.Sets.{HoldsExactly, IsBitboardOf, has_bit};
+ghost use Rattle.chess.specs.Private.Bitboards.{pseudo_attacks_row_of};
 ghost use Rattle.chess.specs.Private.PseudoAttacks.{IsPseudoAttack, IsUnblocked, StandsBetween};
 
 mod between_table;

@@ -2,11 +2,13 @@
 ghost use Rattle.std.specs.Prelude.{◌≡◌, ◌↔◌, ◌⊎◌, ◌<◌, IsTrue, None, replicate};
 ghost use Rattle.chess.specs.Public.Squares.{IsOnBoard, index_of};
 ghost use Rattle.chess.specs.Public.Placements.{Placement, with_man, man_at, IsOccupiedBy, IsEmpty};
+ghost use Rattle.chess.specs.Public.Placements.{number_of_kind, row_of};
 ghost use Rattle.chess.specs.Public.Attacks.{IsAttacked};
-ghost use Rattle.chess.specs.Private.Bitboards.{AreApart, AreLeft, IsBitboardOf, IsCleared};
+ghost use Rattle.chess.specs.Public.Sets.{IsBitboardOf};
+ghost use Rattle.chess.specs.Private.Bitboards.{AreApart, AreLeft, IsCleared};
 ghost use Rattle.chess.specs.Private.Bitboards.{IsBitSet, IsSlid, IsMan, IsRunner, IsAttackedBy};
 ghost use Rattle.chess.specs.Private.Bitboards.{IsAttackedStraight, IsAttackedDiagonal, words_men};
-ghost use Rattle.chess.specs.Private.Bitboards.{man_in, man_of_row, number_of_kind, row_of};
+ghost use Rattle.chess.specs.Private.Bitboards.{man_in, man_of_row};
 ghost use Rattle.chess.specs.Private.PseudoAttacks.{IsPseudoAttack};
 ghost use Rattle.chess.specs.Public.Start.{initial_men};
 ghost use Rattle.chess.specs.Shared.CellFacts.{on_board-men_of};

@@ -2,8 +2,8 @@
 ghost use Rattle.std.specs.Prelude.{◌≡◌, ◌&&◌, ◌||◌, ◌↔◌, ◌<◌, ◌≤◌, IsTrue, IsSome, MatchOption};
 ghost use Rattle.std.specs.Prelude.{Some, None, true, not};
 ghost use Rattle.chess.specs.Public.Squares.{Place, IsOnBoard, same_square, index_of};
-ghost use Rattle.chess.specs.Public.Sets.{is_in, no_places, size_of, HoldsExactly};
-ghost use Rattle.chess.specs.Shared.SetBitboards.{has_bit, HasOnly, IsTakenFirst};
+ghost use Rattle.chess.specs.Public.Sets.{is_in, no_places, size_of, has_bit, HoldsExactly};
+ghost use Rattle.chess.specs.Shared.SetBitboards.{HasOnly, IsTakenFirst};
 
 use crate::board::Square;
 use std::marker::Model;
@@ -22,8 +22,8 @@ pub struct SquareSet {
 
 impl Model for SquareSet {
     ghost use Rattle.std.specs.Prelude.{◌<◌, ◌^◌};
-    ghost use Rattle.chess.specs.Public.Sets.{Places};
-    ghost use Rattle.chess.specs.Shared.SetBitboards.{coded_places, places_of, has_bit};
+    ghost use Rattle.chess.specs.Public.Sets.{Places, has_bit};
+    ghost use Rattle.chess.specs.Shared.SetBitboards.{coded_places, places_of};
 
     ghost Value = { Places };
 

@@ -3,9 +3,8 @@ ghost use Rattle.std.specs.Prelude.{◌≡◌, Option, List, ◌+◌, ◌≤◌,
 ghost use Rattle.std.specs.Prelude.{if◌then◌else◌};
 ghost use Rattle.arrayvec.specs.ArrayString.{array_string_len};
 ghost use Rattle.chess.specs.Public.Squares.{Place, IsOnBoard};
-ghost use Rattle.chess.specs.Public.Placements.{Placement};
+ghost use Rattle.chess.specs.Public.Placements.{Placement, number_of_side, number_of_kind};
 ghost use Rattle.chess.specs.Public.Sets.{is_in};
-ghost use Rattle.chess.specs.Private.Bitboards.{number_of_side, number_of_kind};
 ghost use Rattle.chess.specs.Public.Fen.{IsFen, side_text, rights_letters, or_dash};
 ghost use Rattle.chess.specs.Public.Fen.{en_passant_text, joined};
 ghost use Rattle.chess.specs.Private.FenTextWords.{digit_of, spelled_from, rank_text, rank_texts};

@@ -238,7 +238,7 @@ impl<B: Board> Position<B> {
     }
 
     /// Whether a legal move without promotion and castling goes from the one square to the other.
-    fn can_go_plainly(&self, from: Square, to: Square) -> bool
+    pub(crate) fn can_go_plainly(&self, from: Square, to: Square) -> bool
         ensures { IsTrue result ↔ CanGoPlainly self.now from to }
     {
         self.is_legal(Move {
