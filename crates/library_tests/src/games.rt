@@ -1,6 +1,7 @@
 //! Rows on `pgn_game`, and what is left after a refusal of memory.
 
 mod memory;
+mod openings;
 mod refusals;
 mod replays;
 mod rows;

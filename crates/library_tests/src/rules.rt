@@ -2,6 +2,7 @@
 
 mod board;
 mod fen;
+mod keys;
 mod moves;
 mod passes;
 mod perft;

@@ -1,19 +1,16 @@
 -- Whether a position is one that is asked for by fields of a FEN: kind by kind, right by right, and
 -- by the moves that take a pawn en passant.
-use Rattle.std.proofs.Common.{◌≡◌, ◌<◌, ◌≤◌, ℕ, Bool, true, false, Option, Some, List, [], ◌∷◌}
+use Rattle.std.proofs.Common.{◌≡◌, ◌<◌, ◌≤◌, ℕ, Bool, true, false, Option, Some}
 use Rattle.std.proofs.Common.{None, refl, sym, ◌∙◌, subst, ap, inl, inr, arith, IsTrue, length}
-use Rattle.std.specs.Prelude.{◌↔◌, ◌⊎◌, ◌+◌, ◌-◌, ◌&&◌, ◌==◌, not}
+use Rattle.std.specs.Prelude.{◌↔◌, ◌⊎◌, ◌+◌, ◌-◌, ◌&&◌}
 use Rattle.std.specs.Bool.{beq}
-use Rattle.std.specs.FinMap.{entries, same_entries_map}
 use Rattle.std.proofs.lemmas.Bool.{and_parts, and_from, cases_eq}
-use Rattle.std.proofs.lemmas.Bool.Decides.{nat_tests}
 use Rattle.std.specs.List.{slice_get}
 use Rattle.std.proofs.lemmas.Option.{slice_get_within}
 use Rattle.chess.specs.Public.Squares.{Place, IsOnBoard, gap}
 use Rattle.chess.specs.Public.Placements.{Placement, man_at, AreOnBoard}
-use Rattle.chess.specs.Public.Attacks.{IsPawnAttack}
 use Rattle.chess.specs.Public.Positions.{State, has_right}
-use Rattle.chess.specs.Public.Moves.{Goes, IsPawnMove, is_pawn, is_square, is_en_passant}
+use Rattle.chess.specs.Public.Moves.{TakesEnPassant}
 use Rattle.chess.specs.Shared.CellFacts.{same_men, on_board_or_not}
 use Rattle.chess.specs.declared.board.man.CastlingRights.{CastlingRights}
 use Rattle.chess.specs.declared.board.man.Man.{Man}
@@ -24,17 +21,13 @@ use Rattle.chess.specs.declared.board.man.Side.TheVariants.{White, Black}
 use Rattle.chess.specs.declared.board.man.Wing.{Wing}
 use Rattle.chess.specs.declared.board.man.Wing.TheVariants.{KingSide, QueenSide}
 use Rattle.chess.specs.declared.moves.Move.{Move}
-use Rattle.chess.proofs.KingFacts.{pawn_kind}
-use Rattle.chess.proofs.PlaceFacts.{cases_place, same_square-then}
-use Rattle.chess.proofs.LegalSettled.{settled_legal}
-use Rattle.chess.proofs.Searches.{search_square, search_side, search_wing, search_any_kind}
-use Rattle.chess.proofs.Searches.{cases_side, cases_man}
+use Rattle.chess.proofs.EnPassantFacts.{captures}
+use Rattle.chess.proofs.SameSettled.{cases_men, settled_captures}
+use Rattle.chess.proofs.Searches.{search_side, search_wing, cases_side}
 use Rattle.chess.proofs.Settled.{Settled, settled_like, settled_not, settled_both}
-use Rattle.chess.proofs.Settled.{settled_implies, settled_true, settled_le, Search, SearchIn}
-use Rattle.chess.proofs.Settled.{IsAny, search_any, search_both, search_pair, search_option}
-use Rattle.chess.proofs.Settled.{Cases, cases_bool, cases_pair}
+use Rattle.chess.proofs.Settled.{settled_implies, settled_le, Search, cases_bool}
 use Rattle.pgn_game.specs.Public.Replays.{Replay}
-use Rattle.pgn_criteria.specs.Public.Setups.{TakesEnPassant, IsAlike, IsSetUp}
+use Rattle.pgn_criteria.specs.Public.Setups.{IsAlike, IsSetUp}
 use Rattle.pgn_criteria.specs.Private.MenAlike.{StandsAlike, KindAlike}
 use Rattle.pgn_criteria.specs.declared.setup.Setup.{Setup}
 
@@ -149,30 +142,7 @@ rights_compared a b is reports = (
 
 -- ---- captures en passant
 
-square_is : (o : Option Place) (s : Place) → is_square o s ≡ true → o ≡ Some s
-square_is None s e = let f : false ≡ true = e in cc
-square_is (Some t) s e = ap Some (same_square-then t s e)
-
--- a pawn that goes to another file attacks the square that it goes to
-attack_of : (P : State) (s t : Place) → IsPawnMove P s t → not (s.file == t.file) ≡ true
-    → IsPawnAttack P.turn s t
-attack_of P s t (inl single) other = let same = single.0 in absurd (grind (arith, nat_tests))
-attack_of P s t (inr (inl double)) other =
-    let same = double.file in absurd (grind (arith, nat_tests))
-attack_of P s t (inr (inr capture)) other = capture.0
-
--- a move that takes a pawn en passant goes to the en passant square, which the pawn attacks
-pub captures : (P : State) (m : Move) → TakesEnPassant P m
-    → (P.en_passant ≡ Some m.to) × IsPawnAttack P.turn m.from m.to
-captures P m takes =
-    let first = and_parts _ _ takes.capture in
-    let second = and_parts _ _ first.0 in
-    let rules = takes.legal.pseudo_legal in
-    let pawn = pawn_kind rules.man (ap is_pawn (sym rules.here) ∙ second.0) in
-    let goes : Goes P m Pawn = subst (Goes P m) pawn rules.goes in
-    (square_is P.en_passant m.to first.1, attack_of P m.from m.to goes.1 second.1)
-
--- it comes from one of the two files beside the square
+-- a capture comes from one of the two files beside the square
 abbrev AreTaken : State → State → ℕ → Type 0
 AreTaken P Q file = (m : Move) → m.from.file ≡ file → TakesEnPassant P m → TakesEnPassant Q m
 
@@ -222,76 +192,12 @@ settled_all search F each = elim (search (λ a. F a → ⊥) (λ a. settled_not 
   | inr none ↦ inl (λ a. elim (each a) [ inl is ↦ is | inr fails ↦ absurd (none (a, fails)) ])
 ]
 
-cases_list : {A : Type 0} → Cases A → Cases (List A)
-cases_list cases [] [] = inl refl
-cases_list cases [] (b ∷ y) = inr (λ e. cc)
-cases_list cases (a ∷ x) [] = inr (λ e. cc)
-cases_list cases (a ∷ x) (b ∷ y) = elim (cases a b) [
-  | inr none ↦ inr (λ e. none cc)
-  | inl same ↦ elim (cases_list cases x y) [
-    | inr none ↦ inr (λ e. none cc)
-    | inl rest ↦ inl (λ i. same i ∷ rest i)
-  ]
-]
-
-cases_men : Cases Placement
-cases_men p q = elim (cases_list (cases_pair cases_place cases_man) (entries p) (entries q)) [
-  | inl same ↦ inl (same_entries_map p q same)
-  | inr none ↦ inr (λ same. none (ap entries same))
-]
-
 settled_rights : (a b : CastlingRights) → Settled (AreRightsAlike a b)
 settled_rights a b =
     settled_all search_side
     (λ side. (wing : Wing) → has_right a side wing ≡ has_right b side wing)
     (λ side. settled_all search_wing (λ wing. has_right a side wing ≡ has_right b side wing)
     (λ wing. cases_bool (has_right a side wing) (has_right b side wing)))
-
-settled_takes : (P : State) (m : Move) → AreOnBoard P.men → Settled (TakesEnPassant P m)
-settled_takes P m on_board =
-    settled_like (λ h. record { capture = h.0; legal = h.1 })
-    (λ takes. (takes.capture, takes.legal))
-    (settled_both (settled_true (is_en_passant P m)) (settled_legal P m on_board))
-
-abbrev Ends : Type 0
-Ends = Place × Place
-
-abbrev AreOn : Ends → Type 0
-AreOn ends = IsOnBoard ends.0 × IsOnBoard ends.1
-
-abbrev How : Type 0
-How = Option Kind × Option Wing
-
-abbrev move_by : Ends × How → Move
-move_by c = record { from = c.0.0; to = c.0.1; promote = c.1.0; castle = c.1.1 }
-
-search_move : SearchIn (Ends × How) (λ c. AreOn c.0 × IsAny c.1)
-search_move =
-    search_both AreOn IsAny (search_both IsOnBoard IsOnBoard search_square search_square)
-    (search_any (search_pair search_any_kind (search_option search_wing)))
-
-settled_taken : (P Q : State) → AreOnBoard P.men → AreOnBoard Q.men
-    → Settled ((m : Move) → TakesEnPassant P m → TakesEnPassant Q m)
-settled_taken P Q on also =
-    elim (search_move (λ c. TakesEnPassant P (move_by c) × (TakesEnPassant Q (move_by c) → ⊥))
-    (λ c. settled_both (settled_takes P (move_by c) on)
-    (settled_not (settled_takes Q (move_by c) also)))) [
-      | inl found ↦ inr (λ all. found.2.1 (all (move_by found.0) found.2.0))
-      | inr none ↦ inl (λ m takes. elim (settled_takes Q m also) [
-        | inl is ↦ is
-        | inr fails ↦ absurd (none (
-          ((m.from, m.to), (m.promote, m.castle)),
-          ((takes.legal.pseudo_legal.from, takes.legal.pseudo_legal.to), tt),
-          (takes, fails),
-        ))
-      ])
-    ]
-
-settled_captures : (P Q : State) → AreOnBoard P.men → AreOnBoard Q.men
-    → Settled ((m : Move) → TakesEnPassant P m ↔ TakesEnPassant Q m)
-settled_captures P Q on also =
-    settled_like (λ both m. (both.0 m, both.1 m)) (λ each. ((λ m. (each m).0), (λ m. (each m).1)))
-    (settled_both (settled_taken P Q on also) (settled_taken Q P also on))
 
 settled_alike : (given : ℕ) (P Q : State) → AreOnBoard P.men → Settled (IsAlike given P Q)
 settled_alike given P Q on = elim (cases_men P.men Q.men) [

@@ -21,7 +21,7 @@ use crate::headed::Headed;
 use crate::marks::marks_are_shown;
 use crate::meets::{
     Stage, are_free_of_moves, are_of_game, are_of_heading, are_of_ply, are_of_rest, are_of_stage,
-    are_patterns, longest_opening, stage_of,
+    are_patterns, longest_beginning, stage_of,
 };
 use crate::mirror::{all_mirrored, are_fixed};
 use crate::numbers::numbers_are_shown;
@@ -312,11 +312,11 @@ impl Alternative {
 
     /// How many first moves of the game the conditions ask for at most; `None` where they ask for
     /// each.
-    pub(crate) fn opening(&self) -> Option<usize>
+    pub(crate) fn beginning(&self) -> Option<usize>
         ensures { IfSome result (λ most. AllAskWithin most self.now) }
     {
         if self.moves.is_empty() && self.spans.is_empty() {
-            Some(longest_opening(&self.games))
+            Some(longest_beginning(&self.games))
         } else {
             None
         }

@@ -20,7 +20,7 @@ use crate::headed::Headed;
 use crate::meets::Criteria;
 use crate::seen::Seen;
 use pgn_game::pack::RawRecord;
-use pgn_game::{GameFault, Replayed, replay_opening};
+use pgn_game::{GameFault, Replayed, replay_beginning};
 use pgn_text::RawGame;
 use std::alloc::{AllocError, Global};
 use std::marker::Model;
@@ -94,19 +94,19 @@ fn left_after<'a>(
     alloc: Global,
     alternatives: &'a [Alternative],
     game: &RawGame<'a>,
-    opening: &Replayed,
+    beginning: &Replayed,
 ) -> Result<Search<'a>, AllocError>
     requires good { AllGood alternatives.now }
-    requires legal { AreLegal opening.now }
+    requires legal { AreLegal beginning.now }
     requires still { (most : ℕ) × EachAsksWithin most alternatives.now }
     ensures kept { IfOk result (λ search. (ply : ℕ) (P : State)
-        → SomeHold (heading_of game.now) opening.now ply P search
-        ↔ SomeHold (heading_of game.now) opening.now ply P alternatives.now) }
+        → SomeHold (heading_of game.now) beginning.now ply P search
+        ↔ SomeHold (heading_of game.now) beginning.now ply P alternatives.now) }
     ensures free { IfOk result (EachAsksWithin 0) }
 {
     let mut left = Vec::new(alloc);
     for alternative in alternatives {
-        if alternative.is_of_game(game, opening) {
+        if alternative.is_of_game(game, beginning) {
             left.push(alternative)?;
         }
     }
@@ -193,10 +193,10 @@ impl Criteria {
         if let Some(search) = self.watch_heading(alloc, game)? {
             return Ok(Some(search));
         }
-        let Some(most) = self.opening else {
+        let Some(most) = self.beginning else {
             return Ok(None);
         };
-        let opening = replay_opening(alloc, game, most)?;
-        Ok(Some(left_after(alloc, &self.alternatives, game, &opening)?))
+        let beginning = replay_beginning(alloc, game, most)?;
+        Ok(Some(left_after(alloc, &self.alternatives, game, &beginning)?))
     }
 }

@@ -2,13 +2,13 @@
 ghost use Rattle.std.specs.Prelude.{◌≡◌, ◌↔◌, IsTrue, MatchOption};
 ghost use Rattle.chess.specs.Public.Squares.{Place, IsOnBoard};
 ghost use Rattle.chess.specs.Public.Attacks.{IsForward};
-ghost use Rattle.chess.specs.Public.Moves.{is_pawn, is_en_passant};
+ghost use Rattle.chess.specs.Public.Moves.{TakesEnPassant, is_pawn, is_en_passant};
 ghost use Rattle.chess.specs.Public.Placements.{man_at, opposite};
 ghost use Rattle.chess.specs.Public.Positions.{has_right, passed_rank};
 ghost use Rattle.chess.specs.declared.board.man.Side.{Side};
 ghost use Rattle.chess.specs.declared.board.man.Wing.{Wing};
 ghost use Rattle.chess.specs.declared.moves.Move.{Move};
-ghost use Rattle.pgn_criteria.specs.Public.Setups.{TakesEnPassant, IsAlike, IsSetUp};
+ghost use Rattle.pgn_criteria.specs.Public.Setups.{IsAlike, IsSetUp};
 ghost use Rattle.pgn_criteria.specs.Private.MenAlike.{StandsAlike, KindAlike};
 
 use chess::{Kind, Man, Move, Side, Square};

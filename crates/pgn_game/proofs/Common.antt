@@ -60,7 +60,7 @@ pub use Rattle.pgn_game.specs.Public.GameLines.{as_fen, as_initial, promotion_le
 pub use Rattle.pgn_game.specs.Public.GameLines.{unspaced}
 pub use Rattle.pgn_game.specs.Public.Laws.{IsMisread, IsReadAsOne}
 pub use Rattle.pgn_game.specs.Public.MainLines.{IsMainLine, main_words}
-pub use Rattle.pgn_game.specs.Public.Openings.{IsBeginning}
+pub use Rattle.pgn_game.specs.Public.Beginnings.{IsBeginning}
 pub use Rattle.pgn_game.specs.Public.PackReading.{RawRecord, after_tags, and_then, body_at, follows}
 pub use Rattle.pgn_game.specs.Public.PackReading.{name_at, next_tag, number_at, raw_of, record_at}
 pub use Rattle.pgn_game.specs.Public.PackReading.{tag_at, text_at}

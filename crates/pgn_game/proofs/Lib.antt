@@ -1,6 +1,9 @@
 pub mod Common
 pub mod OneReplay
-pub mod Openings
+pub mod OneMore
+pub mod OpeningFacts
+pub mod NoOpening
+pub mod Beginnings
 pub mod Tags
 pub mod WalkFacts
 pub mod AnAnswer

@@ -8,7 +8,7 @@ use Rattle.pgn_game.proofs.Common.{MoveText, Element, main_words, IsMainLine, Is
 use Rattle.pgn_game.proofs.Common.{HasStepped, IsStuck, HasWalked, KeepsLine, GameFault, MainWalk}
 use Rattle.pgn_game.specs.Private.Walks.{HasPlayed, HasPassed}
 use Rattle.pgn_game.specs.declared.replays.main_line.LineKeeper.{LineKeeper}
-use Rattle.pgn_game.proofs.Openings.{joined}
+use Rattle.pgn_game.proofs.Beginnings.{joined}
 
 -- outside all variations a move's word is the first of the main line
 pub main_word : (word : List ℕ) (items : List Item) (depth : ℕ) → depth ≡ 0
@@ -110,10 +110,10 @@ module _ {start : State} {words : List (List ℕ)} {old new : LineKeeper} {item 
     first = keeps.first ++ move.word ∷ [];
     parted = keeps.parted ∙ ap (λ ws. keeps.first ++ ws) (move.words items)
         ∙ sym (append_assoc keeps.first (move.word ∷ []) (main_words items new.walk.depth));
-    opening =
+    beginning =
         rw both (rw played (joined start old.walk.position keeps.first (move.word ∷ []) keeps.before
         (old.walk.position ∷ new.walk.position ∷ []) old.played.items (m ∷ []) (subst (λ ps.
-        IsMainLine start keeps.first ps old.played.items) keeps.positions keeps.opening) (
+        IsMainLine start keeps.first ps old.played.items) keeps.positions keeps.beginning) (
           m,
           new.walk.position ∷ [],
           [],
@@ -145,7 +145,7 @@ module _ {start : State} {words : List (List ℕ)} {old new : LineKeeper} {item 
     walked = rw played (walked_past keeps.walked stepped);
     first = keeps.first;
     parted = keeps.parted ∙ ap (λ ws. keeps.first ++ ws) (stepped.words items);
-    opening = rw positions (rw played keeps.opening);
+    beginning = rw positions (rw played keeps.beginning);
   }
 
 -- the elements from a place on

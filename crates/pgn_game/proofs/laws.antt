@@ -1,5 +1,6 @@
 pub mod LaidOnce
 pub mod OneMovetext
+pub mod OneOpening
 pub mod PlainExport
 pub mod PlainLines
 pub mod SomeMovetext

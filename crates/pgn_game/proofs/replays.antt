@@ -1,3 +1,4 @@
 pub mod FlatGames
 pub mod KeptSteps
+pub mod MainSteps
 pub mod PlayedFacts

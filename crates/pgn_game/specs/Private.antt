@@ -13,3 +13,5 @@ pub mod MovetextWalks
 pub mod PackWords
 pub mod PackSteps
 pub mod CodeWords
+pub mod Filing
+pub mod Following

@@ -5,6 +5,7 @@ pub mod AllLines
 pub mod Faults
 pub mod Replays
 pub mod PlayedLines
+pub mod Beginnings
 pub mod Openings
 pub mod Refusals
 pub mod TagLines

@@ -2,6 +2,7 @@
 
 mod comment;
 pub(crate) mod exporter;
+pub mod following;
 pub(crate) mod game_line;
 mod line_wrapper;
 mod movetext;

@@ -6,8 +6,9 @@ ghost use Rattle.pgn_game.specs.Public.Refusals.{OneLineIsReached, RefusedWordIs
 ghost use Rattle.pgn_game.specs.Public.TextLines.{TokensHaveAText, TokensHaveOneText};
 ghost use Rattle.pgn_game.specs.Public.GameLines.{SoundGameHasALine, GameHasOneLine, LineIsTheGame};
 ghost use Rattle.pgn_game.specs.Public.Laws.{EachMoveIsNamed, MainLineIsTheLine, EachMoveHasATurn};
-ghost use Rattle.pgn_game.specs.Public.Laws.{GameHasOneReplay, GameHasOneOpening, GameHasOneFault};
-ghost use Rattle.pgn_game.specs.Public.Laws.{SoundGameHasNoFault, GameHasAnAnswer};
+ghost use Rattle.pgn_game.specs.Public.Laws.{GameHasOneReplay, GameHasOneBeginning};
+ghost use Rattle.pgn_game.specs.Public.Laws.{GameHasOneOpening, OpeningIsOneOrNone, OpeningIsThere};
+ghost use Rattle.pgn_game.specs.Public.Laws.{GameHasOneFault, SoundGameHasNoFault, GameHasAnAnswer};
 ghost use Rattle.pgn_game.specs.Public.Laws.{MovetextHasTokens, GameHasAnExport, GameHasOneExport};
 ghost use Rattle.pgn_game.specs.Public.Laws.{NoLineIsMisread, ExportIsReadAsOne};
 ghost use Rattle.pgn_game.specs.Public.Laws.{ThreeBytesAreACode, CodeIsReadBack, MoveHasOneCode};
@@ -41,9 +42,17 @@ pub fn one_answer()
     ensures not_both { SoundGameHasNoFault }
 {}
 
-/// A game has at most one opening of so many plies.
+/// A game has at most one beginning of so many plies.
+pub fn one_beginning()
+    ensures { GameHasOneBeginning }
+{}
+
+/// By the lines of a file of openings a game has at most one opening, and it has one exactly where
+/// a line ends in a position of it. Of each game there is one answer, an opening or none.
 pub fn one_opening()
-    ensures { GameHasOneOpening }
+    ensures one { GameHasOneOpening }
+    ensures answer { OpeningIsOneOrNone }
+    ensures there { OpeningIsThere }
 {}
 
 /// Of the main line, and of all lines, a game has a replay or a fault, where its FEN tag holds the

@@ -23,18 +23,21 @@
 mod explain;
 mod exports;
 pub mod laws;
+mod openings;
 pub mod pack;
 mod replays;
 mod turns;
 
 pub use explain::{Refused, Why, named_moves, refused_word};
-pub use exports::exporter::{export, export_played};
+pub use exports::exporter::{export, export_followed, export_played, follow_export};
+pub use exports::following::Followed;
 pub use exports::game_line::push_line;
 pub use exports::notation::Notation;
 pub use exports::style::Style;
+pub use openings::{Classified, Opening, OpeningLine, Openings};
 pub use replays::played_line::MainLine;
 pub use replays::replayer::{
-    Lines, check_lines, check_variations, count_plies, replay, replay_opening,
+    Lines, check_lines, check_variations, count_plies, replay, replay_beginning,
 };
 pub use turns::fault::GameFault;
 pub use turns::line_move::LineMove;

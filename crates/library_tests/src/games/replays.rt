@@ -5,7 +5,7 @@ use crate::rows::is_kind;
 use chess::{Move, Side};
 use pgn_game::{
     GameFault, LineMove, Lines, Replayed, check_lines, check_variations, count_plies, replay,
-    replay_opening,
+    replay_beginning,
 };
 use pgn_text::RawGame;
 use std::alloc::Global;
@@ -99,18 +99,19 @@ pub fn variations_end_so(alloc: Global, game: &RawGame<'_>, columns: [&str; 5]) 
     }
 }
 
-/// Whether the opening of the game has so many plies where so many are asked for, or is `refused`.
-pub fn has_opening(alloc: Global, game: &RawGame<'_>, columns: [&str; 5]) -> Option<bool> {
+/// Whether the beginning of the game has so many plies where so many are asked for, or is
+/// `refused`.
+pub fn has_beginning(alloc: Global, game: &RawGame<'_>, columns: [&str; 5]) -> Option<bool> {
     let [_, most, plies, ..] = columns;
-    match replay_opening(alloc, game, most.parse::<usize>().ok()?) {
-        Ok(opening) => Some(plies.parse::<usize>() == Ok(opening.plies())),
+    match replay_beginning(alloc, game, most.parse::<usize>().ok()?) {
+        Ok(beginning) => Some(plies.parse::<usize>() == Ok(beginning.plies())),
         Err(_) => Some(is_kind(plies, b'r')),
     }
 }
 
-/// A game, the plies that are asked for, and those of its opening; it is refused where its main
+/// A game, the plies that are asked for, and those of its beginning; it is refused where its main
 /// line is faulty up to there.
-const OPENINGS: &str = r#"
+const BEGINNINGS: &str = r#"
 1. e4 e5 2. Nf3 * | 0 | 0
 1. e4 e5 2. Nf3 * | 1 | 1
 1. e4 e5 2. Nf3 * | 3 | 3
@@ -123,8 +124,8 @@ const OPENINGS: &str = r#"
 "#;
 
 #[test]
-fn openings_have_their_plies(rt: HostRuntime) -> Result<(), Fail> {
-    rows_hold(&Says::Opening.over(rt.alloc()), OPENINGS, 9)
+fn beginnings_have_their_plies(rt: HostRuntime) -> Result<(), Fail> {
+    rows_hold(&Says::Beginning.over(rt.alloc()), BEGINNINGS, 9)
 }
 
 /// A game whose main line is sound, and the fault of its variations.

@@ -1,7 +1,8 @@
 //! What the rows of each table say. In a text `\n` is a line feed, `\\` a backslash.
+use crate::games::openings::has_opening;
 use crate::games::refusals::{is_refused, names, tag_stands};
 use crate::games::replays::{
-    count_has_fault, has_fault, has_lines, has_opening, has_plies, variations_end_so,
+    count_has_fault, has_beginning, has_fault, has_lines, has_plies, variations_end_so,
 };
 use crate::rows::Asked;
 use pgn_game::Lines;
@@ -12,7 +13,7 @@ use test_support::{Rows, bytes_of, first_game};
 #[derive(Drop)]
 pub enum Says {
     Plies,
-    Opening,
+    Beginning,
     Variations,
     Fault,
     FirstFault,
@@ -20,6 +21,7 @@ pub enum Says {
     Refused,
     TagStands,
     Names,
+    Opened,
 }
 
 impl Says {
@@ -33,6 +35,7 @@ impl Rows for Asked<Says> {
     fn is_so(&self, columns: [&str; 5]) -> bool {
         let [text, ..] = columns;
         let is_so = match (bytes_of(self.alloc, text), &self.says) {
+            (_, Says::Opened) => has_opening(self.alloc, columns),
             (Some(fen), Says::Names) => names(self.alloc, &fen, columns),
             (Some(block), says) => holds(self.alloc, says, &block, columns),
             (None, _) => None,
@@ -46,7 +49,7 @@ fn holds(alloc: Global, says: &Says, block: &[u8], columns: [&str; 5]) -> Option
     let game = first_game(alloc, block).ok()??;
     match says {
         Says::Plies => has_plies(alloc, &game, columns),
-        Says::Opening => has_opening(alloc, &game, columns),
+        Says::Beginning => has_beginning(alloc, &game, columns),
         Says::Variations => Some(variations_end_so(alloc, &game, columns)),
         Says::Fault => Some(
             has_fault(alloc, &game, Lines::Main, columns) && count_has_fault(alloc, &game, columns),
@@ -55,6 +58,6 @@ fn holds(alloc: Global, says: &Says, block: &[u8], columns: [&str; 5]) -> Option
         Says::Turns => has_lines(alloc, &game, columns),
         Says::Refused => is_refused(alloc, block, &game, columns),
         Says::TagStands => tag_stands(block, &game, columns),
-        Says::Names => None,
+        Says::Names | Says::Opened => None,
     }
 }

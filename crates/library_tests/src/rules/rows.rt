@@ -2,6 +2,7 @@
 //! rows of each table say.
 use crate::rules::board::reaches;
 use crate::rules::fen::{gives, is_refused, is_written};
+use crate::rules::keys::are_keyed;
 use crate::rules::moves::{aims_at, has_targets, is_illegal, leads, stands};
 use crate::rules::passes::passes_to;
 use crate::rules::texts::{is_text, names, names_none, plays};
@@ -14,6 +15,7 @@ pub enum Says {
     Refused,
     Gives,
     Reaches,
+    Keyed,
     Passes,
     Leads,
     Illegal,
@@ -41,6 +43,7 @@ fn holds<B: Board>(says: &Says, columns: [&str; 5]) -> Option<bool> {
         Says::Refused => Some(is_refused::<B>(first, second)),
         Says::Gives => Some(gives::<B>(first, second, third)),
         Says::Reaches => reaches::<B>(first, second, third, fourth),
+        Says::Keyed => are_keyed::<B>(first, second, third, fourth),
         Says::Passes => passes_to::<B>(first, second),
         Says::Leads => leads::<B>(first, second, third),
         Says::Illegal => is_illegal::<B>(first, second),

@@ -8,20 +8,20 @@ use Rattle.chess.specs.Public.FirstFields.{GivesPosition}
 use Rattle.chess.specs.Public.Squares.{Place, IsOnBoard}
 use Rattle.chess.specs.Public.Placements.{man_at}
 use Rattle.chess.specs.Public.Positions.{State, IsCheck}
-use Rattle.chess.specs.Public.Moves.{is_en_passant, men_after}
+use Rattle.chess.specs.Public.Moves.{TakesEnPassant, is_en_passant, men_after}
 use Rattle.chess.specs.Public.Start.{initial, initial_man}
 use Rattle.chess.specs.declared.board.man.Side.TheVariants.{White, Black}
 use Rattle.chess.specs.declared.board.man.Wing.TheVariants.{KingSide}
 use Rattle.chess.specs.declared.moves.Move.{Move}
+use Rattle.chess.proofs.EnPassantFacts.{captures, none_without}
 use Rattle.chess.proofs.FenReadBack.{fen_reads}
 use Rattle.chess.proofs.StartFacts.{initial_kept, initial_at}
 use Rattle.chess.proofs.examples.StartText.{initial_fen, initial_has_fen}
 use Rattle.pgn_game.specs.Public.Replays.{Replay}
 use Rattle.pgn_criteria.specs.Public.Lines.{SpellsMove, IsTrimmed}
-use Rattle.pgn_criteria.specs.Public.Setups.{TakesEnPassant, IsAlike, IsSetUp}
+use Rattle.pgn_criteria.specs.Public.Setups.{IsAlike, IsSetUp}
 use Rattle.pgn_criteria.specs.declared.setup.Setup as declared
 use Rattle.pgn_criteria.specs.declared.condition.MoveClaim.TheVariants.{Setup}
-use Rattle.pgn_criteria.proofs.SetupFacts.{captures}
 
 -- a whole FEN: its first four fields are given
 initial_given : GivesPosition initial_fen 4 initial
@@ -115,10 +115,6 @@ no_other_move P m other takes = let both : false ≡ true = sym other ∙ takes.
 no_pinned_pawn : (P : State) (m : Move) → IsCheck (men_after P m) P.turn → TakesEnPassant P m → ⊥
 no_pinned_pawn P m check takes = takes.legal.safe check
 
-no_capture_without_a_square : (P : State) (m : Move) → P.en_passant ≡ None → TakesEnPassant P m → ⊥
-no_capture_without_a_square P m none takes =
-    let both : None ≡ Some m.to = sym none ∙ (captures P m takes).0 in cc
-
 -- no white pawn stands where it can take on e6
 after_a_step : State
 after_a_step = record {
@@ -153,7 +149,7 @@ square_without_a_capture = record {
   turn = λ given. refl;
   rights = λ given side wing. refl;
   en_passant = λ given m. (
-    (λ takes. absurd (no_capture_without_a_square initial m refl takes)),
+    (λ takes. absurd (none_without initial m refl takes)),
     (λ takes. absurd (no_capture_on_e6 m takes)),
   );
 }
@@ -162,7 +158,7 @@ square_without_a_capture = record {
 not_without_the_capture : (P Q : State) (m : Move) → TakesEnPassant P m → Q.en_passant ≡ None
     → IsAlike 4 P Q → ⊥
 not_without_the_capture P Q m takes none alike =
-    no_capture_without_a_square Q m none ((alike.en_passant (omega arith) m).0 takes)
+    none_without Q m none ((alike.en_passant (omega arith) m).0 takes)
 
 not_the_other_capture : (P Q : State) (m : Move) (square : Place) → TakesEnPassant Q m
     → P.en_passant ≡ Some square → (square ≡ m.to → ⊥) → IsAlike 4 P Q → ⊥
@@ -191,7 +187,7 @@ pinned_pawn_is_passed_over P pinned = record {
   rights = λ given side wing. refl;
   en_passant = λ given m. (
     (λ takes. absurd (no_pinned_pawn P m (pinned m takes.capture) takes)),
-    (λ takes. absurd (no_capture_without_a_square (with_a_dash P) m refl takes)),
+    (λ takes. absurd (none_without (with_a_dash P) m refl takes)),
   );
 }
 
@@ -213,8 +209,8 @@ counts_are_passed_over = record {
   turn = λ given. refl;
   rights = λ given side wing. refl;
   en_passant = λ given m. (
-    (λ takes. absurd (no_capture_without_a_square initial m refl takes)),
-    (λ takes. absurd (no_capture_without_a_square later m refl takes)),
+    (λ takes. absurd (none_without initial m refl takes)),
+    (λ takes. absurd (none_without later m refl takes)),
   );
 }
 

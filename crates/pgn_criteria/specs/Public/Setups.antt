@@ -1,18 +1,13 @@
 -- A position that is asked for by the first fields of a FEN.
-use Rattle.std.specs.Prelude.{◌≡◌, ◌≤◌, ◌↔◌, ℕ, true, Some}
+use Rattle.std.specs.Prelude.{◌≡◌, ◌≤◌, ◌↔◌, ℕ, Some}
 use Rattle.std.specs.List.{slice_get}
 use Rattle.chess.specs.Public.Positions.{State, has_right}
-use Rattle.chess.specs.Public.Moves.{IsLegal, is_en_passant}
+use Rattle.chess.specs.Public.Moves.{TakesEnPassant}
 use Rattle.chess.specs.declared.board.man.Side.{Side}
 use Rattle.chess.specs.declared.board.man.Wing.{Wing}
 use Rattle.chess.specs.declared.moves.Move.{Move}
 use Rattle.pgn_game.specs.Public.Replays.{Replay}
 use Rattle.pgn_criteria.specs.declared.setup.Setup.{Setup}
-
--- the move takes a pawn en passant, and is legal
-pub record TakesEnPassant (P : State) (m : Move) : Type 0 where
-  pub capture : is_en_passant P m ≡ true
-  pub legal : IsLegal P m
 
 -- the position is that one in so many of the first four fields of its FEN
 pub record IsAlike (given : ℕ) (P Q : State) : Type 0 where

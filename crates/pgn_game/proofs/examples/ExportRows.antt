@@ -46,9 +46,9 @@ no_ply_uncounted : (old new : played.PlayedLine) → new.plies ≡ old.plies
     → played.PlaysWord old new → ⊥
 no_ply_uncounted old new same plays = omega (arith, same, plays.plies)
 
-no_ply_past_the_most : (start : State) (words : List (List ℕ)) (most : ℕ) (opening : Replay)
-    → most < length opening.played → IsBeginning start words most opening → ⊥
-no_ply_past_the_most start words most opening more is = omega (arith, more, is.few)
+no_ply_past_the_most : (start : State) (words : List (List ℕ)) (most : ℕ) (beginning : Replay)
+    → most < length beginning.played → IsBeginning start words most beginning → ⊥
+no_ply_past_the_most start words most beginning more is = omega (arith, more, is.few)
 
 -- Words that are refused: which are played before them.
 

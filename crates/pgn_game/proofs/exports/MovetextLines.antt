@@ -11,8 +11,8 @@ use Rattle.pgn_game.proofs.Common.{own_words, SaysTurn, after_turn, IsPlayed, co
 use Rattle.pgn_game.proofs.Common.{number_tokens, kept, lines_with, AreMovetextTokens, AreTokens}
 use Rattle.pgn_game.proofs.Common.{Fault, HasLineFault, IsMoveFault, Stops, begun, first_level}
 use Rattle.pgn_game.proofs.Common.{gone_on, is_inside, main_words, IsMainLine, HasPut, Step, Visits}
-use Rattle.pgn_game.proofs.Common.{Walks, WalksOn, around, shown_items, Replay, AreTurns, IsReplay}
-use Rattle.pgn_game.proofs.Common.{IsSoundGame, fault_of, IsStart, Level, GameFault, LineStack}
+use Rattle.pgn_game.proofs.Common.{Walks, shown_items, Replay, AreTurns, IsReplay}
+use Rattle.pgn_game.proofs.Common.{IsSoundGame, fault_of, IsStart, Level, GameFault}
 use Rattle.pgn_game.proofs.Common.{MovetextWriter, All, Style, LineMove, Played, Passed}
 use Rattle.pgn_game.specs.Public.Exports.{IsReplayFor}
 use Rattle.pgn_game.specs.Private.MovetextWalks.{WritesStep}
@@ -383,14 +383,13 @@ pub record WrittenTokens (style : Style) (start : State) (items : List Item)
   pub tokens : AreTokens style false start start true line own
   pub put : HasPut old.wrapper new.wrapper old.out.items new.out.items own
 
-pub written_tokens : (start : State) (items : List Item) (stack : LineStack Level)
-    (steps : List Step) (old new : MovetextWriter) → IsPaired 0 items
-    → around stack ≡ [] → stack.line ≡ first_level start → old.apart ≡ true
-    → WalksOn stack (shown_items old.style.variations 0 items) steps
+pub written_tokens : (start : State) (items : List Item) (steps : List Step)
+    (old new : MovetextWriter) → IsPaired 0 items → old.apart ≡ true
+    → Walks (shown_items old.style.variations 0 items) (first_level start) [] steps
     → Visits WritesStep old steps new → WrittenTokens old.style start items old new
-written_tokens start items stack steps old new paired none begins stands on visits =
+written_tokens start items steps old new paired stands on visits =
     let spelt = one_spelt items paired in
-    let walks = rw spelt.1 at (rw begins at (rw none at on)) in
+    let walks = rw spelt.1 at on in
     by old.style.variations refl spelt.0 spelt.1 walks
   where
     by : (variations : Bool) → old.style.variations ≡ variations → (line : Line)

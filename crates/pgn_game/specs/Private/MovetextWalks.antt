@@ -3,11 +3,24 @@
 use Rattle.std.specs.Prelude.{◌≡◌, ◌||◌, ℕ, Bool, true, false, codes, decimal, List, [], ◌∷◌, ◌++◌}
 use Rattle.pgn_text.specs.Public.Games.{MoveText, GlyphNumber, CommentText, VariationOpen}
 use Rattle.pgn_text.specs.Public.Games.{VariationClose}
+use Rattle.chess.specs.Public.Positions.{State}
+use Rattle.pgn_text.specs.Public.GameTexts.{GameText}
 use Rattle.pgn_game.specs.Public.Comments.{comment_tokens}
-use Rattle.pgn_game.specs.Public.Exports.{number_tokens, IsTurnText, kept}
+use Rattle.pgn_game.specs.Public.Exports.{AreMovetextTokens, number_tokens, IsTurnText, kept}
+use Rattle.pgn_game.specs.Public.TextLines.{IsLaid}
 use Rattle.pgn_game.specs.Private.LineWrappers.{HasPut}
 use Rattle.pgn_game.specs.Private.Steps.{Step, Turned, Beside}
 use Rattle.pgn_game.specs.declared.exports.movetext.MovetextWriter.{MovetextWriter}
+use Rattle.pgn_game.specs.declared.exports.style.Style.{Style}
+
+-- it has written no token after these bytes
+pub record IsNew (wanted : Style) (before : List ℕ) (writer : MovetextWriter) : Type 0 where
+  pub out : writer.out.items ≡ before
+  pub width : writer.wrapper.width ≡ wanted.width
+  pub begun : writer.wrapper.begun ≡ false
+  pub column : writer.wrapper.column ≡ 0
+  pub apart : writer.apart ≡ true
+  pub style : writer.style ≡ wanted
 
 -- the tokens are written, and the next move stands apart after them or does not
 pub record Puts (old new : MovetextWriter) (tokens : List (List ℕ)) (apart : Bool) : Type 0 where

@@ -64,4 +64,4 @@ pub record KeepsLine (start : State) (words : List (List ℕ)) (line : LineKeepe
   pub walked : HasWalked start words line.walk before line.played.items items
   pub first : List (List ℕ)
   pub parted : words ≡ first ++ main_words items line.walk.depth
-  pub opening : IsMainLine start first line.positions.items line.played.items
+  pub beginning : IsMainLine start first line.positions.items line.played.items

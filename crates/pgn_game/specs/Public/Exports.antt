@@ -66,6 +66,12 @@ AreMovetextTokens style start items result tokens =
     (line : Line) × (own : List (List ℕ)) × (items ≡ spelled line)
     × AreTokens style false start start true line own × (tokens ≡ own ++ result ∷ [])
 
+-- the text is the movetext of the game in the style, played from this start
+abbrev pub IsMovetext : Style → State → GameText → List ℕ → Type 0
+IsMovetext style start game text = (tokens : List (List ℕ))
+    × AreMovetextTokens style start game.elements game.result tokens
+    × IsLaid style.width tokens text
+
 -- the lines of a game that are written, where variations are kept or left out
 abbrev pub lines_with : Bool → Lines
 lines_with true = All

@@ -1,6 +1,6 @@
 -- What holds of every game, whatever replays it.
 use Rattle.std.specs.Prelude.{◌≡◌, ◌⊎◌, ℕ, ◌+◌, ◌/◌, ◌%◌, ◌^◌, ◌==◌, ◌<◌, ◌≤◌, List, [], ◌∷◌, ◌++◌}
-use Rattle.std.specs.Prelude.{length, Option, Some, IfSome, IsTrue, is_some}
+use Rattle.std.specs.Prelude.{◌↔◌, length, Option, Some, IfSome, IsSome, IsTrue, is_some}
 use Rattle.std.specs.List.{slice_get, AllByRecursion}
 use Rattle.chess.specs.Public.Positions.{State}
 use Rattle.chess.specs.Public.Moves.{after, IsPseudoLegal}
@@ -17,7 +17,8 @@ use Rattle.pgn_text.specs.Public.Strings.{IsContents}
 use Rattle.pgn_game.specs.Public.AllLines.{Line, spelled, own_words}
 use Rattle.pgn_game.specs.Public.MainLines.{main_words}
 use Rattle.pgn_game.specs.Public.Faults.{Fault, IsFault}
-use Rattle.pgn_game.specs.Public.Openings.{IsOpening}
+use Rattle.pgn_game.specs.Public.Beginnings.{IsGameBeginning}
+use Rattle.pgn_game.specs.Public.Openings.{EndsAt, IsOpeningOf, IsOpeningIn}
 use Rattle.pgn_game.specs.Public.PackedGames.{PackedGame, FitsRecord, IsPacked, IsRecordOf, head_of}
 use Rattle.pgn_game.specs.Public.PackedGames.{numbered_result, record_bytes, pack_bytes}
 use Rattle.pgn_game.specs.Public.PackedGames.{longest_name, is_origin}
@@ -26,6 +27,7 @@ use Rattle.pgn_game.specs.Public.Replays.{Replay, IsReplay, IsSoundGame}
 use Rattle.pgn_game.specs.Public.Exports.{AreMovetextTokens, IsReplayFor, IsExport}
 use Rattle.pgn_game.specs.Public.Starts.{IsStart, fen_tag}
 use Rattle.pgn_game.specs.Public.TextLines.{IsLaid}
+use Rattle.pgn_game.specs.declared.openings.Opening.{Opening}
 use Rattle.pgn_game.specs.declared.replays.replayer.Lines.{Lines}
 use Rattle.pgn_game.specs.declared.replays.replayer.Lines.TheVariants.{All, Main}
 use Rattle.pgn_game.specs.declared.exports.style.Style.{Style}
@@ -47,11 +49,30 @@ GameHasOneReplay =
     (lines : Lines) (fen : Option (List ℕ)) (items : List Item) (replay other : Replay)
     → IsReplay lines fen items replay → IsReplay lines fen items other → replay ≡ other
 
--- a game has one opening of so many plies at most
+-- a game has one beginning of so many plies at most
+abbrev pub GameHasOneBeginning : Type 0
+GameHasOneBeginning =
+    (fen : Option (List ℕ)) (items : List Item) (most : ℕ) (beginning other : Replay)
+    → IsGameBeginning fen items most beginning → IsGameBeginning fen items most other
+    → beginning ≡ other
+
+-- a game has one opening at most
 abbrev pub GameHasOneOpening : Type 0
 GameHasOneOpening =
-    (fen : Option (List ℕ)) (items : List Item) (most : ℕ) (opening other : Replay)
-    → IsOpening fen items most opening → IsOpening fen items most other → opening ≡ other
+    (ends positions : List State) (opening other : Opening) → IsOpeningOf ends positions opening
+    → IsOpeningOf ends positions other → opening ≡ other
+
+-- of a game there is one answer, an opening or none
+abbrev pub OpeningIsOneOrNone : Type 0
+OpeningIsOneOrNone =
+    (ends positions : List State) (answer other : Option Opening)
+    → IsOpeningIn ends positions answer → IsOpeningIn ends positions other → answer ≡ other
+
+-- it is an opening exactly where a line ends in a position of the game
+abbrev pub OpeningIsThere : Type 0
+OpeningIsThere = (ends positions : List State) (answer : Option Opening)
+    → IsOpeningIn ends positions answer
+    → IsSome answer ↔ ((ply : ℕ) × (line : ℕ) × EndsAt ends positions ply line)
 
 -- these lines of a game have one fault at most
 abbrev pub GameHasOneFault : Type 0

@@ -157,8 +157,18 @@ impl LineWrapper {
         Ok(())
     }
 
+    /// Writes the last token after the others, and ends its line.
+    pub(crate) fn put_last(&mut self, out: &mut Vec<u8>, token: &[u8]) -> Result<(), AllocError>
+        ensures text { OnOk result (out.new.items ≡ out.old.items
+            ++ after_tokens self.old.width self.old.begun self.old.column (token.now ∷ [])) }
+        ensures kept { (some : List ℕ) × (out.new.items ≡ out.old.items ++ some) }
+    {
+        self.put(out, token)?;
+        self.finish(out)
+    }
+
     /// Ends the last line, if there is one.
-    pub(crate) fn finish(&self, out: &mut Vec<u8>) -> Result<(), AllocError>
+    fn finish(&self, out: &mut Vec<u8>) -> Result<(), AllocError>
         ensures text { OnOk result (out.new.items
             ≡ out.old.items ++ after_tokens self.now.width self.now.begun self.now.column []) }
         ensures kept { (some : List ℕ) × (out.new.items ≡ out.old.items ++ some) }

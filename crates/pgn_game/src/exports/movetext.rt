@@ -1,12 +1,14 @@
 //! The movetext of a game, written at each step of a walk over its lines.
 ghost use Rattle.std.specs.Prelude.{◌≡◌, ◌++◌, ◌∷◌, ℕ, List, [], codes, decimal, false, map, true};
-ghost use Rattle.std.specs.Prelude.{IfErr, IfSome, OnOk};
+ghost use Rattle.std.specs.Prelude.{IfErr, IfSome, MatchResult, OnOk};
 ghost use Rattle.pgn_text.specs.Public.Elements.{item_of};
-ghost use Rattle.pgn_game.specs.Public.Exports.{AreMovetextTokens, lines_with, number_tokens};
+ghost use Rattle.pgn_text.specs.Public.GameTexts.{IsPaired};
+ghost use Rattle.pgn_game.specs.Public.Exports.{lines_with, number_tokens, IsMovetext};
 ghost use Rattle.pgn_game.specs.Public.Faults.{HasLineFault};
-ghost use Rattle.pgn_game.specs.Private.MovetextWalks.{Puts, WritesStep};
 ghost use Rattle.pgn_game.specs.Public.Replays.{fault_of};
-ghost use Rattle.pgn_game.specs.Public.TextLines.{IsLaid};
+ghost use Rattle.pgn_game.specs.Private.LineWalks.{first_level};
+ghost use Rattle.pgn_game.specs.Private.MovetextWalks.{IsNew, Puts, WritesStep};
+ghost use Rattle.pgn_game.specs.Private.Steps.{Step, Visits, Walks, shown_items};
 
 use crate::exports::comment::put_comment;
 use crate::exports::line_wrapper::LineWrapper;
@@ -27,15 +29,28 @@ use std::mem;
 /// stands apart from the turn before it: as the first of its line, or with a comment or a variation
 /// between them.
 #[derive(Drop)]
-struct MovetextWriter {
-    out: Vec<u8>,
-    wrapper: LineWrapper,
+pub(crate) struct MovetextWriter {
+    pub(crate) out: Vec<u8>,
+    pub(crate) wrapper: LineWrapper,
     apart: bool,
     style: Style,
 }
 
 impl MovetextWriter {
+    /// Before the first token, which is to follow these bytes.
+    pub(crate) fn new(out: Vec<u8>, style: &Style) -> Self
+        ensures { IsNew style.now out.items result }
+    {
+        MovetextWriter {
+            out,
+            wrapper: LineWrapper::new(style.width),
+            apart: true,
+            style: *style,
+        }
+    }
+
     /// Writes a turn of the side after the number of its move.
+    #[inline(always)]
     fn put_turn(&mut self, side: Side, number: u32, text: &[u8]) -> Result<(), AllocError>
         ensures text { OnOk result (Puts self.old self.new (number_tokens side number self.old.apart
             ++ text.now ∷ []) false) }
@@ -61,6 +76,7 @@ impl StepVisitor for MovetextWriter {
 
     ghost text = { λ writer. writer.out.items };
 
+    #[inline(always)]
     fn turn<'a>(
         &mut self,
         position: &mut GamePosition,
@@ -75,6 +91,7 @@ impl StepVisitor for MovetextWriter {
         Ok(turn)
     }
 
+    #[inline(always)]
     fn beside(&mut self, element: Element<'_>) -> Result<(), AllocError> {
         match element {
             Element::Move(_) => Ok(()),
@@ -97,6 +114,29 @@ impl StepVisitor for MovetextWriter {
     }
 }
 
+/// Plays the lines of the game from this start, with variations or without, and takes the visitor
+/// along their steps.
+pub(crate) fn walk_lines<'a, V: StepVisitor>(
+    alloc: Global,
+    game: &RawGame<'a>,
+    start: &GamePosition,
+    variations: bool,
+    visitor: &mut V,
+) -> Result<(), GameFault<'a>>
+    ensures walked { MatchResult result
+        (λ _. (steps : List Step)
+        × Walks (shown_items variations 0 game.now.elements) (first_level start.now) [] steps
+        × Visits V.does visitor.old steps visitor.new)
+        (λ fault.
+        IfSome (fault_of fault)
+        (HasLineFault (lines_with variations) start.now game.now.elements)) }
+    ensures paired { IsPaired 0 game.now.elements }
+    ensures kept { (some : List ℕ) × (V.text visitor.new ≡ V.text visitor.old ++ some) }
+{
+    let mut stack = LineStack::new(alloc, Level::first(start));
+    walk(&mut stack, game.elements(), variations, visitor)
+}
+
 /// Plays the lines of the game that the style keeps from this start, and writes its movetext in
 /// lines of the style's width: its moves, with what the style keeps beside them, and its result.
 /// Where a line is faulty or memory runs out, some of it may stand in the vector.
@@ -107,23 +147,16 @@ pub(crate) fn put_movetext<'a>(
     style: &Style,
     out: &mut Vec<u8>,
 ) -> Result<(), GameFault<'a>>
-    ensures text { OnOk result ((tokens : List (List ℕ)) × (movetext : List ℕ)
-        × AreMovetextTokens style.now start.now game.now.elements game.now.result tokens
-        × IsLaid style.now.width tokens movetext
+    ensures text { OnOk result ((movetext : List ℕ)
+        × IsMovetext style.now start.now game.now movetext
         × (out.new.items ≡ out.old.items ++ movetext)) }
     ensures fault { IfErr result (λ fault.
         IfSome (fault_of fault)
         (HasLineFault (lines_with style.now.variations) start.now game.now.elements)) }
     ensures kept { (some : List ℕ) × (out.new.items ≡ out.old.items ++ some) }
 {
-    let mut stack = LineStack::new(alloc, Level::first(start));
-    let mut writer = MovetextWriter {
-        out: mem::replace(out, Vec::new(alloc)),
-        wrapper: LineWrapper::new(style.width),
-        apart: true,
-        style: *style,
-    };
-    let walked = walk(&mut stack, game.elements(), style.variations, &mut writer);
+    let mut writer = MovetextWriter::new(mem::replace(out, Vec::new(alloc)), style);
+    let walked = walk_lines(alloc, game, start, style.variations, &mut writer);
     let MovetextWriter {
         out: text,
         mut wrapper,
@@ -131,6 +164,5 @@ pub(crate) fn put_movetext<'a>(
     } = writer;
     *out = text;
     walked?;
-    wrapper.put(out, game.result())?;
-    Ok(wrapper.finish(out)?)
+    Ok(wrapper.put_last(out, game.result())?)
 }

@@ -66,6 +66,7 @@ fn put_count(
 
 /// Writes the number of a move of the side, if it is to have one: White's always, Black's where it
 /// stands apart from the move before it.
+#[inline(always)]
 pub(crate) fn put_number(
     wrapper: &mut LineWrapper,
     out: &mut Vec<u8>,
@@ -112,6 +113,7 @@ pub(crate) fn put_glyph(
 
 /// Plays what the word says in the position, in a variation or not, and writes its standard text;
 /// or answers the fault of this ply.
+#[inline(always)]
 pub(crate) fn play_turn_san<'a>(
     position: &mut GamePosition,
     inside: bool,

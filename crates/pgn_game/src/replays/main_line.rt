@@ -6,7 +6,7 @@ ghost use Rattle.pgn_text.specs.Public.Elements.{item_of};
 ghost use Rattle.pgn_text.specs.Public.Games.{Item};
 ghost use Rattle.pgn_game.specs.Public.MainLines.{main_words, IsMainLine};
 ghost use Rattle.pgn_game.specs.Public.Faults.{IsMoveFault};
-ghost use Rattle.pgn_game.specs.Public.Openings.{IsBeginning};
+ghost use Rattle.pgn_game.specs.Public.Beginnings.{IsBeginning};
 ghost use Rattle.pgn_game.specs.Public.Replays.{fault_of, HasPlies};
 ghost use Rattle.pgn_game.specs.Private.Walks.{HasStepped, IsStuck, KeepsLine, HasLinePlies};
 
@@ -189,7 +189,7 @@ pub(crate) fn play_main_line<'a>(
 }
 
 /// Plays the main line of the elements from the position up to so many plies, or to its end.
-pub(crate) fn play_opening<'a>(
+pub(crate) fn play_beginning<'a>(
     alloc: Global,
     start: GamePosition,
     elements: &[Element<'a>],
@@ -200,14 +200,14 @@ pub(crate) fn play_opening<'a>(
         (λ fault.
         IfSome (fault_of fault) (IsMoveFault start 0 (main_words (map item_of elements.now) 0))) }
 {
-    let mut opening = LineKeeper::new(alloc, start, &[])?;
+    let mut beginning = LineKeeper::new(alloc, start, &[])?;
     for element in elements {
-        if opening.played.len() >= most {
-            return Ok(opening.replayed(alloc));
+        if beginning.played.len() >= most {
+            return Ok(beginning.replayed(alloc));
         }
-        opening.step(*element)?;
+        beginning.step(*element)?;
     }
-    Ok(opening.replayed(alloc))
+    Ok(beginning.replayed(alloc))
 }
 
 /// Counts the plies of the main line of the elements, played from the position.

@@ -5,12 +5,12 @@ ghost use Rattle.pgn_text.specs.Public.GameTexts.{tag_in};
 ghost use Rattle.pgn_game.specs.Public.Starts.{fen_tag};
 ghost use Rattle.pgn_game.specs.Public.Faults.{IsFault};
 ghost use Rattle.pgn_game.specs.Private.LineWalks.{IsFlat};
-ghost use Rattle.pgn_game.specs.Public.Openings.{IsOpening};
+ghost use Rattle.pgn_game.specs.Public.Beginnings.{IsGameBeginning};
 ghost use Rattle.pgn_game.specs.Public.Replays.{IsReplay, IsSoundGame, HasPlies, fault_of};
 ghost use Rattle.pgn_game.specs.declared.replays.replayer.Lines.TheVariants.{All, Main};
 
 use crate::replays::all_lines::play_all_lines;
-use crate::replays::main_line::{count_main_line, play_main_line, play_opening};
+use crate::replays::main_line::{count_main_line, play_beginning, play_main_line};
 use crate::replays::walk::check_all_lines;
 use crate::turns::fault::GameFault;
 use crate::turns::replayed::Replayed;
@@ -94,18 +94,18 @@ pub fn check_variations<'a>(alloc: Global, raw: &RawGame<'a>) -> Result<(), Game
 
 /// Plays the main line of the game up to so many plies, or to its end, and keeps the positions so
 /// far.
-pub fn replay_opening<'a>(
+pub fn replay_beginning<'a>(
     alloc: Global,
     raw: &RawGame<'a>,
     most: usize,
 ) -> Result<Replayed, GameFault<'a>>
     ensures { MatchResult result
-        (IsOpening (tag_in fen_tag raw.now.tags) raw.now.elements most)
+        (IsGameBeginning (tag_in fen_tag raw.now.tags) raw.now.elements most)
         (λ fault.
         IfSome (fault_of fault) (IsFault Main (tag_in fen_tag raw.now.tags) raw.now.elements)) }
 {
     let start = starting_position(alloc, raw.tags())?;
-    play_opening(alloc, start, raw.elements(), most)
+    play_beginning(alloc, start, raw.elements(), most)
 }
 
 /// Counts the plies of the main line of the game, or reports its fault: just as a replay of the

@@ -1,6 +1,6 @@
 use Rattle.pgn_criteria.proofs.Common.{sym, subst, arith, EachAsksWithin}
 use Rattle.pgn_criteria.proofs.MeetFacts.{alternatives_from}
-use Rattle.pgn_criteria.proofs.OpeningFacts.{all_ask_more}
+use Rattle.pgn_criteria.proofs.BeginningFacts.{all_ask_more}
 use Rattle.pgn_criteria.proofs.parse.longest.Goals as goal
 
 pub loop-alternative-preserved : goal.loop-alternative-preserved

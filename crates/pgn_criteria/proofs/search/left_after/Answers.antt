@@ -3,7 +3,7 @@ use Rattle.pgn_criteria.proofs.Common.{◌≡◌, ◌↔◌, ◌++◌, ◌∷◌
 use Rattle.pgn_criteria.proofs.Common.{arith, map-append, drop-length, State, heading_of, Heading}
 use Rattle.pgn_criteria.proofs.Common.{SomeHold, on_positions}
 use Rattle.pgn_criteria.proofs.MeetFacts.{good_from, within_from, alternatives_from}
-use Rattle.pgn_criteria.proofs.OpeningFacts.{none_of_none}
+use Rattle.pgn_criteria.proofs.BeginningFacts.{none_of_none}
 use Rattle.pgn_criteria.proofs.StageFacts.{kept_one, dropped_one}
 use Rattle.pgn_criteria.proofs.search.left_after.Goals.{then-is_of_game+in_ok-push, else-is_of_game}
 use Rattle.pgn_criteria.proofs.search.left_after.Goals as goal
@@ -11,7 +11,7 @@ use Rattle.pgn_criteria.proofs.search.left_after.Goals as goal
 pub loop-alternative-preserved : goal.loop-alternative-preserved
 loop-alternative-preserved c =
     let heading : Heading = heading_of c.args.game.now in
-    let replay = c.args.opening.now in
+    let replay = c.args.beginning.now in
     let all = c.args.alternatives.now in
     let i = c.loop-alternative.alternative-index in
     let own = c.alternative-item.result in
@@ -47,7 +47,7 @@ loop-alternative-preserved c =
 pub returns-clause-kept : goal.returns-clause-kept
 returns-clause-kept c ply P =
     let heading : Heading = heading_of c.args.game.now in
-    let replay = c.args.opening.now in
+    let replay = c.args.beginning.now in
     let all = c.args.alternatives.now in
     let left = map (λ a. on_positions a.now) c.loop-alternative.left.items in
     let end : c.loop-alternative.alternative-index ≡ length all = omega arith in

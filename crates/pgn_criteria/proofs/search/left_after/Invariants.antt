@@ -7,7 +7,7 @@ invariant-loop-alternative l = record {
   good : AllGood (drop l.alternative-index l.alternatives);
   still : (most : ℕ) × EachAsksWithin most (drop l.alternative-index l.alternatives);
   kept : (ply : ℕ) (P : State)
-      → SomeHold (heading_of l.game) l.opening ply P (map (λ a. on_positions a.now) l.left.items
+      → SomeHold (heading_of l.game) l.beginning ply P (map (λ a. on_positions a.now) l.left.items
       ++ drop l.alternative-index l.alternatives)
-      ↔ SomeHold (heading_of l.game) l.opening ply P l.alternatives;
+      ↔ SomeHold (heading_of l.game) l.beginning ply P l.alternatives;
 }

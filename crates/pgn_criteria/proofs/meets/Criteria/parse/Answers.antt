@@ -9,7 +9,8 @@ invariant_of-result c = record {
   good = spelled_good c.args.text.now c.in_ok-alternatives.alternatives.items
       c.in_ok-alternatives.ensures;
   within =
-      subst (AllWithin c.longest-opening.result) c.deref.ensures.value c.longest-opening.ensures;
+      subst (AllWithin c.longest-beginning.result) c.deref.ensures.value
+      c.longest-beginning.ensures;
 }
 
 pub returns-in_err-alternatives-clause-refused : goal.returns-in_err-alternatives-clause-refused

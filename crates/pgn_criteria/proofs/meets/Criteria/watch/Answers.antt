@@ -1,7 +1,7 @@
 use Rattle.pgn_criteria.proofs.Common.{◌∙◌, sym, subst, arith, tag_in, fen_tag, heading_of}
 use Rattle.pgn_criteria.proofs.Common.{EachAsksWithin}
-use Rattle.pgn_game.proofs.Openings.{opening_legal}
-use Rattle.pgn_criteria.proofs.OpeningFacts.{opening_fits, within_hold_there}
+use Rattle.pgn_game.proofs.Beginnings.{beginning_legal}
+use Rattle.pgn_criteria.proofs.BeginningFacts.{beginning_fits, within_hold_there}
 use Rattle.pgn_criteria.proofs.StageFacts.{same_plies}
 use Rattle.pgn_criteria.proofs.meets.Criteria.watch.Goals as goal
 
@@ -13,34 +13,34 @@ returns-in-Some c replay own ply =
 
 pub left_after-requires-clause-legal : goal.left_after-requires-clause-legal
 left_after-requires-clause-legal c =
-    opening_legal (tag_in fen_tag c.args.game.now.tags) c.args.game.now.elements _
-    c.in_ok-opening.opening c.in_ok-opening.ensures
+    beginning_legal (tag_in fen_tag c.args.game.now.tags) c.args.game.now.elements _
+    c.in_ok-beginning.beginning c.in_ok-beginning.ensures
 
 pub left_after-requires-clause-still : goal.left_after-requires-clause-still
 left_after-requires-clause-still c =
-    let most = c.in-Some-opening.most in
+    let most = c.in-Some-beginning.most in
     let within : EachAsksWithin most c.self.inside.alternatives.items =
-    rw c.in-Some-opening.is at c.self.invariant.within in
+    rw c.in-Some-beginning.is at c.self.invariant.within in
     (most, subst (EachAsksWithin most) (sym c.deref.ensures.value) within)
 
 pub returns : goal.returns
 returns c replay own ply =
     let heading = heading_of c.args.game.now in
-    let most = c.in-Some-opening.most in
-    let opening = c.in_ok-opening.opening in
+    let most = c.in-Some-beginning.most in
+    let beginning = c.in_ok-beginning.beginning in
     let search = c.in_ok-left_after.field-0 in
     let all = c.deref.ensures.value ∙ c.self.view_is in
     let fits =
-    opening_fits (tag_in fen_tag c.args.game.now.tags) c.args.game.now.elements most opening
-    replay c.in_ok-opening.ensures own in
+    beginning_fits (tag_in fen_tag c.args.game.now.tags) c.args.game.now.elements most beginning
+    replay c.in_ok-beginning.ensures own in
     let inside : EachAsksWithin most c.self.inside.alternatives.items =
-    rw c.in-Some-opening.is at c.self.invariant.within in
+    rw c.in-Some-beginning.is at c.self.invariant.within in
     let within = subst (EachAsksWithin most) c.self.view_is inside in
     same_plies heading replay search c.args.self.now
     (λ at P.
     let kept = rw all at (c.in_ok-left_after.ensures.kept at P) in
-    let there = within_hold_there heading most opening replay fits at P c.args.self.now within in
-    let here = within_hold_there heading 0 opening replay
+    let there = within_hold_there heading most beginning replay fits at P c.args.self.now within in
+    let here = within_hold_there heading 0 beginning replay
     (record {
       words = λ words few. fits.words words (omega (arith, few));
       counts = λ comparison count none. absurd (omega (arith, none));

@@ -21,7 +21,7 @@ loop-element-init c =
             begun.2);
         first = [];
         parted = ap (main_words items) (sym begun.2);
-        opening = (c.in_ok-line.ensures.positions, c.in_ok-line.ensures.played);
+        beginning = (c.in_ok-line.ensures.positions, c.in_ok-line.ensures.played);
       };
     }
 
@@ -53,7 +53,7 @@ pub replayed-requires : goal.replayed-requires
 replayed-requires c =
     let keeps = c.loop-element.invariant.keeps in
     line_length c.args.start keeps.first c.loop-element.line.positions.items
-    c.loop-element.line.played.items keeps.opening
+    c.loop-element.line.played.items keeps.beginning
 
 pub returns : goal.returns
 returns c =
@@ -66,5 +66,5 @@ returns c =
     subst (λ ws.
     IsMainLine c.args.start ws c.loop-element.line.positions.items
     c.loop-element.line.played.items) (sym (append-nil keeps.first)
-    ∙ sym keeps.parted) keeps.opening in
+    ∙ sym keeps.parted) keeps.beginning in
     (rw (c.replayed.ensures.positions, c.replayed.ensures.played) line, c.replayed.ensures.turns)

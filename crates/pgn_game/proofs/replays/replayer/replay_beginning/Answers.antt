@@ -1,13 +1,13 @@
 use Rattle.pgn_game.proofs.Common.{inr, IfSome_then, MatchResult-weaker, tag_in, main_words}
 use Rattle.pgn_game.proofs.Common.{IsBeginning, fen_tag, IsStart, IsMoveFault, fault_of}
-use Rattle.pgn_game.proofs.replays.replayer.replay_opening.Goals as goal
+use Rattle.pgn_game.proofs.replays.replayer.replay_beginning.Goals as goal
 
 pub returns : goal.returns
 returns c =
     let start = c.in_ok-start.start in
     let is_start = rw c.tags.ensures.tags at c.in_ok-start.ensures in
-    MatchResult-weaker c.play_opening.result c.play_opening.ensures
-    (λ opening line. record {
+    MatchResult-weaker c.play_beginning.result c.play_beginning.ensures
+    (λ beginning line. record {
       start = start;
       is_start = is_start;
       line = rw (← c.elements.ensures.elements) line;

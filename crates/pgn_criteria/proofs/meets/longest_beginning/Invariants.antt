@@ -1,5 +1,5 @@
 use Rattle.pgn_criteria.proofs.Common.{◌≤◌, ℕ, drop, map, AllClaims, AsksWithin, game_seen, stated}
-use Rattle.pgn_criteria.proofs.meets.longest_opening.Given as goal
+use Rattle.pgn_criteria.proofs.meets.longest_beginning.Given as goal
 
 abbrev pub invariant-loop-condition : goal.invariant-loop-condition
 invariant-loop-condition l =

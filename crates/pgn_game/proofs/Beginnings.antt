@@ -3,9 +3,9 @@ use Rattle.std.specs.Prelude.{◌⊎◌, Option, Some, None}
 use Rattle.pgn_game.proofs.Common.{◌≡◌, ℕ, ◌<◌, ◌≤◌, zero, suc, List, [], ◌∷◌, ◌++◌, length, sym}
 use Rattle.pgn_game.proofs.Common.{ap, ◌∙◌, subst, inl, inr, arith, slice_get, State, after}
 use Rattle.pgn_game.proofs.Common.{IsLegal, IsOnlyNamed, Move, Item, main_words, IsMainLine, Replay}
-use Rattle.pgn_game.specs.Public.Openings.{IsOpening}
+use Rattle.pgn_game.specs.Public.Beginnings.{IsGameBeginning}
 use Rattle.pgn_game.specs.Public.Replays.{IsSomeReplay}
-use Rattle.pgn_game.specs.Public.Laws.{GameHasOneOpening}
+use Rattle.pgn_game.specs.Public.Laws.{GameHasOneBeginning}
 use Rattle.pgn_game.proofs.OneReplay.{line_head, one_move, one_start, move_at, same_replay}
 
 -- one line goes on where another ends
@@ -109,18 +109,18 @@ agree now (word ∷ first) rest positions others played moves (suc most) (suc i)
       ap (λ x. slice_get x (suc i)) ms_is ∙ there.1 ∙ sym (ap (λ x. slice_get x (suc i)) ns_is),
     )
 
--- before so many plies an opening is what each replay of the game is
-pub opening_agrees : (fen : Option (List ℕ)) (items : List Item) (most : ℕ)
-    (opening replay : Replay) → IsOpening fen items most opening
+-- before so many plies a beginning is what each replay of the game is
+pub beginning_agrees : (fen : Option (List ℕ)) (items : List Item) (most : ℕ)
+    (beginning replay : Replay) → IsGameBeginning fen items most beginning
     → IsSomeReplay fen items replay → (i : ℕ) → i < most
-    → AgreeAt opening.positions opening.played replay.positions replay.played i
-opening_agrees fen items most opening replay is (lines, whole) i less =
+    → AgreeAt beginning.positions beginning.played replay.positions replay.played i
+beginning_agrees fen items most beginning replay is (lines, whole) i less =
     let start : whole.start ≡ is.start =
     one_start fen whole.start is.start whole.is_start is.is_start in
     let line : IsMainLine is.start (main_words items 0) replay.positions replay.played =
     subst (λ s. IsMainLine s (main_words items 0) replay.positions replay.played) start whole.line
     in
-    agree is.start is.line.first is.line.rest opening.positions replay.positions opening.played
+    agree is.start is.line.first is.line.rest beginning.positions replay.positions beginning.played
     replay.played most i is.line.line
     (subst (λ ws. IsMainLine is.start ws replay.positions replay.played) is.line.parted line)
     is.line.far less
@@ -210,28 +210,28 @@ same_line now (word ∷ first) rest (word2 ∷ words) left positions others play
           elim end [ inl none ↦ inl none | inr far ↦ inr (omega (arith, far, count)) ],
         )
 
--- of so many plies a game has one opening
-pub one_opening : GameHasOneOpening
-one_opening fen items most opening other is is2 =
+-- of so many plies a game has one beginning
+pub one_beginning : GameHasOneBeginning
+one_beginning fen items most beginning other is is2 =
     let start : is2.start ≡ is.start = one_start fen is2.start is.start is2.is_start is.is_start in
     let line2 : IsMainLine is.start is2.line.first other.positions other.played =
     subst (λ s. IsMainLine s is2.line.first other.positions other.played) start is2.line.line in
     let same =
-    same_line is.start is.line.first is.line.rest is2.line.first is2.line.rest opening.positions
-    other.positions opening.played other.played most
+    same_line is.start is.line.first is.line.rest is2.line.first is2.line.rest beginning.positions
+    other.positions beginning.played other.played most
     is.line.line line2 (sym is.line.parted ∙ is2.line.parted) (
       is.line.few,
       is.line.far,
     ) (is2.line.few, is2.line.far) in
-    same_replay opening other same.0 same.1 (is.line.turns ∙ sym is2.line.turns)
+    same_replay beginning other same.0 same.1 (is.line.turns ∙ sym is2.line.turns)
 
 -- each of its moves is legal
-pub opening_legal : (fen : Option (List ℕ)) (items : List Item) (most : ℕ) (opening : Replay)
-    → IsOpening fen items most opening
-    → (i : ℕ) (P : State) (m : Move) → slice_get opening.positions i ≡ Some P
-    → slice_get opening.played i ≡ Some m → IsLegal P m
-opening_legal fen items most opening is i P m here at =
-    let there = move_at is.start is.line.first opening.positions opening.played is.line.line i m at
-    in
+pub beginning_legal : (fen : Option (List ℕ)) (items : List Item) (most : ℕ) (beginning : Replay)
+    → IsGameBeginning fen items most beginning
+    → (i : ℕ) (P : State) (m : Move) → slice_get beginning.positions i ≡ Some P
+    → slice_get beginning.played i ≡ Some m → IsLegal P m
+beginning_legal fen items most beginning is i P m here at =
+    let there =
+    move_at is.start is.line.first beginning.positions beginning.played is.line.line i m at in
     let same : there.1 ≡ P = cc (there.3, here) in
     subst (λ s. IsLegal s m) same there.4.named.legal

@@ -1,4 +1,4 @@
--- Conditions on the first moves of a game, decided by its opening.
+-- Conditions on the first moves of a game, decided by its beginning.
 use Rattle.pgn_criteria.proofs.Common.{◌↔◌, ◌⊎◌, ◌+◌, ◌<◌, ◌≤◌, ◌≡◌, ℕ, zero, suc, List, [], ◌∷◌}
 use Rattle.pgn_criteria.proofs.Common.{length, map, Option, inl, inr, refl, sym, ap, subst, ◌∙◌}
 use Rattle.pgn_criteria.proofs.Common.{arith, slice_get, State, Replay, IsSomeReplay, Conditions}
@@ -8,8 +8,8 @@ use Rattle.pgn_criteria.proofs.Common.{words_of, Compares, Comparison, AsksWithi
 use Rattle.pgn_criteria.proofs.Common.{AllAskWithin, EachAsksWithin, on_positions, Stated}
 use Rattle.pgn_criteria.proofs.Common.{GameClaim, Moves, Plies, MoveClaim, Next, Played, Setup}
 use Rattle.pgn_text.specs.Public.Games.{Item}
-use Rattle.pgn_game.specs.Public.Openings.{IsOpening}
-use Rattle.pgn_game.proofs.Openings.{AgreeAt, opening_agrees}
+use Rattle.pgn_game.specs.Public.Beginnings.{IsGameBeginning}
+use Rattle.pgn_game.proofs.Beginnings.{AgreeAt, beginning_agrees}
 use Rattle.pgn_criteria.specs.Private.Stages.{EachIs, FitTheSame}
 use Rattle.pgn_criteria.proofs.SpanFacts.{spans_same, no_spans_hold}
 use Rattle.pgn_criteria.proofs.TakenFacts.{all_same_taken, any_claims}
@@ -66,20 +66,20 @@ compared_alike compared.Greater a b n (inr beyond) = (λ h. beyond.1, λ h. beyo
 compared_alike compared.GreaterOrEqual a b n (inr beyond) =
     (λ h. omega (arith, beyond.1), λ h. omega (arith, beyond.0))
 
--- what an opening fits each replay of the game fits
-pub opening_fits : (fen : Option (List ℕ)) (items : List Item) (most : ℕ) (opening replay : Replay)
-    → IsOpening fen items most opening → IsSomeReplay fen items replay
-    → FitTheSame most opening replay
-opening_fits fen items most opening replay is whole =
-    let agree = opening_agrees fen items most opening replay is whole in record {
+-- what a beginning fits each replay of the game fits
+pub beginning_fits : (fen : Option (List ℕ)) (items : List Item) (most : ℕ)
+    (beginning replay : Replay) → IsGameBeginning fen items most beginning
+    → IsSomeReplay fen items replay → FitTheSame most beginning replay
+beginning_fits fen items most beginning replay is whole =
+    let agree = beginning_agrees fen items most beginning replay is whole in record {
       words = λ words within. (
-        fit_on most 0 opening replay agree words (omega (arith, within)),
-        fit_on most 0 replay opening (λ i less.
+        fit_on most 0 beginning replay agree words (omega (arith, within)),
+        fit_on most 0 replay beginning (λ i less.
             (sym (agree i less).0, sym (agree i less).1)) words (omega (arith, within)),
       );
       counts = λ comparison count within.
-          compared_alike comparison (length opening.played) (length replay.played) count
-          (counted_alike opening.played replay.played count (λ i up.
+          compared_alike comparison (length beginning.played) (length replay.played) count
+          (counted_alike beginning.played replay.played count (λ i up.
           (agree i (omega (arith, up, within))).1));
     }
 
@@ -99,7 +99,7 @@ some_hold_there heading replay other ply P Such same (asked ∷ more) such =
       λ hold. elim hold [ inl met ↦ inl (here.1 met) | inr some ↦ inr (there.1 some) ],
     )
 
--- so what asks for no more first moves than an opening has
+-- so what asks for no more first moves than a beginning has
 so_within : (heading : Heading) (most : ℕ) (replay other : Replay) → FitTheSame most replay other
     → (claim : GameClaim (List ℕ)) → AsksWithin most claim
     → IsSoOfGame heading replay claim ↔ IsSoOfGame heading other claim

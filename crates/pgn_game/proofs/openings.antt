@@ -1,0 +1,4 @@
+pub mod FilingFacts
+pub mod Following
+pub mod LineFacts
+pub mod Naming

@@ -1,0 +1,265 @@
+//! Lines of a file of openings, and which of them a game came to.
+ghost use Rattle.std.specs.Prelude.{◌≡◌, ◌<◌, ◌^◌, ◌++◌, ◌∷◌, [], List, IfOk, IfSome};
+ghost use Rattle.std.specs.Prelude.{IsTrue, MatchResult};
+ghost use Rattle.std.specs.Prelude.{Some, length, map, option_map};
+ghost use Rattle.std.specs.List.{slice_get};
+ghost use Rattle.chess.specs.Public.Positions.{State};
+ghost use Rattle.pgn_text.specs.Public.Elements.{item_of};
+ghost use Rattle.pgn_text.specs.Public.GameTexts.{tag_in};
+ghost use Rattle.pgn_game.specs.Public.Faults.{IsFault, IsMoveFault};
+ghost use Rattle.pgn_game.specs.Public.MainLines.{main_words};
+ghost use Rattle.pgn_game.specs.Public.Openings.{NamedLine, named_of, ends_of, IsFirstIn};
+ghost use Rattle.pgn_game.specs.Public.Openings.{IsOpeningIn, HasOpening, IsTaggedBy, IsClassified};
+ghost use Rattle.pgn_game.specs.Public.Openings.{HasContents, HasLineOf, unless_empty};
+ghost use Rattle.pgn_game.specs.Public.Replays.{IsSoundGame, fault_of};
+ghost use Rattle.pgn_game.specs.Public.Starts.{fen_tag};
+ghost use Rattle.pgn_game.specs.Private.Filing.{HasOpeningFrom, sieve_place};
+ghost use Rattle.pgn_game.specs.Private.Following.{FindsLine};
+ghost use Rattle.pgn_game.specs.declared.replays.replayer.Lines.TheVariants.{Main};
+
+use crate::replays::main_line::MainWalk;
+use crate::turns::fault::GameFault;
+use crate::turns::replayed::GamePosition;
+use crate::turns::starting::starting_position;
+use pgn_text::{Element, RawGame};
+use std::alloc::{AllocError, Global};
+use std::collections::HashMap;
+use std::marker::Model;
+
+/// A line of a file of openings: its last position, and what it is named, by the contents of the
+/// tags ECO, Opening and Variation.
+#[derive(Drop)]
+pub struct OpeningLine {
+    pub end: GamePosition,
+    pub code: Vec<u8>,
+    pub name: Vec<u8>,
+    pub variation: Vec<u8>,
+}
+
+/// The opening of a game: the ply at which its line ends, and the place of that line in the file.
+#[derive(Clone, Copy, Debug, PartialEq, Eq)]
+pub struct Opening {
+    pub ply: usize,
+    pub line: usize,
+}
+
+/// The contents of the string of a tag; none for those that are empty.
+fn unless_empty(contents: &[u8]) -> Option<&[u8]>
+    ensures { option_map (λ text. text.now) result ≡ unless_empty contents.now }
+{
+    if contents.is_empty() {
+        return None;
+    }
+    Some(contents)
+}
+
+/// How many places a sieve has.
+const SIEVE: usize = 1 << 16;
+
+/// The place in a sieve of the two bitboards of pawns: any place would do, and this one differs for
+/// most pawns.
+#[inline(always)]
+fn place_of(pawns: [u64; 2]) -> usize
+    ensures place { result ≡ sieve_place pawns }
+    ensures within { result < 2 ^ 16 }
+{
+    let white = pawns[0].wrapping_mul(0x9e37_79b9_7f4a_7c15);
+    let black = pawns[1].wrapping_mul(0xc2b2_ae3d_27d4_eb4f);
+    (white.wrapping_add(black) >> 48) as usize
+}
+
+/// A game as it counts, and whether its main line is sound.
+#[derive(Drop)]
+pub struct Classified<'a> {
+    pub game: RawGame<'a>,
+    pub sound: bool,
+}
+
+/// The lines of a file of openings, which are found by their last positions.
+#[derive(Drop)]
+pub struct Openings {
+    lines: Vec<OpeningLine>,
+    /// The first line that ends in a position, by its key.
+    places: HashMap<[u64; 13], usize>,
+    /// By the places of pawns, whether some line ends with such: that is asked first, since most
+    /// positions have others.
+    sieve: Vec<bool>,
+}
+
+impl Model for Openings {
+    ghost use Rattle.std.specs.Prelude.{List, map};
+    ghost use Rattle.std.specs.Coded.{coded_list};
+    ghost use Rattle.pgn_game.specs.Public.Openings.{NamedLine, named_of, ends_of};
+    ghost use Rattle.pgn_game.specs.Private.Filing.{coded_named, AreFiled, AreSieved};
+    ghost use Rattle.pgn_game.specs.Private.Filing.{HaveContents};
+
+    ghost Value = { List NamedLine };
+
+    ghost coded = { coded_list coded_named };
+
+    ghost view = { λ o. map named_of o.lines.items };
+
+    ghost invariant = { λ o. record {
+      filed : AreFiled (ends_of (map named_of o.lines.items)) o.places;
+      sieved : AreSieved (ends_of (map named_of o.lines.items)) o.sieve.items;
+      contents : HaveContents (map named_of o.lines.items);
+    } };
+}
+
+impl Openings {
+    /// No lines.
+    pub fn new(alloc: Global) -> Result<Self, AllocError>
+        ensures { IfOk result (λ o. o ≡ []) }
+    {
+        Ok(Openings {
+            lines: Vec::new(alloc),
+            places: HashMap::new(alloc),
+            sieve: vec![in alloc; false; SIEVE]?,
+        })
+    }
+
+    /// The lines with one more, after the others. What it is named are contents of strings.
+    pub fn with(mut self, line: OpeningLine) -> Result<Self, AllocError>
+        requires { HasContents (named_of line) }
+        ensures { IfOk result (λ o. o ≡ self ++ named_of line ∷ []) }
+    {
+        chess::laws::keys_tell_positions();
+        line.end.invariant();
+        self.sieve[place_of(line.end.pawns())] = true;
+        let key = line.end.key();
+        if !self.places.contains_key(&key) {
+            self.places.insert(key, self.lines.len())?;
+        }
+        self.lines.push(line)?;
+        Ok(self)
+    }
+
+    /// The first line that ends in the position, or none.
+    pub fn find(&self, position: &GamePosition) -> Option<usize>
+        ensures { IsFirstIn (ends_of self.now) position.now result }
+    {
+        position.invariant();
+        if !self.sieve[place_of(position.pawns())] {
+            return None;
+        }
+        self.places.get(&position.key()).copied()
+    }
+
+    /// The opening of a game that comes to the position after so many plies, where it had that one
+    /// before, or none.
+    pub fn after(
+        &self,
+        found: Option<Opening>,
+        ply: usize,
+        position: &GamePosition,
+    ) -> Option<Opening>
+        ensures { (seen : List State) → length seen ≡ ply
+            → IsOpeningIn (ends_of self.now) seen found
+            → IsOpeningIn (ends_of self.now) (seen ++ position.now ∷ []) result }
+    {
+        match self.find(position) {
+            Some(line) => Some(Opening { ply, line }),
+            None => found,
+        }
+    }
+
+    /// The place of the line of the opening of a game that comes to the position, where it was that
+    /// one before, or none.
+    pub(crate) fn line_after(&self, found: Option<usize>, position: &GamePosition) -> Option<usize>
+        ensures { FindsLine (ends_of self.now) found position.now result }
+    {
+        match self.find(position) {
+            Some(line) => Some(line),
+            None => found,
+        }
+    }
+
+    /// The opening of the main line that is played from this start, or none; or its fault.
+    fn follow<'a>(
+        &self,
+        start: GamePosition,
+        elements: &[Element<'a>],
+    ) -> Result<Option<Opening>, GameFault<'a>>
+        ensures { MatchResult result
+            (HasOpeningFrom (ends_of self.now) start (main_words (map item_of elements.now) 0))
+            (λ fault.
+            IfSome (fault_of fault)
+            (IsMoveFault start 0 (main_words (map item_of elements.now) 0))) }
+    {
+        let mut walk = MainWalk::new(start);
+        let mut found = self.after(None, 0, &walk.position);
+        for element in elements {
+            if walk.step(*element)?.is_some() {
+                found = self.after(found, walk.plies, &walk.position);
+            }
+        }
+        Ok(found)
+    }
+
+    /// The opening of the game, or none; or the fault of its main line.
+    pub fn opening_of<'a>(
+        &self,
+        alloc: Global,
+        game: &RawGame<'a>,
+    ) -> Result<Option<Opening>, GameFault<'a>>
+        ensures { MatchResult result
+            (HasOpening self.now game.now)
+            (λ fault.
+            IfSome (fault_of fault)
+            (IsFault Main (tag_in fen_tag game.now.tags) game.now.elements)) }
+    {
+        let start = starting_position(alloc, game.tags())?;
+        self.follow(start, game.elements())
+    }
+
+    /// The game with the tags of the line at that place.
+    fn named<'a>(&'a self, game: RawGame<'a>, place: usize) -> Result<RawGame<'a>, AllocError>
+        requires { place < length self.now }
+        ensures { IfOk result (λ own. (line : NamedLine) × (slice_get self.now place ≡ Some line)
+            × HasContents line × IsTaggedBy (Some line) game.entry own) }
+    {
+        let line = &self.lines[place];
+        let game = game.retagged(b"Variation", unless_empty(&line.variation))?;
+        let game = game.retagged(b"Opening", unless_empty(&line.name))?;
+        game.retagged(b"ECO", unless_empty(&line.code))
+    }
+
+    /// The game as it counts, the line of whose opening is at that place: with its tags, or as it
+    /// stands where there is none.
+    pub(crate) fn named_by<'a>(
+        &'a self,
+        game: RawGame<'a>,
+        place: Option<usize>,
+    ) -> Result<RawGame<'a>, AllocError>
+        requires { HasLineOf self.now game place }
+        ensures { IfOk result (IsClassified self.now game.entry) }
+    {
+        match place {
+            Some(place) => self.named(game, place),
+            None => Ok(game),
+        }
+    }
+
+    /// The game as it counts: with the tags of its opening, or as it stands where it has none; and
+    /// whether its main line is sound.
+    pub fn classified<'a>(
+        &'a self,
+        alloc: Global,
+        game: RawGame<'a>,
+    ) -> Result<Classified<'a>, AllocError>
+        ensures counts { IfOk result (λ classified.
+            IsClassified self.now game.entry classified.game) }
+        ensures sound { IfOk result (λ classified. IsTrue classified.sound
+            → IsSoundGame Main (tag_in fen_tag game.entry.tags) game.entry.elements) }
+    {
+        let (game, sound) = match self.opening_of(alloc, &game) {
+            Ok(Some(opening)) => (self.named(game, opening.line)?, true),
+            Ok(None) => (game, true),
+            Err(GameFault::OutOfMemory) => return Err(AllocError),
+            Err(GameFault::BadPosition) => (game, false),
+            Err(GameFault::Illegal { .. }) => (game, false),
+            Err(GameFault::Ambiguous { .. }) => (game, false),
+        };
+        Ok(Classified { game, sound })
+    }
+}
