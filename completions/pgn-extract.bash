@@ -25,10 +25,10 @@ _pgn_extract() {
 }
 # (written by tools/completions)
 _pgn_extract_options='--list --fen --next --rows --csv --tsv --jsonl --no-header --packed --index
-    --moves --uci --pack --criteria --where --min-ply --max-ply --first --tags-first --others
-    --faulty --as-is -C --no-comments --keep-commands -N --no-glyphs -V --no-variations --roster -w
-    --width --explain --summary --progress --no-progress --from --until --at --with-names --no-names
-    -h --help --version'
+    --moves --uci --pack --criteria --where --openings --min-ply --max-ply --first --tags-first
+    --others --faulty --as-is -C --no-comments --keep-commands -N --no-glyphs -V --no-variations
+    --roster -w --width --explain --summary --progress --no-progress --from --until --at
+    --with-names --no-names -h --help --version'
 # Takes out what the program refuses beside an option.
 _pgn_extract_excluded() {
     case $1 in
@@ -48,8 +48,8 @@ _pgn_extract_excluded() {
         --others --faulty --as-is ;;
     --no-header) _pgn_extract_without --list --fen --next --index --moves --uci --pack --others \
         --faulty --as-is ;;
-    --packed) _pgn_extract_without --moves --uci --pack --tags-first --others --faulty --as-is \
-        --from --until --at --with-names --no-names ;;
+    --packed) _pgn_extract_without --moves --uci --pack --openings --tags-first --others --faulty \
+        --as-is --from --until --at --with-names --no-names ;;
     --index) _pgn_extract_without --list --fen --next --rows --csv --tsv --jsonl --no-header \
         --moves --uci --pack --tags-first --others --faulty --as-is ;;
     --moves) _pgn_extract_without --list --fen --next --rows --csv --tsv --jsonl --no-header \
@@ -59,7 +59,8 @@ _pgn_extract_excluded() {
     --pack) _pgn_extract_without --list --fen --next --rows --csv --tsv --jsonl --no-header \
         --packed --index --moves --uci --tags-first --faulty --as-is -C --no-comments \
         --keep-commands -N --no-glyphs -V --no-variations --roster -w --width ;;
-    --tags-first) _pgn_extract_without --packed --index --pack --others --faulty ;;
+    --openings) _pgn_extract_without --packed --tags-first ;;
+    --tags-first) _pgn_extract_without --packed --index --pack --openings --others --faulty ;;
     --others) _pgn_extract_without --list --fen --next --rows --csv --tsv --jsonl --no-header \
         --packed --index --tags-first --faulty ;;
     --faulty) _pgn_extract_without --list --fen --next --rows --csv --tsv --jsonl --no-header \
@@ -149,7 +150,8 @@ _pgn_extract_command() {
         mapfile -t COMPREPLY < <(compgen -W "year eco player event White Black Round Site Result" -- "$word")
         return
         ;;
-    --plies | --least | --jobs | --part | --sshlogin | --columns | --size | --title) return ;;
+    --fen | --moves | --plies | --least) return ;;
+    --jobs | --part | --sshlogin | --columns | --size | --title) return ;;
     esac
     case ${COMP_WORDS[0]##*/} in
     pgn-board) options+=' --tsv --jsonl --columns --size --flip --flip=auto --title -o' ;;
@@ -160,7 +162,7 @@ _pgn_extract_command() {
         options+=' --no-results --no-figurines --no-castling --no-en-passant --no-lower-case'
         options+=' --no-languages --no-variants'
         ;;
-    pgn-tree) options+=' --plies --least --criteria --where' ;;
+    pgn-tree) options+=' --fen --moves --plies --least --json --packed --criteria --where' ;;
     pgn-unique) options+=' --keep --report --keep-faulty --against --keys --near --drop-near' ;;
     pgn-split) options+=' --by --to --force' ;;
     pgn-extract-parallel) _pgn_extract && options='--jobs --part --sshlogin' ;;

@@ -49,7 +49,8 @@ pub use Rattle.pgn_extract.specs.Public.Index.{fault_text, index, index_line, ma
 pub use Rattle.pgn_extract.specs.Public.Index.{shown_char, shown_name}
 pub use Rattle.pgn_extract.specs.Public.Laws.{IsInOneOf, in_first, in_second, in_third}
 pub use Rattle.pgn_extract.specs.Public.Listing.{AreEntries, AreFields, Ascend, Entry, IsEarlier}
-pub use Rattle.pgn_extract.specs.Public.Listing.{IsFenField, IsGameOf, IsNextField, IsNextMove}
+pub use Rattle.pgn_extract.specs.Public.Listing.{IsCounted, IsFenField, IsGameOf, IsNextField}
+pub use Rattle.pgn_extract.specs.Public.Listing.{IsNextMove}
 pub use Rattle.pgn_extract.specs.Public.Listing.{IsPlyOfGame, entries_at_least, entry_line}
 pub use Rattle.pgn_extract.specs.Public.Listing.{is_plain, listing}
 pub use Rattle.pgn_extract.specs.Public.Notes.{AreLines, IsNote, NamesByte, NamesStop, indented}

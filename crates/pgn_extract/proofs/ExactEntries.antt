@@ -7,7 +7,7 @@ use Rattle.pgn_extract.proofs.Common.{Contains-append_right, State, PieceKind, R
 use Rattle.pgn_extract.proofs.Common.{UnreadableRest, TooLongBlock, MarkedPiece, Part, Item}
 use Rattle.pgn_extract.proofs.Common.{GameText, tag_in, one_replay, no_fault, Replay, IsReplay}
 use Rattle.pgn_extract.proofs.Common.{Main, fen_tag, Aim, GameId, IsEntry, id_of, is_chosen}
-use Rattle.pgn_extract.proofs.Common.{IfChosen, heading_of, Entry, IsGameOf, IsPlyOfGame}
+use Rattle.pgn_extract.proofs.Common.{IfChosen, heading_of, Entry, IsPlyOfGame}
 use Rattle.pgn_extract.proofs.Common.{IsEarlier, Ascend, AreEntries, plies_of, IsReplayOf}
 use Rattle.pgn_extract.proofs.Common.{AreGameEntries, ArePieceEntries, AreEntryRows, game_id}
 use Rattle.pgn_game.specs.Public.Replays.{IsMainReplay}
@@ -17,7 +17,8 @@ use Rattle.pgn_extract.proofs.Chosen.{chosen_all, chosen_ascend}
 use Rattle.pgn_extract.specs.Public.Listing.{IsShownOf}
 use Rattle.pgn_extract.specs.Public.Rows.{place_of}
 use Rattle.pgn_extract.proofs.ShownTexts.{one_shown}
-use Rattle.pgn_extract.proofs.GameExport.{one_game}
+use Rattle.pgn_extract.proofs.Counting.{one_counted}
+use Rattle.pgn_extract.specs.Public.Listing.{IsCounted}
 use Rattle.pgn_extract.specs.Private.EntryRows.{sound, faulty}
 
 -- a replay of the main line alone is said in two ways
@@ -65,7 +66,8 @@ IsOfGame aim id game replay entry =
 own_ply : (aim : Aim) (kind : PieceKind) (id : GameId) (own : List Entry)
     → ArePieceEntries aim kind id own → (entry : Entry) → Contains own entry
     → (parts : List Part) × (game : GameText) × (replay : Replay) × (kind ≡ ReadableGame parts)
-    × IsGameOf parts game × IsReplayOf Main game replay × IsOfGame aim id game replay entry
+    × IsCounted aim.openings parts game × IsReplayOf Main game replay
+    × IsOfGame aim id game replay entry
 own_ply aim (ReadableGame parts) id own (game, made, sound replay is these) entry has =
     let of = chosen_from id (IsEntry aim (heading_of game) replay) (IsShownOf aim id game replay)
     (plies_of 0 replay.positions) own these entry has in
@@ -183,7 +185,7 @@ from_ply aim number pieces entries are entry of =
         own_here in
         let has = own_has aim (id_of number piece) of.game own
         (subst (λ g. AreGameEntries aim (id_of number piece) g own)
-        (one_game of.parts game of.game made of.is_game) entered)
+        (one_counted aim.openings of.parts game of.game made of.is_game) entered)
         of.replay (replay_of of.is_replay) entry (ap (λ i. entry_at i entry.ply entry.shown) same)
         of.within of.listed
         (subst (λ (i : GameId). IsShownOf aim i of.game of.replay entry.ply entry.shown) same

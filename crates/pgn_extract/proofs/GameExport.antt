@@ -1,6 +1,7 @@
 -- A game that some parts make: there is one at most; and its export and its record are those of the
 -- game that is given where these parts stand.
-use Rattle.pgn_extract.proofs.Common.{◌≡◌, ℕ, List, Option, sym, subst, ◌∙◌, GameText, ShowsGame}
+use Rattle.pgn_extract.proofs.Common.{◌≡◌, ℕ, List, Option, refl, sym, subst, ◌∙◌, GameText}
+use Rattle.pgn_extract.proofs.Common.{IsGameText, ShowsGame}
 use Rattle.pgn_extract.proofs.Common.{Part, IsRecordOf, Style, by_itself, IsGameOf}
 use Rattle.pgn_text.proofs.ShownOnce.{one_game_text}
 use Rattle.pgn_game.specs.Public.Exports.{IsExport}
@@ -19,6 +20,26 @@ one_game parts game other (text, shows) (others, also) =
       elements = same.1 i;
       result = same.2 i;
     }
+
+-- a game that is given, read by itself, is the one that its parts make
+pub own_game : {game : GameText} {at : ℕ} {parts : List Part} → IsGameText game
+    → ShowsGame game at parts → IsGameOf parts (by_itself game)
+own_game is shows = (
+  record {
+    ordered = is.ordered;
+    strings = is.strings;
+    names = is.names;
+    paired = is.paired;
+    ends = is.ends;
+  },
+  record {
+    place = refl;
+    text = shows.text;
+    tags = shows.tags;
+    elements = shows.elements;
+    result = shows.result;
+  },
+)
 
 pub own_export : (style : Style) (game : GameText) (text : List ℕ) → IsExport style game text
     → IsExport style (by_itself game) text

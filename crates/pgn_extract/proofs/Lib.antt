@@ -3,6 +3,7 @@ pub mod BlockWritten
 pub mod Chosen
 pub mod ChoiceFacts
 pub mod Common
+pub mod Counting
 pub mod ModeOutputs
 pub mod ExactEntries
 pub mod Exported
@@ -16,6 +17,7 @@ pub mod PackedFacts
 pub mod OneListing
 pub mod Picks
 pub mod Decided
+pub mod SomeCounted
 pub mod SomeReport
 pub mod StopNotes
 pub mod TagsFirst

@@ -17,7 +17,8 @@ use Rattle.pgn_extract.specs.Public.Exports.{sound as exported, faulty as unexpo
 use Rattle.pgn_extract.specs.Public.Listing.{IsShownOf}
 use Rattle.pgn_extract.specs.Public.Laws.{RunIndexes, RunExports}
 use Rattle.pgn_extract.proofs.ChoiceFacts.{choice_of}
-use Rattle.pgn_extract.proofs.SomeReport.{answers}
+use Rattle.pgn_extract.proofs.SomeCounted.{answers}
+use Rattle.pgn_extract.proofs.Counting.{counted_good}
 use Rattle.pgn_extract.proofs.TagsFirst.{either_way, no_entry, none_chosen, not_selected}
 use Rattle.pgn_extract.specs.declared.settings.Mode.TheVariants as modes
 
@@ -67,7 +68,8 @@ of_piece : (kind : PieceKind) (aim : Aim) → aim.mode ≡ modes.List
     × (output_of verdict ≡ listing aim.name own)
 of_piece (ReadableGame parts) aim lists id verdict is =
     let (game, made, by) = subst (λ m. IsVerdictIn m aim id parts verdict) lists is in
-    let own = of_game_verdict aim.tags_first aim verdict id game made.0 by in
+    let own = of_game_verdict aim.tags_first aim verdict id game
+    (counted_good aim.openings parts game made) by in
     (own.0, (game, made, own.1), own.2)
 of_piece (UnreadableRest bytes) aim lists id verdict (note, noted, names, is) =
     ([], refl, ap output_of is ∙ ap (λ m. faulty_text m aim.select bytes) lists)
@@ -128,8 +130,12 @@ export_of_piece : (kind : PieceKind) (aim : Aim) → aim.mode ≡ modes.Export
     → (id : GameId) (verdict : Verdict) → IsPieceVerdict kind aim id verdict
     → IsPieceExport aim id kind (output_of verdict)
 export_of_piece (ReadableGame parts) aim exports id verdict is =
-    let (game, made, by) = subst (λ m. IsVerdictIn m aim id parts verdict) exports is in
-    (game, made, export_of_verdict aim.tags_first aim verdict id game made.0 by)
+    let (game, made, by) = subst (λ m. IsVerdictIn m aim id parts verdict) exports is in (
+      game,
+      made,
+      export_of_verdict aim.tags_first aim verdict id game
+          (counted_good aim.openings parts game made) by,
+    )
 export_of_piece (UnreadableRest bytes) aim exports id verdict (note, noted, names, is) =
     ap output_of is ∙ ap (λ m. faulty_text m aim.select bytes) exports
 export_of_piece TooLongBlock aim exports id verdict (note, noted, is) = ap output_of is

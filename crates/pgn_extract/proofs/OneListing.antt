@@ -208,21 +208,7 @@ rest_entries aim before rest number entries are = record {
 
 -- the aim of a listing
 abbrev listing_aim : Aim → Aim
-listing_aim aim = record {
-  name = aim.name;
-  chosen = aim.chosen;
-  mode = modes.List;
-  criteria = aim.criteria;
-  min_ply = aim.min_ply;
-  max_ply = aim.max_ply;
-  first = aim.first;
-  line = aim.line;
-  select = aim.select;
-  form = aim.form;
-  style = aim.style;
-  explain = aim.explain;
-  tags_first = aim.tags_first;
-}
+listing_aim aim = record aim { mode = modes.List }
 
 -- the plies that are listed are the same whatever the mode
 listed_ply : (aim : Aim) (number : ℕ) (pieces : List MarkedPiece) (e : Entry)

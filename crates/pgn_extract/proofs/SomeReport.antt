@@ -33,6 +33,8 @@ use Rattle.pgn_extract.proofs.ExactEntries.{within_plies}
 use Rattle.pgn_extract.proofs.Exported.{selected_or_not}
 use Rattle.pgn_extract.specs.Public.Listing.{IsShownOf}
 use Rattle.pgn_extract.proofs.ShownTexts.{some_shown}
+use Rattle.pgn_extract.proofs.SomeCounted.{answers, some_counted}
+use Rattle.pgn_extract.proofs.Counting.{counted_good}
 use Rattle.pgn_extract.proofs.NoteLines.{empty_note, some_stop_note}
 use Rattle.pgn_extract.proofs.TagsFirst.{ruled_out_or_not}
 use Rattle.pgn_extract.specs.Public.Verdicts.IsPlayedOrNot.{played, unplayed}
@@ -80,18 +82,6 @@ blocks_made limit max_depth offset (block ∷ more) marks h =
     let first = block_made limit max_depth offset block h.0 h.3 in
     let others = blocks_made limit max_depth (offset + length block) more h.1 h.4 in
     subst AreMade (sym h.2) (made_append h.0 h.1 first others)
-
--- so its FEN tag has the contents of a string, and its variations are paired
-pub answers : (lines : Lines) (game : GameText) → IsGameText game
-    → ((replay : Replay) × IsReplayOf lines game replay)
-    ⊎ ((fault : Fault) × IsFaultOf lines game fault)
-answers lines game is =
-    game_answer lines (tag_in fen_tag game.tags) game.elements
-    (has_string (tag_in fen_tag game.tags) refl) (λ all. is.paired)
-  where
-    has_string : (tag : Option (List ℕ)) → tag_in fen_tag game.tags ≡ tag → IfSome tag IsContents
-    has_string None none = tt
-    has_string (Some contents) some = is.strings fen_tag contents some
 
 -- a ply is wanted or not, where its position is decided
 wanted_or_not : (aim : Aim) (tags : Heading) (replay : Replay) (ply : ℕ)
@@ -246,11 +236,15 @@ game_reported : (aim : Aim) → IsDecided aim → (id : GameId) (parts : List Pa
     → (mode : Mode) → (verdict : Verdict) × IsVerdictIn mode aim id parts verdict
 game_reported aim decided id parts made modes.Index = (SoundGame (mark_line aim.name id), refl)
 game_reported aim decided id parts made modes.List =
-    let own = game_verdict aim decided id made.0 made.1.0 aim.tags_first modes.List in
-    (own.0, (made.0, made.1, own.1))
+    let (game, counts) = some_counted aim.openings parts made.0 made.1 in
+    let own = game_verdict aim decided id game (counted_good aim.openings parts game counts)
+    aim.tags_first modes.List in
+    (own.0, (game, counts, own.1))
 game_reported aim decided id parts made modes.Export =
-    let own = game_verdict aim decided id made.0 made.1.0 aim.tags_first modes.Export in
-    (own.0, (made.0, made.1, own.1))
+    let (game, counts) = some_counted aim.openings parts made.0 made.1 in
+    let own = game_verdict aim decided id game (counted_good aim.openings parts game counts)
+    aim.tags_first modes.Export in
+    (own.0, (game, counts, own.1))
 
 by_line : (aim : Aim) (line : List ℕ) → (verdict : Verdict) × IsReportedBy aim [] line verdict
 by_line aim line = (FaultyGame [] line [], ([], empty_note aim.explain, refl))

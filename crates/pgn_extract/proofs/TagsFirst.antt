@@ -12,7 +12,7 @@ use Rattle.pgn_extract.specs.Public.Verdicts.IsPlayedOrNot.{played, unplayed}
 
 -- ---- entries
 
-no_met : (criteria : Option (List Conditions)) (heading : Heading) (replay : Replay) (ply : ℕ)
+pub no_met : (criteria : Option (List Conditions)) (heading : Heading) (replay : Replay) (ply : ℕ)
     → HasNoChance criteria heading → IsMet criteria heading replay ply → ⊥
 no_met None heading replay ply out met = out
 no_met (Some criteria) heading replay ply out met =

@@ -4,3 +4,4 @@ pub mod RequestFacts
 pub mod SeveralFacts
 pub mod SeveralPackFacts
 pub mod StoppedFiles
+pub mod OpeningLines

@@ -3,6 +3,7 @@ pub mod Beginnings
 pub mod BlocksGiven
 pub mod Dropping
 pub mod GameVerdict
+pub mod FollowedGames
 pub mod Gathered
 pub mod Indexed
 pub mod Listed

@@ -16,6 +16,7 @@ pub mod NoteTexts
 pub mod MoveNotes
 pub mod TwoFiles
 pub mod SeveralPacks
+pub mod OpeningFiles
 pub mod PackStops
 pub mod MarkOrder
 pub mod MarkLines

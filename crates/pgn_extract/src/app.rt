@@ -1,5 +1,6 @@
 //! The program over arguments and files that are handed in.
-ghost use Rattle.std.specs.Prelude.{◌≡◌, false, IfOk, OnErr};
+ghost use Rattle.std.specs.Prelude.{◌≡◌, ℕ, List, false, IfOk, IfSome, OnErr, is_some};
+ghost use Rattle.pgn_extract.specs.Private.OpeningFiles.{AreLinesOfFile};
 ghost use Rattle.pgn_extract.specs.Public.Requests.{IsInPacks};
 
 mod chosen_marks;
@@ -12,6 +13,7 @@ pub(crate) mod header;
 pub mod mark;
 mod mark_lines;
 pub mod messages;
+mod openings;
 pub mod order;
 mod outputs;
 mod packs;
@@ -27,6 +29,7 @@ use crate::app::endings::{
 };
 use crate::app::files::{Files, Task, Total, name_file, run_files, run_input};
 use crate::app::header::{RefusedColumns, put_header, read_row};
+use crate::app::openings::{BadOpenings, MOST_BYTES, read_openings};
 use crate::app::order::{Order, accept, has_names, settings_of};
 use crate::app::outputs::refuse_outputs;
 use crate::app::packs::{PackTask, search_packs};
@@ -40,10 +43,11 @@ use crate::rows::column::Row;
 use clap::Error;
 use clap::error::ErrorKind;
 use pgn_criteria::{Criteria, CriteriaError};
+use pgn_game::Openings;
 use pgn_text::Tally;
 use std::alloc::{AllocError, Global};
 use std::io;
-use std::io::Write;
+use std::io::{Read, Write};
 
 /// Why the program ends before its run.
 #[derive(Drop)]
@@ -199,6 +203,50 @@ where
     }
 }
 
+/// The first bytes of the file of openings at the path: one more than it may have.
+fn read_book<F: Files>(alloc: Global, files: &mut F, path: &str) -> io::Result<Vec<u8>>
+where
+    F::Input: Drop,
+{
+    let mut text = Vec::new(alloc);
+    files
+        .open(path)?
+        .take(MOST_BYTES as u64 + 1)
+        .read_to_end(&mut text)?;
+    Ok(text)
+}
+
+/// The openings of the file that is asked for, if one is.
+fn read_asked_openings<F: Files>(
+    alloc: Global,
+    files: &mut F,
+    order: &Order<'_>,
+) -> Result<Option<Openings>, Refusal>
+where
+    F::Input: Drop,
+    ensures given { IfOk result (λ openings. is_some openings
+        ≡ is_some order.now.request.openings) }
+    ensures lines { IfOk result (λ openings. IfSome openings (λ lines. (text : List ℕ)
+        × AreLinesOfFile text lines)) }
+{
+    let Some(path) = order.request.openings else {
+        return Ok(None);
+    };
+    let text = match read_book(alloc, files, path) {
+        Ok(text) => text,
+        Err(error) => {
+            let line = messages::CANNOT_READ_OPENINGS;
+            return Err(refused_file(alloc, &error, line, path, order.noted));
+        }
+    };
+    match read_openings(alloc, path, &text) {
+        Ok(openings) => Ok(Some(openings)),
+        Err(BadOpenings::Line(line)) => Err(Refusal::Line(line)),
+        Err(BadOpenings::Named(line)) => Err(Refusal::Note(line)),
+        Err(BadOpenings::OutOfMemory) => Err(Refusal::OutOfMemory),
+    }
+}
+
 /// What the file of marks at the path has for a run.
 fn read_marks_at<F: Files>(
     alloc: Global,
@@ -313,6 +361,7 @@ where
     let row = row_of(alloc, &order)?;
     refuse_outputs(alloc, files, request)?;
     let criteria = read_criteria(alloc, files, &order)?;
+    let openings = read_asked_openings(alloc, files, &order)?;
     let (chosen, unmarked) = match read_chosen(alloc, files, &order)? {
         Some((marks, unmarked)) => (Some(marks), Some(unmarked)),
         None => (None, None),
@@ -329,7 +378,7 @@ where
     if request.packed {
         let task = PackTask {
             alloc,
-            settings: settings_of(&order, row, criteria, None),
+            settings: settings_of(&order, row, None, criteria, None),
             no_header: request.no_header,
             paths: &request.files,
             summary: request.summary,
@@ -339,7 +388,7 @@ where
     }
     let mut task = Task {
         alloc,
-        settings: settings_of(&order, row, criteria, chosen),
+        settings: settings_of(&order, row, openings, criteria, chosen),
         paths: &request.files,
         with_names: has_names(request),
         summary: request.summary,

@@ -8,6 +8,7 @@ ghost use Rattle.pgn_game.specs.declared.replays.replayer.Lines.TheVariants.{Mai
 ghost use Rattle.pgn_criteria.specs.Public.Meeting.{heading_of};
 ghost use Rattle.pgn_extract.specs.Public.Aims.{HasNoChance, IsRuledOut, aim_of};
 ghost use Rattle.pgn_extract.specs.Private.Finding.{AddsEntries, StopsAtFault, IsChosen};
+ghost use Rattle.pgn_extract.specs.Private.Finding.{ListsNone};
 
 pub(crate) mod annotations;
 mod fields;
@@ -30,7 +31,7 @@ use crate::entries::played::{Anything, find_played};
 use crate::entries::row_game::RowGame;
 use crate::marks::GameId;
 use crate::output::texts::{MARK_ROOM, push_named_mark};
-use crate::settings::{Fields, Select, Settings};
+use crate::settings::{Fields, Mode, Select, Settings};
 use pgn_criteria::Criteria;
 use pgn_game::{GameFault, count_plies};
 use pgn_text::RawGame;
@@ -103,6 +104,14 @@ fn has_no_chance<'a>(criteria: &'a Option<Criteria>, game: &RawGame<'a>) -> bool
         Some(criteria) => !criteria.may_be_of(game),
         None => false,
     }
+}
+
+/// Whether the listing has no line of a game, whatever its moves are: its tags and its result keep
+/// it from having an entry.
+pub fn lists_none<'a>(settings: &'a Settings, game: &RawGame<'a>) -> bool
+    ensures { IsTrue result → ListsNone (aim_of settings.now) (heading_of game.now) }
+{
+    settings.mode == Mode::List && has_no_chance(&settings.criteria, game)
 }
 
 /// Whether a game is not to be played: tags come first, and its tags and result keep it from having

@@ -7,7 +7,7 @@ use crate::marks::Marks;
 use crate::output::file_name::FileName;
 use crate::rows::column::Row;
 use pgn_criteria::Criteria;
-use pgn_game::{Notation, Style};
+use pgn_game::{Notation, Openings, Style};
 
 /// What a run writes.
 #[derive(Clone, Copy, Debug, PartialEq, Eq)]
@@ -100,6 +100,9 @@ pub struct Settings {
     pub name: Option<FileName>,
     /// The marks of the pieces that are reported; without marks, every one is.
     pub chosen: Option<Marks>,
+    /// The lines of openings by which games count: each with the tags of its opening. Without
+    /// them a game counts as it stands.
+    pub openings: Option<Openings>,
     /// What is written.
     pub mode: Mode,
     /// Which positions are looked for; without criteria, every one.

@@ -81,6 +81,7 @@ fn plies(first: bool) -> Settings
     Settings {
         name: None,
         chosen: None,
+        openings: None,
         mode: Mode::List,
         criteria: None,
         min_ply: 1,

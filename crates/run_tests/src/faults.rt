@@ -35,6 +35,7 @@ fn settings_of(mode: Mode, number: u64, offset: u64) -> Settings
     Settings {
         name: None,
         chosen: None,
+        openings: None,
         mode,
         criteria: None,
         min_ply: 0,

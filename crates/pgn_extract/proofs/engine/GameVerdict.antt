@@ -14,33 +14,14 @@ use Rattle.pgn_extract.proofs.Common.{Report, Aim, GameId, Mode}
 use Rattle.pgn_text.specs.Public.Left.{IsPiece}
 use Rattle.pgn_text.proofs.StopsThere.{stops_alone}
 use Rattle.pgn_text.specs.declared.game.pieces.Piece.{Piece}
-use Rattle.pgn_extract.specs.Private.Blockwise.{AddsGame, AddsSearched, IsBlockVerdict}
+use Rattle.pgn_extract.specs.Private.Blockwise.{AddsCounted, AddsGame, IsBlockVerdict}
 use Rattle.pgn_extract.proofs.ChoiceFacts.{if_passed, if_taken}
+use Rattle.pgn_extract.proofs.Counting.{counts_there}
 use Rattle.pgn_extract.proofs.engine.RestOfBlock.{rest_of_block}
 use Rattle.pgn_text.specs.Public.Pieces as spec
 use Rattle.pgn_text.specs.declared.game.pieces.PieceStart.TheVariants as marks
 use Rattle.pgn_text.specs.declared.game.pieces.Piece.TheVariants as given
 use Rattle.pgn_extract.specs.declared.settings.Mode.TheVariants as modes
-
--- a game that is given, read by itself, is the one that its parts make
-pub own_game : {game : GameText} {at : ℕ} {parts : List Part} → IsGameText game
-    → ShowsGame game at parts → IsGameOf parts (by_itself game)
-own_game is shows = (
-  record {
-    ordered = is.ordered;
-    strings = is.strings;
-    names = is.names;
-    paired = is.paired;
-    ends = is.ends;
-  },
-  record {
-    place = refl;
-    text = shows.text;
-    tags = shows.tags;
-    elements = shows.elements;
-    result = shows.result;
-  },
-)
 
 -- a text goes to the output, and nothing else changes
 pub sound_added : {old new : Report} {text : List ℕ}
@@ -62,11 +43,12 @@ replayed_in modes.List aim id parts verdict other is = is
 replayed_in modes.Export aim id parts verdict other is = is
 
 pub game_added : (aim : Aim) {old new : Report} (id : GameId) (game : GameText) → IsGameText game
-    → (aim.mode ≡ modes.Index → ⊥) → AddsSearched aim.mode aim old new id game
+    → (aim.mode ≡ modes.Index → ⊥) → AddsCounted aim.mode aim old new id game
     → AddsGame aim old new id game
-game_added aim id game text other (verdict, is, adds) at parts shows = (
+game_added aim id game text other (counted, counts, (verdict, is, adds)) at parts shows = (
   verdict,
-  replayed_in aim.mode aim id parts verdict other (by_itself game, own_game text shows, is),
+  replayed_in aim.mode aim id parts verdict other
+      (by_itself counted, counts_there aim.openings parts game counted text shows counts, is),
   adds,
 )
 

@@ -18,7 +18,7 @@ use Rattle.pgn_extract.specs.Private.Finding.{IsChosen}
 use Rattle.pgn_extract.proofs.Finds.{some_chosen}
 use Rattle.pgn_extract.proofs.PackedFacts.{line_begins}
 use Rattle.pgn_extract.proofs.OneMain.{one_main, stands_main}
-use Rattle.pgn_criteria.proofs.OpeningFacts.{met_alike}
+use Rattle.pgn_criteria.proofs.BeginningFacts.{met_alike}
 use Rattle.pgn_extract.specs.Private.Lines.{ShowsValue, Where}
 use Rattle.pgn_extract.specs.Public.Listing.{IsShownOf}
 use Rattle.pgn_extract.specs.Public.Rows.{IsPlyCell, IsMoveCell, IsAt, uci_cell}

@@ -4,7 +4,7 @@ use Rattle.std.specs.List.{list_any}
 use Rattle.std.specs.Borrow.{Bor}
 use Rattle.pgn_extract.proofs.Common.{◌≡◌, ◌^◌, ◌-◌, Bool, true, false, ℕ, nat_lt, length, List, []}
 use Rattle.pgn_extract.proofs.Common.{◌∷◌, ◌++◌, Option, None, Some, codes, ap, refl, San, Uci}
-use Rattle.pgn_extract.proofs.Common.{sym, ◌∙◌}
+use Rattle.pgn_extract.proofs.Common.{sym, ◌∙◌, Aim}
 use Rattle.pgn_extract.proofs.Common.{Conditions, game_id, bad_mark, begin_of, end_of, first_line}
 use Rattle.pgn_extract.proofs.Common.{is_one_line, option_refusals, refused, text_refusals, Request}
 use Rattle.pgn_extract.proofs.Common.{Standard, AsItStands, Line, Record, Matching, Others, Faulty}
@@ -58,6 +58,7 @@ plain request = record request {
   no_variations = false;
   roster = false;
   width = None;
+  openings = None;
   min_ply = 0;
   max_ply = 2 ^ 32 - 1;
   first = false;
@@ -88,8 +89,8 @@ abbrev packs_give_lines : List ℕ
 packs_give_lines = codes "pgn-extract: --packed goes with --list, --rows or --index\n"
 
 abbrev packs_are_plain : List ℕ
-packs_are_plain =
-    codes "pgn-extract: --packed goes with none of --from, --until, --at, --with-names and --no-names\n"
+packs_are_plain = codes
+    "pgn-extract: --packed goes with none of --from, --until, --at, --with-names, --no-names and --openings\n"
 
 abbrev rows_alone : List ℕ
 rows_alone =
@@ -127,7 +128,7 @@ no_tags_to_meet = codes "pgn-extract: --tags-first goes with --criteria or --whe
 
 abbrev tags_are_not_first : List ℕ
 tags_are_not_first =
-    codes "pgn-extract: --tags-first goes with none of --index, --packed, --others, --faulty and --pack\n"
+    codes "pgn-extract: --tags-first goes with none of --index, --packed, --others, --faulty, --pack and --openings\n"
 
 abbrev both_namings : List ℕ
 both_namings = codes "pgn-extract: --with-names and --no-names exclude each other\n"
@@ -299,13 +300,14 @@ tags_come_first : (request : Request) (path : Bor (List ℕ))
     × RefusedWith (record (tagged request path) { others = true }) tags_are_not_first
     × RefusedWith (record (tagged request path) { faulty = true }) tags_are_not_first
     × RefusedWith (record (tagged request path) { pack = true }) tags_are_not_first
+    × RefusedWith (record (tagged request path) { openings = Some path }) tags_are_not_first
     × RefusedWith (record (tagged request path) {
       others = true;
       with_names = true;
       no_names = true;
     })
     tags_are_not_first
-tags_come_first request path = (refl, refl, refl, refl, refl, refl, refl, refl)
+tags_come_first request path = (refl, refl, refl, refl, refl, refl, refl, refl, refl)
 
 tags_of_what : (request : Request) → request.conditions.items ≡ []
     → RefusedWith (record (plain request) { tags_first = true; criteria = None }) no_tags_to_meet
@@ -325,7 +327,7 @@ one_file : (request : Request) → has_several_files request ≡ false → gives
     → first_line (option_refusals (marked request)) ≡ None
 one_file request one mark = rw (mark, one) refl
 
--- packs have no marks
+-- packs have neither marks nor openings
 abbrev listed_pack : Request → Request
 listed_pack request = record (plain request) { list = true; packed = true }
 
@@ -333,7 +335,8 @@ packs_have_no_marks : (request : Request) (text : Bor (List ℕ))
     → RefusedWith (record (listed_pack request) { from = Some text }) packs_are_plain
     × RefusedWith (record (listed_pack request) { until = Some text }) packs_are_plain
     × RefusedWith (record (listed_pack request) { at = Some text }) packs_are_plain
-packs_have_no_marks request text = (refl, refl, refl)
+    × RefusedWith (record (listed_pack request) { openings = Some text }) packs_are_plain
+packs_have_no_marks request text = (refl, refl, refl, refl)
 
 each_option_gives_a_mark : (request : Request) (text : Bor (List ℕ))
     → (gives_mark (record (plain request) { from = Some text }) ≡ true)
@@ -396,7 +399,11 @@ lines = (refl, refl, refl)
 
 -- ---- what is asked for
 
-nothing_asked : (request : Request) → let aim = asked false (plain request) None None None in
+-- what is asked for alone, without a row, openings, criteria and marks
+abbrev asked_alone : Request → Aim
+asked_alone request = asked false request None None None None
+
+nothing_asked : (request : Request) → let aim = asked_alone (plain request) in
     (aim.mode ≡ modes.Export) × (aim.select ≡ Matching) × (aim.form ≡ Standard) × (aim.min_ply ≡ 0)
     × (aim.max_ply ≡ 4294967295) × (aim.first ≡ false)
     × (aim.line ≡ Marked (record { fen = false; next = false })) × (aim.explain ≡ false)
@@ -411,26 +418,26 @@ nothing_asked : (request : Request) → let aim = asked false (plain request) No
 nothing_asked request = (refl, refl, refl, refl, refl, refl, refl, refl, refl)
 
 each_asked : (request : Request)
-    → ((asked false (record (plain request) { list = true }) None None None).mode ≡ modes.List)
-    × ((asked false (record (plain request) { index = true }) None None None).mode ≡ modes.Index)
-    × ((asked false (record (plain request) { others = true }) None None None).select ≡ Others)
-    × ((asked false (record (plain request) { faulty = true }) None None None).select ≡ Faulty)
-    × ((asked false (record (plain request) { as_is = true }) None None None).form ≡ AsItStands)
-    × ((asked false (record (plain request) { moves = true }) None None None).form ≡ Line San)
-    × ((asked false (record (plain request) { uci = true }) None None None).form ≡ Line Uci)
-    × ((asked false (record (plain request) { pack = true }) None None None).form ≡ Record)
-    × ((asked false (record (plain request) { min_ply = 7 }) None None None).min_ply ≡ 7)
-    × ((asked false (record (plain request) { max_ply = 7 }) None None None).max_ply ≡ 7)
-    × ((asked false (record (plain request) { first = true }) None None None).first ≡ true)
-    × ((asked false (record (plain request) { tags_first = true }) None None None).tags_first
+    → ((asked_alone (record (plain request) { list = true })).mode ≡ modes.List)
+    × ((asked_alone (record (plain request) { index = true })).mode ≡ modes.Index)
+    × ((asked_alone (record (plain request) { others = true })).select ≡ Others)
+    × ((asked_alone (record (plain request) { faulty = true })).select ≡ Faulty)
+    × ((asked_alone (record (plain request) { as_is = true })).form ≡ AsItStands)
+    × ((asked_alone (record (plain request) { moves = true })).form ≡ Line San)
+    × ((asked_alone (record (plain request) { uci = true })).form ≡ Line Uci)
+    × ((asked_alone (record (plain request) { pack = true })).form ≡ Record)
+    × ((asked_alone (record (plain request) { min_ply = 7 })).min_ply ≡ 7)
+    × ((asked_alone (record (plain request) { max_ply = 7 })).max_ply ≡ 7)
+    × ((asked_alone (record (plain request) { first = true })).first ≡ true)
+    × ((asked_alone (record (plain request) { tags_first = true })).tags_first
     ≡ true)
-    × ((asked false (plain request) None None None).tags_first ≡ false)
-    × ((asked false (record (plain request) { fen = true }) None None None).line
+    × ((asked_alone (plain request)).tags_first ≡ false)
+    × ((asked_alone (record (plain request) { fen = true })).line
     ≡ Marked (record { fen = true; next = false }))
-    × ((asked false (record (plain request) { next = true }) None None None).line
+    × ((asked_alone (record (plain request) { next = true })).line
     ≡ Marked (record { fen = false; next = true }))
-    × ((asked true (plain request) None None None).explain ≡ true)
-    × ((asked false (plain request) None None (Some [])).chosen ≡ Some [])
+    × ((asked true (plain request) None None None None).explain ≡ true)
+    × ((asked false (plain request) None None None (Some [])).chosen ≡ Some [])
 each_asked request = (
   refl,
   refl,
@@ -453,23 +460,23 @@ each_asked request = (
 
 criteria_are_asked : (noted : Bool) (request : Request)
     (criteria : Option (List Conditions)) (chosen : Option (List GameId))
-    → let aim = asked noted request None criteria chosen in
+    → let aim = asked noted request None None criteria chosen in
     (aim.criteria ≡ criteria) × (aim.chosen ≡ chosen) × (aim.name ≡ None)
 criteria_are_asked noted request criteria chosen = (refl, refl, refl)
 
 each_style : (request : Request)
-    → ((asked false (record (plain request) { no_comments = true }) None None None).style.comments
+    → ((asked_alone (record (plain request) { no_comments = true })).style.comments
     ≡ false)
-    × ((asked false (record (plain request) { keep_commands = true }) None None None).style.commands
+    × ((asked_alone (record (plain request) { keep_commands = true })).style.commands
     ≡ true)
-    × ((asked false (record (plain request) { no_glyphs = true }) None None None).style.glyphs ≡
+    × ((asked_alone (record (plain request) { no_glyphs = true })).style.glyphs ≡
     false)
-    × ((asked false (record (plain request) { no_variations = true }) None None
+    × ((asked false (record (plain request) { no_variations = true }) None None None
     None).style.variations
     ≡ false)
-    × ((asked false (record (plain request) { roster = true }) None None None).style.roster_only ≡
+    × ((asked_alone (record (plain request) { roster = true })).style.roster_only ≡
     true)
-    × ((asked false (record (plain request) { width = Some 40 }) None None None).style.width ≡ 40)
+    × ((asked_alone (record (plain request) { width = Some 40 })).style.width ≡ 40)
 each_style request = (refl, refl, refl, refl, refl, refl)
 
 without_check_signs : (request : Request) → (begin_of (plain request) ≡ Some (game_id 1 0))

@@ -11,7 +11,7 @@ use Rattle.pgn_extract.proofs.Common.{MarkedPiece, ReadableGame, TooLongBlock, U
 use Rattle.pgn_extract.proofs.Common.{AreMarkedPieces, Part, Aim, GameId, IsGameExport}
 use Rattle.pgn_extract.proofs.Common.{IsPieceExport, IsTextOf, written_lines, AreListed, IsFaultOf}
 use Rattle.pgn_extract.proofs.Common.{IsReplayOf, game_id, mark_around, AreEntries, Entry}
-use Rattle.pgn_extract.proofs.Common.{entries_at_least, IsGameOf, listing, AppendsFront, BeginsAll}
+use Rattle.pgn_extract.proofs.Common.{entries_at_least, IsCounted, listing, AppendsFront, BeginsAll}
 use Rattle.pgn_extract.proofs.Common.{WritesComplete, Adds, ArePieces, Completes, Io, Job, Lists}
 use Rattle.pgn_extract.proofs.Common.{Passage, Stream, IsBegun, Stops, AreGameRecords, ArePackLines}
 use Rattle.pgn_extract.proofs.Common.{ArePieceRecords, AreRecordLines, AreRecords}
@@ -84,12 +84,12 @@ no_export_of_no_game aim id game text unsound faultless is = elim is [
 
 -- of no other game is anything written or reported
 no_export_of_another_game : (aim : Aim) (id : GameId) (parts : List Part) (text : List ℕ)
-    → ((game : GameText) → IsGameOf parts game → ⊥) → IsPieceExport aim id (ReadableGame parts) text
-    → ⊥
+    → ((game : GameText) → IsCounted aim.openings parts game → ⊥)
+    → IsPieceExport aim id (ReadableGame parts) text → ⊥
 no_export_of_another_game aim id parts text none is = none is.0 is.1
 
 no_verdict_on_another_game : (aim : Aim) (id : GameId) (parts : List Part) (verdict : Verdict)
-    → ((game : GameText) → IsGameOf parts game → ⊥)
+    → ((game : GameText) → IsCounted aim.openings parts game → ⊥)
     → IsGameReported modes.List aim id parts verdict → ⊥
 no_verdict_on_another_game aim id parts verdict none is = none is.0 is.1
 

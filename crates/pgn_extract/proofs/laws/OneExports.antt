@@ -5,7 +5,7 @@ use Rattle.pgn_extract.proofs.Common.{TooLongBlock, Replay, fen_tag, one_replay,
 use Rattle.pgn_extract.proofs.Common.{GameId, id_of, is_chosen, written_lines, IsWritten}
 use Rattle.pgn_extract.proofs.Common.{IsGameExport, sound, faulty, IsPieceExport}
 use Rattle.pgn_extract.specs.Public.Laws.{TextHasOneExport}
-use Rattle.pgn_extract.proofs.GameExport.{one_game}
+use Rattle.pgn_extract.proofs.Counting.{one_counted}
 use Rattle.pgn_extract.proofs.laws.OneVerdict.{one_written}
 use Rattle.pgn_extract.proofs.ChoiceFacts.{by_both}
 
@@ -29,7 +29,8 @@ of_piece : (kind : PieceKind) (aim : Aim) (id : GameId) (x y : List ℕ) → IsP
     → IsPieceExport aim id kind y → x ≡ y
 of_piece (ReadableGame parts) aim id x y (game, is, a) (other, also, b) =
     of_game aim id game x y a
-    (subst (λ g. IsGameExport aim id g y) (one_game parts other game also is) b)
+    (subst (λ g. IsGameExport aim id g y) (one_counted aim.openings parts other game also is)
+    b)
 of_piece (UnreadableRest bytes) aim id x y a b = a ∙ sym b
 of_piece TooLongBlock aim id x y a b = a ∙ sym b
 

@@ -6,7 +6,7 @@ use Rattle.pgn_extract.proofs.Common.{one_replay, no_fault, Aim, GameId, as_it_s
 use Rattle.pgn_extract.proofs.Common.{selected, unselected, IsGameExport, sound, faulty, IsInOneOf}
 use Rattle.pgn_extract.proofs.Common.{in_first, in_second, in_third, Matching, Others, Faulty}
 use Rattle.pgn_extract.specs.Public.Laws.{as_they_stand, PieceIsInOneExport}
-use Rattle.pgn_extract.proofs.GameExport.{one_game}
+use Rattle.pgn_extract.proofs.Counting.{one_counted, counted_text}
 
 module _ (aim : Aim) (id : GameId) (game : GameText) where
   -- a sound game has an entry or none, and is not faulty
@@ -53,11 +53,11 @@ module _ (aim : Aim) (id : GameId) (game : GameText) where
 
 pub piece_in_one : PieceIsInOneExport
 piece_in_one aim id (ReadableGame parts) x y z (game, is, a) (second, also, b) (third, too, c) =
-    subst (λ own. IsInOneOf (as_it_stands own) x y z) is.1.text
+    subst (λ own. IsInOneOf (as_it_stands own) x y z) (counted_text aim.openings parts game is)
     (game_in_one aim id game x y z a
     (subst (λ g. IsGameExport (as_they_stand Others aim) id g y)
-    (one_game parts second game also is) b)
+    (one_counted aim.openings parts second game also is) b)
     (subst (λ g. IsGameExport (as_they_stand Faulty aim) id g z)
-    (one_game parts third game too is) c))
+    (one_counted aim.openings parts third game too is) c))
 piece_in_one aim id (UnreadableRest bytes) x y z a b c = in_third a b c
 piece_in_one aim id TooLongBlock x y z a b c = in_first a b c

@@ -22,7 +22,7 @@ use Rattle.pgn_extract.proofs.Chosen.{one_chosen}
 use Rattle.pgn_extract.specs.Public.Listing.{IsShownOf}
 use Rattle.pgn_extract.specs.Public.Rows.{place_of}
 use Rattle.pgn_extract.proofs.ShownTexts.{one_shown}
-use Rattle.pgn_extract.proofs.GameExport.{one_game}
+use Rattle.pgn_extract.proofs.Counting.{one_counted}
 use Rattle.pgn_extract.specs.declared.settings.Mode.TheVariants as modes
 
 -- the text of a game
@@ -121,7 +121,8 @@ one_of_parts : (mode : Mode) (aim : Aim) (id : GameId) (parts : List Part) (a b 
     → without_note a ≡ without_note b
 one_of_parts mode aim id parts a b (game, is, x) (other, also, y) =
     one_of_game aim.tags_first mode aim id game a b x
-    (subst (λ g. IsGameVerdict aim.tags_first mode aim id g b) (one_game parts other game also is)
+    (subst (λ g. IsGameVerdict aim.tags_first mode aim id g b)
+    (one_counted aim.openings parts other game also is)
     y)
 
 -- a game in a mode

@@ -9,6 +9,9 @@ use Rattle.pgn_extract.proofs.Common.{IsSelected, IsWritten, selected, unselecte
 use Rattle.pgn_extract.proofs.Common.{IsPieceExport, AreExports, faulty_text, lines_in, id_of}
 use Rattle.pgn_extract.proofs.Common.{is_chosen, IsReplayOf, IsFaultOf, AreGameRecords}
 use Rattle.pgn_extract.proofs.Common.{ArePieceRecords, AreRecords, PacksAll, Form, Select}
+use Rattle.pgn_extract.proofs.Common.{IsGameOf, Part}
+use Rattle.pgn_game.specs.Public.Openings.{NamedLine}
+use Rattle.pgn_extract.specs.Public.Listing.{IsCounted}
 use Rattle.pgn_extract.specs.Public.Exports.{sound as exported, faulty as unexported}
 use Rattle.pgn_extract.specs.Public.Searching.{sound, faulty}
 use Rattle.pgn_extract.proofs.ChoiceFacts.{when_taken}
@@ -63,6 +66,12 @@ nothing : (packing : Aim) (bytes text : List ℕ) → PacksAll packing
 nothing packing bytes text all is = is
     ∙ ap (λ (select : Select). faulty_text modes.Export select bytes) all.select
 
+-- without lines of openings a game counts as it stands
+as_made : (packing : Aim) (parts : List Part) (game : GameText) → PacksAll packing
+    → IsCounted packing.openings parts game → IsGameOf parts game
+as_made packing parts game all made =
+    subst (λ (o : Option (List NamedLine)). IsCounted o parts game) all.openings made
+
 piece_records : (packing : Aim) (id : GameId) (kind : PieceKind) (text : List ℕ) → PacksAll packing
     → IsPieceExport packing id kind text
     → (records : List PackedGame) × ArePieceRecords packing.name kind id records
@@ -71,12 +80,12 @@ piece_records packing id (ReadableGame parts) text all (game, made, exported rep
     let own = sound_record packing id game replay text all
     (subst (λ (lines : Lines). IsReplayOf lines game replay) (main_alone packing all) is)
     written in
-    (own.0, (game, made, own.1), own.2)
+    (own.0, (game, as_made packing parts game all made, own.1), own.2)
 piece_records packing id (ReadableGame parts) text all (game, made, unexported fault is written) = (
   [],
   (
     game,
-    made,
+    as_made packing parts game all made,
     faulty fault (subst (λ (lines : Lines).
         IsFaultOf lines game fault) (main_alone packing all) is) refl,
   ),

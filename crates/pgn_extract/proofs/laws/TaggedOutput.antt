@@ -14,7 +14,7 @@ use Rattle.pgn_extract.proofs.Common.{is_chosen, Mode}
 use Rattle.pgn_extract.specs.Public.Listing.{IsShownOf}
 use Rattle.pgn_extract.specs.Public.Laws.{TagsFirstChangesNoOutput, with_tags_first}
 use Rattle.pgn_extract.proofs.ChoiceFacts.{by_both}
-use Rattle.pgn_extract.proofs.GameExport.{one_game}
+use Rattle.pgn_extract.proofs.Counting.{one_counted}
 use Rattle.pgn_extract.proofs.TagsFirst.{chosen_none, either_way, no_entry, not_selected}
 use Rattle.pgn_extract.proofs.laws.OneVerdict.{one_replayed}
 use Rattle.pgn_extract.specs.declared.settings.Mode.TheVariants as modes
@@ -99,8 +99,8 @@ parts_output : (mode : Mode) (aim : Aim) (id : GameId) (parts : List Part) (a b 
     → IsGameReported mode (with_tags_first false aim) id parts b → output_of a ≡ output_of b
 parts_output mode aim id parts a b (game, is, x) (other, also, y) =
     game_output mode aim id game a b x
-    (subst (λ g. IsReplayed mode (with_tags_first false aim) id g b) (one_game parts other game also
-    is) y)
+    (subst (λ g. IsReplayed mode (with_tags_first false aim) id g b) (one_counted aim.openings
+    parts other game also is) y)
 
 in_output : (mode : Mode) (aim : Aim) (id : GameId) (parts : List Part) (a b : Verdict)
     → IsVerdictIn mode (with_tags_first true aim) id parts a

@@ -1,11 +1,12 @@
 -- What the parts of a run do with the bytes dropped, with one block and with the blocks in a row:
 -- the words between the code and those of `Outcomes`.
 use Rattle.std.specs.Prelude.{◌≡◌, ℕ, zero, suc, ◌+◌, ◌<◌, ◌≤◌, Bool, true, false, List, []}
-use Rattle.std.specs.Prelude.{◌∷◌, ◌++◌, length, drop, count_by, Option, None, IfSome, codes}
+use Rattle.std.specs.Prelude.{◌∷◌, ◌++◌, length, drop, count_by, Option, None, Some, IfSome, codes}
 use Rattle.std.specs.Prelude.{decimal, if◌then◌else◌, ◌==◌}
 use Rattle.std.specs.Io.KnownBytes.{Appends}
-use Rattle.pgn_text.specs.Public.GameTexts.{GameText, ShowsGame}
+use Rattle.pgn_text.specs.Public.GameTexts.{GameText, IsGameText, ShowsGame}
 use Rattle.pgn_game.specs.Public.Faults.{Fault}
+use Rattle.pgn_game.specs.Public.Openings.{NamedLine, IsClassified}
 use Rattle.pgn_game.specs.Public.Replays.{Replay}
 use Rattle.pgn_game.specs.declared.replays.replayer.Lines.{Lines}
 use Rattle.pgn_extract.specs.Public.Exports.{IsTextOf, IsWritten, faulty_text, written_lines}
@@ -41,7 +42,9 @@ use Rattle.pgn_extract.specs.Public.Aims.{Aim, GameId}
 use Rattle.pgn_extract.specs.Public.Choices.{IfChosen, is_chosen}
 use Rattle.pgn_text.specs.Public.LeftMarks.{mark_place}
 use Rattle.pgn_extract.specs.Public.Listing.{Entry, listing}
+use Rattle.pgn_extract.specs.declared.settings.Form.TheVariants.{Standard}
 use Rattle.pgn_extract.specs.declared.settings.Mode.{Mode}
+use Rattle.pgn_extract.specs.declared.settings.Mode.TheVariants as modes
 use Rattle.pgn_extract.specs.declared.settings.Select.TheVariants.{Matching}
 use Rattle.pgn_extract.specs.Private.Finding.{named_mark}
 use Rattle.pgn_extract.specs.Public.GameReports.{AreListed, IsFaultOf, IsReplayOf}
@@ -134,6 +137,12 @@ pub record TakesAll (aim : Aim) : Type 0 where
   pub from_start : aim.min_ply ≡ 0
   pub select : aim.select ≡ Matching
 
+-- and in the standard's form for export
+pub record ExportsAll (aim : Aim) : Type 0 where
+  pub mode : aim.mode ≡ modes.Export
+  pub form : aim.form ≡ Standard
+  pub all : TakesAll aim
+
 -- what the mode reports of the game by its replay is added; the game isn't counted yet
 abbrev pub AddsReplayed : Mode → Aim → Report → Report → GameId → GameText → Type 0
 AddsReplayed mode aim old new id game = (verdict : Verdict)
@@ -144,6 +153,17 @@ abbrev pub AddsSearched : Mode → Aim → Report → Report → GameId → Game
 AddsSearched mode aim old new id game = (verdict : Verdict)
     × IsGameVerdict aim.tags_first mode aim id (by_itself game) verdict
     × AddsVerdict old new verdict 0
+
+-- the game counts as the other one: where lines of openings are given, with the tags of its
+-- opening
+abbrev pub CountsAs : Option (List NamedLine) → GameText → GameText → Type 0
+CountsAs None game other = other ≡ game
+CountsAs (Some lines) game other = IsGameText other × IsClassified lines game other
+
+-- what the mode reports of a game as which it counts is added
+abbrev pub AddsCounted : Mode → Aim → Report → Report → GameId → GameText → Type 0
+AddsCounted mode aim old new id game = (other : GameText) × CountsAs aim.openings game other
+    × AddsSearched mode aim old new id other
 
 -- the same of what the mode reports of whatever parts make the game
 abbrev pub AddsGame : Aim → Report → Report → GameId → GameText → Type 0

@@ -9,7 +9,7 @@ use Rattle.pgn_game.specs.declared.replays.replayer.Lines.TheVariants.{Main}
 use Rattle.pgn_extract.specs.Public.Aims.{Aim, GameId}
 use Rattle.pgn_extract.specs.Public.Choices.{id_of, IfChosen, is_chosen}
 use Rattle.pgn_extract.specs.Public.GameReports.{AreListed, IsReplayOf, IsFaultOf}
-use Rattle.pgn_extract.specs.Public.Listing.{Entry, IsGameOf}
+use Rattle.pgn_extract.specs.Public.Listing.{Entry, IsCounted}
 
 -- the entries of a game: those that it lists where it is sound, and none where it is faulty
 pub data AreGameEntries (aim : Aim) (id : GameId) (game : GameText) (entries : List Entry) : Type 0
@@ -23,7 +23,7 @@ pub data AreGameEntries (aim : Aim) (id : GameId) (game : GameText) (entries : L
 -- the entries of a piece: only a game that can be read has any
 abbrev pub ArePieceEntries : Aim → PieceKind → GameId → List Entry → Type 0
 ArePieceEntries aim (ReadableGame parts) id entries =
-    (game : GameText) × IsGameOf parts game × AreGameEntries aim id game entries
+    (game : GameText) × IsCounted aim.openings parts game × AreGameEntries aim id game entries
 ArePieceEntries aim (UnreadableRest bytes) id entries = entries ≡ []
 ArePieceEntries aim TooLongBlock id entries = entries ≡ []
 

@@ -15,9 +15,10 @@ use Rattle.pgn_game.specs.Public.PlayedLines.{PlayedLine, IsNextText}
 use Rattle.pgn_game.specs.Public.Replays.{Replay, IsReplay, IsSomeReplay, IsSoundGame}
 use Rattle.pgn_game.specs.Public.Starts.{fen_tag, IsStart}
 use Rattle.pgn_game.specs.declared.replays.replayer.Lines.TheVariants.{Main}
-use Rattle.pgn_criteria.specs.Public.Meeting.{heading_of, Meets}
+use Rattle.pgn_criteria.specs.Public.Meeting.{Heading, heading_of, Meets}
 use Rattle.pgn_criteria.specs.Public.Conditions.{Conditions}
-use Rattle.pgn_extract.specs.Public.Aims.{Aim, GameId, IsMet}
+use Rattle.pgn_extract.specs.Public.Aims.{Aim, GameId, HasNoChance, IsMet}
+use Rattle.pgn_extract.specs.declared.settings.Mode.TheVariants as modes
 use Rattle.pgn_extract.specs.Public.Exports.{HasEntry}
 use Rattle.pgn_extract.specs.Public.GameReports.{AreListed}
 use Rattle.pgn_extract.specs.Public.Index.{mark, titled}
@@ -92,6 +93,11 @@ pub record IsPlayedTo (fen : Option (List ℕ)) (items : List Item) (line : Play
       → IsMainLine start (main_words items 0) (before ++ later) (played ++ more)
   pub faults : (fault : Fault) → IsMoveFault line.position line.plies line.words fault
       → IsMoveFault start 0 (main_words items 0) fault
+
+-- the mode is that of the listing, and by its heading a game can have no entry
+pub record ListsNone (aim : Aim) (heading : Heading) : Type 0 where
+  pub mode : aim.mode ≡ modes.List
+  pub no_chance : HasNoChance aim.criteria heading
 
 -- the main line of the game is sound, and has an entry or has none
 abbrev pub IsChosen : Aim → GameText → Bool → Type 0

@@ -1,5 +1,6 @@
 -- What a run is to report, wherever in the text it begins.
 use Rattle.std.specs.Prelude.{◌≡◌, ◌<◌, ◌≤◌, ℕ, Bool, true, List, Option, Some, None}
+use Rattle.pgn_game.specs.Public.Openings.{NamedLine}
 use Rattle.pgn_game.specs.Public.Replays.{Replay}
 use Rattle.pgn_game.specs.declared.exports.style.Style.{Style}
 use Rattle.pgn_criteria.specs.Public.Meeting.{Heading, Meets}
@@ -14,11 +15,12 @@ use Rattle.pgn_extract.specs.declared.settings.Settings.{Settings}
 pub use Rattle.pgn_extract.specs.declared.marks.GameId.{GameId}
 
 -- what is to be reported of each piece, and the name that its lines have, if they have one; where
--- marks are chosen, nothing is of the pieces that have none of them; the criteria are alternatives
--- of conditions
+-- marks are chosen, nothing is of the pieces that have none of them; where lines of openings are
+-- given, a game counts with the tags of its opening; the criteria are alternatives of conditions
 pub record Aim : Type 0 where
   pub name : Option (List ℕ)
   pub chosen : Option (List GameId)
+  pub openings : Option (List NamedLine)
   pub mode : Mode
   pub criteria : Option (List Conditions)
   pub min_ply : ℕ
@@ -36,6 +38,7 @@ abbrev pub aim_of : Settings → Aim
 aim_of settings = record {
   name = settings.name;
   chosen = settings.chosen;
+  openings = settings.openings;
   mode = settings.mode;
   criteria = settings.criteria;
   min_ply = settings.min_ply;

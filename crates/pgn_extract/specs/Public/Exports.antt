@@ -19,7 +19,7 @@ use Rattle.pgn_extract.specs.Public.Aims.{Aim, GameId, IsEntry}
 use Rattle.pgn_extract.specs.Public.Choices.{id_of, IfChosen, is_chosen}
 use Rattle.pgn_extract.specs.Public.Index.{mark, titled}
 use Rattle.pgn_extract.specs.Public.GameReports.{IsReplayOf, IsFaultOf}
-use Rattle.pgn_extract.specs.Public.Listing.{IsGameOf}
+use Rattle.pgn_extract.specs.Public.Listing.{IsCounted}
 use Rattle.pgn_extract.specs.declared.settings.Form.{Form}
 use Rattle.pgn_extract.specs.declared.settings.Form.TheVariants.{Standard, AsItStands, Line, Record}
 use Rattle.pgn_extract.specs.declared.settings.Mode.{Mode}
@@ -99,7 +99,7 @@ pub data IsGameExport (aim : Aim) (id : GameId) (game : GameText) (text : List �
 -- kept
 abbrev pub IsPieceExport : Aim → GameId → PieceKind → List ℕ → Type 0
 IsPieceExport aim id (ReadableGame parts) text =
-    (game : GameText) × IsGameOf parts game × IsGameExport aim id game text
+    (game : GameText) × IsCounted aim.openings parts game × IsGameExport aim id game text
 IsPieceExport aim id (UnreadableRest bytes) text = text ≡ faulty_text modes.Export aim.select bytes
 IsPieceExport aim id TooLongBlock text = text ≡ []
 

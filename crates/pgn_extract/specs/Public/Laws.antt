@@ -115,21 +115,7 @@ PackIsListedAsItsText =
 
 -- the aim that asks for all entries of each game, or for the first alone
 abbrev pub with_first : Bool → Aim → Aim
-with_first first aim = record {
-  name = aim.name;
-  chosen = aim.chosen;
-  mode = aim.mode;
-  criteria = aim.criteria;
-  min_ply = aim.min_ply;
-  max_ply = aim.max_ply;
-  first = first;
-  line = aim.line;
-  select = aim.select;
-  form = aim.form;
-  style = aim.style;
-  explain = aim.explain;
-  tags_first = aim.tags_first;
-}
+with_first first aim = record aim { first = first }
 
 -- the exports are the same whether the first entry of each game is asked for or all
 abbrev pub FirstChangesNoExport : Type 0
@@ -153,21 +139,7 @@ TagsFirstChangesNoOutput =
 
 -- the aim that selects these games, each to be written as it stands
 abbrev pub as_they_stand : Select → Aim → Aim
-as_they_stand select aim = record {
-  name = aim.name;
-  chosen = aim.chosen;
-  mode = aim.mode;
-  criteria = aim.criteria;
-  min_ply = aim.min_ply;
-  max_ply = aim.max_ply;
-  first = aim.first;
-  line = aim.line;
-  select = select;
-  form = AsItStands;
-  style = aim.style;
-  explain = aim.explain;
-  tags_first = aim.tags_first;
-}
+as_they_stand select aim = record aim { select = select; form = AsItStands }
 
 -- a piece as it stands in an export: of a block over the limit nothing is kept
 abbrev pub piece_as_it_stands : PieceKind → List ℕ

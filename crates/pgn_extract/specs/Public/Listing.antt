@@ -1,7 +1,8 @@
 -- The listing of a text: the plies of its sound games whose position is looked for, each by the
 -- mark of its game.
-use Rattle.std.specs.Prelude.{◌≡◌, nat_le, List, length, Option, MatchOption, false, codes, decimal}
-use Rattle.std.specs.Prelude.{◌↔◌, ◌⊎◌, ℕ, ◌+◌, ◌<◌, [], ◌∷◌, ◌++◌, Some, Bool, true, not, ◌&&◌}
+use Rattle.std.specs.Prelude.{◌≡◌, nat_le, List, length, Option, None, MatchOption, false, codes}
+use Rattle.std.specs.Prelude.{decimal, ◌↔◌, ◌⊎◌, ℕ, ◌+◌, ◌<◌, [], ◌∷◌, ◌++◌, Some, Bool, true}
+use Rattle.std.specs.Prelude.{not, ◌&&◌}
 use Rattle.std.specs.List.{Contains, filter, list_any, slice_get}
 use Rattle.chess.specs.Public.Fen.{IsFen}
 use Rattle.chess.specs.Public.Positions.{State}
@@ -10,6 +11,7 @@ use Rattle.chess.specs.declared.moves.Move.{Move}
 use Rattle.pgn_text.specs.Public.GameTexts.{GameText, IsGameText, ShowsGame, tag_in}
 use Rattle.pgn_text.specs.Public.Marks.{ReadableGame, MarkedPiece}
 use Rattle.pgn_text.specs.Public.Parts.{Part}
+use Rattle.pgn_game.specs.Public.Openings.{NamedLine, IsClassified}
 use Rattle.pgn_game.specs.Public.Replays.{Replay, IsMainReplay}
 use Rattle.pgn_game.specs.Public.Starts.{fen_tag}
 use Rattle.pgn_criteria.specs.Public.Meeting.{heading_of}
@@ -100,6 +102,13 @@ IsShownOf aim id game replay ply shown =
 abbrev pub IsGameOf : List Part → GameText → Type 0
 IsGameOf parts game = IsGameText game × ShowsGame game 0 parts
 
+-- the game as which these parts count: the one that they make; where lines of openings are given,
+-- with the tags of its opening
+abbrev pub IsCounted : Option (List NamedLine) → List Part → GameText → Type 0
+IsCounted None parts game = IsGameOf parts game
+IsCounted (Some lines) parts game = (own : GameText) × IsGameOf parts own × IsGameText game
+    × IsClassified lines own game
+
 -- the main line of the game is sound, and this is its replay
 abbrev pub IsMainReplayOf : GameText → Replay → Type 0
 IsMainReplayOf game replay = IsMainReplay (tag_in fen_tag game.tags) game.elements replay
@@ -116,7 +125,7 @@ pub record IsPlyOfGame (aim : Aim) (number : ℕ) (pieces : List MarkedPiece) (e
         ≡ Some (record { offset = entry.id.offset; kind = ReadableGame parts })
     pub numbered : entry.id.number ≡ number + place
     pub chosen : is_chosen aim.chosen entry.id ≡ true
-    pub is_game : IsGameOf parts game
+    pub is_game : IsCounted aim.openings parts game
     pub is_replay : IsMainReplayOf game replay
     pub within : entry.ply < length replay.positions
     pub listed : IsEntry aim (heading_of game) replay entry.ply

@@ -3,6 +3,7 @@ use Rattle.std.specs.Prelude.{Bool, false, true, not, ◌&&◌, ◌||◌, if◌t
 use Rattle.std.specs.Prelude.{◌==◌, ℕ, ◌-◌, ◌^◌, nat_lt, length, List, [], ◌∷◌, ◌++◌, Option, Some}
 use Rattle.std.specs.Prelude.{None, codes, option_map, unwrap_or, ◌≡◌, IfSome}
 use Rattle.std.specs.List.{list_all}
+use Rattle.pgn_game.specs.Public.Openings.{NamedLine}
 use Rattle.pgn_game.specs.declared.exports.notation.Notation.TheVariants.{San, Uci}
 use Rattle.pgn_game.specs.declared.exports.style.Style.{Style}
 use Rattle.pgn_criteria.specs.Public.Conditions.{Conditions}
@@ -77,13 +78,14 @@ asked_line request (Some row) = InColumns row
 abbrev pub IsInPacks : Request → Option Row → Type 0
 IsInPacks request row = request.packed ≡ true → has_annotations (asked_line request row) ≡ false
 
--- all that a run is to do, with notes or without, with this row, these criteria, and of the pieces
--- with these marks; its lines have no name yet
-abbrev pub asked : Bool → Request → Option Row → Option (List Conditions) → Option (List GameId)
-    → Aim
-asked noted request row criteria chosen = record {
+-- all that a run is to do, with notes or without, with this row, these lines of openings, these
+-- criteria, and of the pieces with these marks; its lines have no name yet
+abbrev pub asked : Bool → Request → Option Row → Option (List NamedLine) → Option (List Conditions)
+    → Option (List GameId) → Aim
+asked noted request row openings criteria chosen = record {
   name = None;
   chosen = chosen;
+  openings = openings;
   mode = asked_mode request;
   criteria = criteria;
   min_ply = request.min_ply;
@@ -156,10 +158,11 @@ has_style request = request.no_comments || request.no_glyphs || request.no_varia
 abbrev pub gives_criteria : Request → Bool
 gives_criteria request = is_some request.criteria || nat_lt 0 (length request.conditions.items)
 
--- what is asked for is of games whatever their tags are, or of packs
+-- what is asked for is of games whatever their tags are, or of packs; or their tags are known once
+-- they are played
 abbrev pub needs_each_game : Request → Bool
 needs_each_game request = request.index || request.others || request.faulty || request.packed
-    || request.pack
+    || request.pack || is_some request.openings
 
 -- the run ends after it begins
 abbrev pub is_stretch : Option GameId → Option ℕ → Bool
@@ -205,7 +208,7 @@ search_refusals request =
     ∷ record {
       applies = request.tags_first && needs_each_game request;
       line = codes
-          "pgn-extract: --tags-first goes with none of --index, --packed, --others, --faulty and --pack\n";
+          "pgn-extract: --tags-first goes with none of --index, --packed, --others, --faulty, --pack and --openings\n";
     }
     ∷ file_refusals request
 
@@ -251,9 +254,10 @@ other_refusals request =
     }
     ∷ record {
       applies = request.packed
-          && (gives_mark request || request.with_names || request.no_names);
+          && (gives_mark request || request.with_names || request.no_names
+          || is_some request.openings);
       line = codes
-          "pgn-extract: --packed goes with none of --from, --until, --at, --with-names and --no-names\n";
+          "pgn-extract: --packed goes with none of --from, --until, --at, --with-names, --no-names and --openings\n";
     }
     ∷ record {
       applies = has_fields request && not request.list;

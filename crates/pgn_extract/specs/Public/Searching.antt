@@ -71,6 +71,7 @@ pub record IsPackOf (name : Option (List ℕ)) (number : ℕ) (pieces : List Mar
 -- each sound game is packed, whatever its mark and its moves
 pub record PacksAll (packing : Aim) : Type 0 where
   pub chosen : packing.chosen ≡ None
+  pub openings : packing.openings ≡ None
   pub form : packing.form ≡ Record
   pub criteria : packing.criteria ≡ None
   pub from_start : packing.min_ply ≡ 0
@@ -97,9 +98,10 @@ PackedTextIsAPack =
 
 -- What is found in a pack.
 
--- the aim that passes over no game: marks are not looked for in packs
+-- the aim that passes over no game, and takes each as it stands: neither marks nor openings are
+-- looked for in packs
 abbrev pub of_all : Aim → Aim
-of_all aim = record aim { chosen = None }
+of_all aim = record aim { chosen = None; openings = None }
 
 -- the aim whose lines have this name of a file
 abbrev pub named : Option (List ℕ) → Aim → Aim

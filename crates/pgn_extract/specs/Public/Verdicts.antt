@@ -10,7 +10,7 @@ use Rattle.pgn_game.specs.declared.replays.replayer.Lines.{Lines}
 use Rattle.pgn_game.specs.declared.replays.replayer.Lines.TheVariants.{Main}
 use Rattle.pgn_criteria.specs.Public.Meeting.{heading_of}
 use Rattle.pgn_extract.specs.Public.Index.{fault_text, mark_line}
-use Rattle.pgn_extract.specs.Public.Listing.{Entry, IsGameOf, listing}
+use Rattle.pgn_extract.specs.Public.Listing.{Entry, IsCounted, listing}
 use Rattle.pgn_extract.specs.Public.GameReports.{AreListed, IsReplayOf, IsFaultOf, cause_text}
 use Rattle.pgn_extract.specs.Public.Aims.{Aim, GameId, IsRuledOut}
 use Rattle.pgn_extract.specs.Public.Choices.{id_of, IfChosen, is_chosen}
@@ -106,7 +106,8 @@ IsGameVerdict true mode aim id game verdict = IsPlayedOrNot mode aim id game ver
 -- the game of these parts is
 abbrev pub IsGameReported : Mode → Aim → GameId → List Part → Verdict → Type 0
 IsGameReported mode aim id parts verdict =
-    (game : GameText) × IsGameOf parts game × IsGameVerdict aim.tags_first mode aim id game verdict
+    (game : GameText) × IsCounted aim.openings parts game
+    × IsGameVerdict aim.tags_first mode aim id game verdict
 
 -- a game that can be read is reported so in a mode: in the index by its mark, else by its replay,
 -- but where tags come first and rule it out

@@ -39,6 +39,8 @@ pub struct Request<'a> {
     pub roster: bool,
     /// The number after `-w`.
     pub width: Option<u16>,
+    /// The path after `--openings`.
+    pub openings: Option<&'a str>,
     /// The path after `--criteria`.
     pub criteria: Option<&'a str>,
     /// The texts after each `--where`, in their order.
@@ -222,6 +224,13 @@ const SEARCHES: &[Choice] = &[
         Takes::Texts("LINE"),
         "A line of criteria, after those of FILE; any number\n\
          of times",
+    ),
+    choice!(
+        "openings",
+        Takes::Text("FILE"),
+        "Count each game with the tags ECO, Opening and\n\
+         Variation of its opening, a game of FILE: the last\n\
+         whose end it comes to",
     ),
     choice!(
         "min-ply",
@@ -439,6 +448,7 @@ pub fn read_arguments<'a>(alloc: Global, arguments: &'a [String]) -> Result<Requ
         no_variations: matches.get_flag("no-variations"),
         roster: matches.get_flag("roster"),
         width: matches.get_one("width"),
+        openings: matches.get_str("openings"),
         criteria: matches.get_str("criteria"),
         conditions,
         min_ply: matches.get_one("min-ply").unwrap_or(0),

@@ -12,7 +12,7 @@ const OPTIONS: [(&str, &str); 22] = [
     ("--duplicates", "pgn-unique --report FILE names duplicates"),
     ("-s", "nothing but bad games is reported: leave it out"),
     ("--quiet", "nothing but bad games is reported: leave it out"),
-    ("-e", "no ECO codes are added: leave it out"),
+    ("-e", "use --openings FILE"),
     ("-7", "use --roster"),
     ("--seven", "use --roster"),
     ("-W", "use --moves, --uci, or --list --fen"),

@@ -46,9 +46,10 @@ pub const NO_PACK: &str =
 /// Without criteria no game is ruled out by its tags.
 pub const NO_TAGS_TO_MEET: &str = "pgn-extract: --tags-first goes with --criteria or --where\n";
 
-/// What is written of all games, or of faulty ones, asks for each to be played; packs are not.
+/// What is written of all games, or of faulty ones, and what their openings are, asks for each to
+/// be played; packs are not.
 pub const TAGS_ARE_NOT_FIRST: &str =
-    "pgn-extract: --tags-first goes with none of --index, --packed, --others, --faulty and --pack\n";
+    "pgn-extract: --tags-first goes with none of --index, --packed, --others, --faulty, --pack and --openings\n";
 
 /// Names are asked for, and refused.
 pub const BOTH_NAMINGS: &str = "pgn-extract: --with-names and --no-names exclude each other\n";
@@ -56,9 +57,10 @@ pub const BOTH_NAMINGS: &str = "pgn-extract: --with-names and --no-names exclude
 /// A pack is listed or indexed, and nothing else is done with it.
 pub const PACKS_GIVE_LINES: &str = "pgn-extract: --packed goes with --list, --rows or --index\n";
 
-/// The lines of a pack have the names that were packed; and a pack is searched as a whole.
+/// The lines of a pack have the names that were packed; and a pack is searched as a whole, by the
+/// tags that were packed.
 pub const PACKS_ARE_PLAIN: &str =
-    "pgn-extract: --packed goes with none of --from, --until, --at, --with-names and --no-names\n";
+    "pgn-extract: --packed goes with none of --from, --until, --at, --with-names, --no-names and --openings\n";
 
 /// A pack has something that is the record of no game; its name follows.
 pub const BAD_PACK: &str = "pgn-extract: bad pack: ";
@@ -90,6 +92,21 @@ pub const OUTPUT_IS_READ: &str = "pgn-extract: the output is one of the files: "
 
 /// The file of marks could not be opened, or a read of it failed.
 pub const CANNOT_READ_MARKS: &str = "pgn-extract: cannot read marks\n";
+
+/// The file of openings could not be opened, or a read of it failed.
+pub const CANNOT_READ_OPENINGS: &str = "pgn-extract: cannot read openings\n";
+
+/// The file of openings has more bytes than its limit.
+pub const OPENINGS_TOO_LONG: &str = "pgn-extract: openings too long: more than 16777216 bytes\n";
+
+/// It has more lines than their limit.
+pub const TOO_MANY_OPENINGS: &str = "pgn-extract: too many openings: more than 65536 lines\n";
+
+/// It has no line.
+pub const NO_OPENINGS: &str = "pgn-extract: no openings: the file has no game\n";
+
+/// It has a game that cannot be read or played, whose line follows.
+pub const BAD_OPENINGS: &str = "pgn-extract: bad openings\n";
 
 /// The file of criteria could not be opened, or a read of it failed.
 pub const CANNOT_READ_CRITERIA: &str = "pgn-extract: cannot read criteria\n";

@@ -19,7 +19,7 @@ use crate::marks::{GameId, Marks};
 use crate::rows::column::{Format, Row};
 use crate::settings::{EntryLine, Fields, Form, Mode, Select, Settings};
 use pgn_criteria::Criteria;
-use pgn_game::{Notation, Style};
+use pgn_game::{Notation, Openings, Style};
 
 /// What the arguments ask for.
 #[derive(Drop)]
@@ -114,7 +114,8 @@ fn refused_others(request: &Request<'_>) -> Option<&'static str>
     if request.packed & !(has_mode | request.rows.is_some()) {
         return Some(messages::PACKS_GIVE_LINES);
     }
-    if request.packed & (has_mark(request) | request.with_names | request.no_names) {
+    let is_named = request.with_names | request.no_names;
+    if request.packed & (has_mark(request) | is_named | request.openings.is_some()) {
         return Some(messages::PACKS_ARE_PLAIN);
     }
     if has_fields & !request.list {
@@ -177,7 +178,7 @@ fn needs_each_game(request: &Request<'_>) -> bool
     ensures { result ≡ needs_each_game request.now }
 {
     let is_of_all = request.index || request.others || request.faulty;
-    is_of_all || request.packed || request.pack
+    is_of_all || request.packed || request.pack || request.openings.is_some()
 }
 
 /// Whether the run is to begin or to end at a mark, or to report the pieces with marks.
@@ -289,10 +290,12 @@ fn line_of(request: &Request<'_>, row: Option<Row>) -> EntryLine
 pub fn settings_of(
     order: &Order<'_>,
     row: Option<Row>,
+    openings: Option<Openings>,
     criteria: Option<Criteria>,
     chosen: Option<Marks>,
 ) -> Settings
-    ensures asked { aim_of result ≡ asked order.now.noted order.now.request row criteria chosen }
+    ensures asked { aim_of result
+        ≡ asked order.now.noted order.now.request row openings criteria chosen }
     ensures number { result.number ≡ order.now.mark.number }
     ensures offset { result.offset ≡ order.now.mark.offset }
 {
@@ -300,6 +303,7 @@ pub fn settings_of(
     Settings {
         name: None,
         chosen,
+        openings,
         mode: mode_of(request),
         criteria,
         min_ply: request.min_ply,

@@ -13,6 +13,11 @@ fn written_file<'a, F: Files>(files: &F, request: &Request<'a>, stream: Stream) 
     {
         return Some(path);
     }
+    if let Some(path) = request.openings
+        && files.is_written(stream, Some(path))
+    {
+        return Some(path);
+    }
     if let Some(path) = request.at
         && files.is_written(stream, Some(path))
     {

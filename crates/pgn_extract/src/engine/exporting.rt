@@ -10,7 +10,8 @@ ghost use Rattle.pgn_game.specs.Public.Replays.{IsSoundGame, Replay, fault_of};
 ghost use Rattle.pgn_game.specs.Public.Starts.{fen_tag};
 ghost use Rattle.pgn_game.specs.declared.replays.replayer.Lines.TheVariants.{Main};
 ghost use Rattle.pgn_extract.specs.Public.Aims.{aim_of};
-ghost use Rattle.pgn_extract.specs.Private.Blockwise.{AddsText, PutsText, StopsIn, TakesAll};
+ghost use Rattle.pgn_extract.specs.Private.Blockwise.{AddsText, ExportsAll, PutsText, StopsIn};
+ghost use Rattle.pgn_extract.specs.Private.Blockwise.{TakesAll};
 ghost use Rattle.pgn_extract.specs.Public.Exports.{HasEntry, IsSelected, as_it_stands, faulty_text};
 ghost use Rattle.pgn_extract.specs.Public.Exports.{line_with, written_lines};
 ghost use Rattle.pgn_extract.specs.Private.Finding.{IsChosen};
@@ -95,6 +96,13 @@ pub fn takes_all(settings: &Settings) -> bool
     ensures { IsTrue result → TakesAll (aim_of settings.now) }
 {
     settings.criteria.is_none() && settings.min_ply == 0 && settings.select == Select::Matching
+}
+
+/// Whether each sound game is exported in the standard's form, whatever its moves.
+pub fn exports_all(settings: &Settings) -> bool
+    ensures { IsTrue result → ExportsAll (aim_of settings.now) }
+{
+    settings.mode == Mode::Export && settings.form == Form::Standard && takes_all(settings)
 }
 
 /// The first fault of the lines that are written of a game whose main line has this fault.

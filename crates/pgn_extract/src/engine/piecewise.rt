@@ -198,7 +198,7 @@ fn report_games<'a, O: Write, E: Write>(
             },
             bytes,
         };
-        report.add_piece(context, &piece)?;
+        report.add_piece(context, piece)?;
         put_large(out, err, report)?;
     }
     Ok(())

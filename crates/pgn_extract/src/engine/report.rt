@@ -6,6 +6,7 @@ ghost use Rattle.pgn_text.specs.Public.LeftMarks.{mark_place};
 ghost use Rattle.pgn_extract.specs.Public.Aims.{aim_of};
 ghost use Rattle.pgn_extract.specs.Public.Choices.{is_chosen};
 ghost use Rattle.pgn_extract.specs.Private.Blockwise.{Reports, AddsVerdict, AddsGame, AddsOutput};
+ghost use Rattle.pgn_extract.specs.Private.Blockwise.{AddsCounted, ExportsAll};
 ghost use Rattle.pgn_extract.specs.Private.Blockwise.{AddsPiece, AddsReplayed, AddsSearched};
 ghost use Rattle.pgn_extract.specs.Private.Blockwise.{IsBlockVerdict};
 ghost use Rattle.pgn_extract.specs.Private.Blockwise.{IsMarkReport, StopsIn, too_long_piece};
@@ -19,16 +20,18 @@ ghost use Rattle.pgn_game.specs.declared.replays.replayer.Lines.TheVariants.{Mai
 ghost use Rattle.pgn_game.specs.Public.Faults.{Fault};
 ghost use Rattle.pgn_game.specs.Public.Replays.{fault_of};
 
-use crate::engine::exporting::{push_faulty, put_selected, written_lines};
+use crate::engine::exporting::{exports_all, push_faulty, put_selected, written_lines};
 use crate::entries::listing::push_plies;
-use crate::entries::{GameContext, is_ruled_out, push_entries};
+use crate::entries::{GameContext, is_ruled_out, lists_none, push_entries};
 use crate::explain::move_notes::{GamePlace, push_game_note};
 use crate::explain::notes::{Origin, Spot, push_stop_note, push_too_long_note};
 use crate::explain::players::push_players;
 use crate::marks::{GameId, Met};
 use crate::output::texts::{push_fault_line, push_game_fault, push_mark_line};
 use crate::settings::{Mode, Settings};
-use pgn_game::{GameFault, Lines, count_plies};
+use pgn_game::{
+    Classified, GameFault, Lines, Openings, count_plies, export_followed, follow_export,
+};
 use pgn_text::{Piece, PieceStart, RawGame};
 use std::alloc::{AllocError, Global};
 
@@ -297,25 +300,80 @@ impl Report {
         self.add_replayed(context, game_place, game)
     }
 
+    /// Adds the export of a game with the tags of its opening, which is found while the game is
+    /// played and written; or the line of its fault.
+    fn add_followed<'a>(
+        &mut self,
+        context: GameContext<'a>,
+        game_place: GamePlace<'a>,
+        game: RawGame<'a>,
+        openings: &'a Openings,
+    ) -> Result<(), AllocError>
+        requires faulty { self.old.faulty + 1 < 2 ^ 64 }
+        requires room { game_place.origin.offset + length game_place.block.now < 2 ^ 64 }
+        requires all { ExportsAll (aim_of context.settings.now) }
+        requires lines { (aim_of context.settings.now).openings ≡ Some openings.now }
+        ensures { OnOk result
+            (AddsCounted context.entry.settings.now.mode (aim_of context.entry.settings.now)
+            self.old self.new
+            context.entry.own game.entry) }
+    {
+        game.invariant();
+        let style = &context.settings.style;
+        match follow_export(context.alloc, &game, style, openings) {
+            Ok(followed) => export_followed(game, &followed, style, openings, &mut self.output),
+            Err(fault) => self.add_fault(context, game_place, &game, fault),
+        }
+    }
+
+    /// Adds what is reported of a game as it counts: where lines of openings are given, with the
+    /// tags of its opening.
+    fn add_counted<'a>(
+        &mut self,
+        context: GameContext<'a>,
+        game_place: GamePlace<'a>,
+        game: RawGame<'a>,
+    ) -> Result<(), AllocError>
+        requires faulty { self.old.faulty + 1 < 2 ^ 64 }
+        requires room { game_place.origin.offset + length game_place.block.now < 2 ^ 64 }
+        ensures { OnOk result
+            (AddsCounted context.entry.settings.now.mode (aim_of context.entry.settings.now)
+            self.old self.new
+            context.entry.own game.entry) }
+    {
+        let Some(openings) = &context.settings.openings else {
+            return self.add_searched(context, game_place, &game);
+        };
+        if exports_all(context.settings) {
+            return self.add_followed(context, game_place, game, openings);
+        }
+        let Classified { game, sound } = openings.classified(context.alloc, game)?;
+        game.invariant();
+        if sound && lists_none(context.settings, &game) {
+            return Ok(());
+        }
+        self.add_searched(context, game_place, &game)
+    }
+
     /// Adds what is reported of a game.
     fn add_game<'a>(
         &mut self,
         context: GameContext<'a>,
         game_place: GamePlace<'a>,
-        game: &RawGame<'a>,
+        game: RawGame<'a>,
     ) -> Result<(), AllocError>
         requires faulty { self.old.faulty + 1 < 2 ^ 64 }
         requires room { game_place.origin.offset + length game_place.block.now < 2 ^ 64 }
         ensures { OnOk result
             (AddsGame (aim_of context.entry.settings.now) self.old self.new context.entry.own
-            game.now) }
+            game.entry) }
     {
         game.invariant();
         let GameContext { settings, own, .. } = context;
         match settings.mode {
             Mode::Index => push_mark_line(&mut self.output, &settings.name, own),
-            Mode::List => self.add_searched(context, game_place, game),
-            Mode::Export => self.add_searched(context, game_place, game),
+            Mode::List => self.add_counted(context, game_place, game),
+            Mode::Export => self.add_counted(context, game_place, game),
         }
     }
 
@@ -364,14 +422,14 @@ impl Report {
     pub fn add_piece<'a>(
         &mut self,
         context: BlockContext<'a>,
-        piece: &Piece<'a>,
+        piece: Piece<'a>,
     ) -> Result<(), AllocError>
-        requires place { piece_place piece.now ≤ length context.bytes.now }
+        requires place { piece_place piece ≤ length context.bytes.now }
         requires room { context.id.offset + length context.bytes.now < 2 ^ 64 }
         requires counts { (self.old.games + 1 < 2 ^ 64) × (self.old.faulty + 1 < 2 ^ 64) }
         ensures { OnOk result
             (AddsPiece (aim_of context.entry.settings.now) self.old self.new context.entry.id
-            context.entry.bytes.now piece.now) }
+            context.entry.bytes.now piece.entry) }
     {
         self.games += 1;
         let BlockContext {
@@ -407,13 +465,13 @@ impl Report {
             }
             Piece::Unreadable { at } => {
                 let rest = GameId {
-                    offset: id.offset + *at as u64,
+                    offset: id.offset + at as u64,
                     ..id
                 };
                 if self.passes_over(settings, rest) {
                     return Ok(());
                 }
-                self.add_unreadable(context, *at)
+                self.add_unreadable(context, at)
             }
         }
     }

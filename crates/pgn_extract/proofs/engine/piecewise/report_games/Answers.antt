@@ -15,15 +15,6 @@ loop-piece-init g c = (
   c.requires.sound.1,
 )
 
-pub loop-piece-preserved-in_ok-put_large : goal.loop-piece-preserved-in_ok-put_large
-loop-piece-preserved-in_ok-put_large g c =
-    let takes = rw c.in_ok-piece.was at c.in-Some.ensures.steps in
-    let begins = c.into_iter-piece-iterator.ensures.into_iter_gives ∙ c.games-piece-items.ensures in
-    let more = listed_more c.loop-piece.invariant.0 c.args.bytes.now _ begins takes refl
-    c.in_ok-add_piece.ensures in
-    let sound = written_soundly c.in_ok-put_large.ensures.faults in
-    (listed_passed more c.in_ok-put_large.ensures.ok, sound.0, sound.1)
-
 pub loop-piece-preserved : goal.loop-piece-preserved
 loop-piece-preserved g c =
     let takes = rw c.in_ok-piece.was at c.in-Some.ensures.steps in

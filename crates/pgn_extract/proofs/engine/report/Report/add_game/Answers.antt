@@ -6,19 +6,19 @@ pub returns-in-Index : goal.returns-in-Index
 returns-in-Index c =
     on_ok_weaker c.push_mark_line.result
     (λ line.
-    game_indexed (aim_of c.args.context.settings.now) c.args.context.own c.args.game.now
+    game_indexed (aim_of c.args.context.settings.now) c.args.context.own c.args.game
     c.in-Index.is (sound_added line refl refl refl))
     c.push_mark_line.ensures
 
 pub returns-in-List : goal.returns-in-List
 returns-in-List c =
-    on_ok_weaker c.add_searched.result (λ adds.
-    game_added (aim_of c.args.context.settings.now) c.args.context.own c.args.game.now
-    c.invariant.ensures (λ index. let list = c.in-List.is in cc) adds) c.add_searched.ensures
+    on_ok_weaker c.add_counted.result (λ adds.
+    game_added (aim_of c.args.context.settings.now) c.args.context.own c.args.game
+    c.invariant.ensures (λ index. let list = c.in-List.is in cc) adds) c.add_counted.ensures
 
 pub returns-in-Export : goal.returns-in-Export
 returns-in-Export c =
-    on_ok_weaker c.add_searched-in-Export.result (λ adds.
-    game_added (aim_of c.args.context.settings.now) c.args.context.own c.args.game.now
+    on_ok_weaker c.add_counted-in-Export.result (λ adds.
+    game_added (aim_of c.args.context.settings.now) c.args.context.own c.args.game
     c.invariant.ensures (λ index. let export = c.in-Export.is in cc) adds)
-    c.add_searched-in-Export.ensures
+    c.add_counted-in-Export.ensures

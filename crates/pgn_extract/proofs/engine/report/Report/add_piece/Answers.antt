@@ -13,7 +13,7 @@ returns-then-passes_over c =
     c.passes_over.ensures.passed c.if-passes_over.true in
     let there = subst (λ n. is_chosen aim.chosen (id_at id n) ≡ false) c.at.ensures passed in
     let held = c.passes_over.ensures in
-    piece_passed aim id c.args.context.bytes.now c.args.piece.now
+    piece_passed aim id c.args.context.bytes.now c.args.piece
     (subst (λ (p : Piece). is_chosen aim.chosen (id_at id (piece_place p))
     ≡ false) (sym c.in-Game.is) there) held.output held.faults held.counts.0 held.counts.1
 
@@ -24,7 +24,7 @@ returns-then-passes_over-2 c =
     let held = c.passes_over-in-Unreadable.ensures in
     let passed = passed_by (is_chosen aim.chosen (id_at id c.in-Unreadable.at))
     c.passes_over-in-Unreadable.result held.passed c.if-passes_over-2.true in
-    piece_passed aim id c.args.context.bytes.now c.args.piece.now
+    piece_passed aim id c.args.context.bytes.now c.args.piece
     (subst (λ (p : Piece). is_chosen aim.chosen (id_at id (piece_place p))
     ≡ false) (sym c.in-Unreadable.is) passed) held.output held.faults held.counts.0
     held.counts.1
@@ -39,7 +39,7 @@ returns-else-passes_over c =
     c.if-passes_over.false in
     on_ok_weaker c.add_game.result
     (λ adds.
-    piece_game aim id (id_at id c.at.result) c.args.context.bytes.now c.args.piece.now
+    piece_game aim id (id_at id c.at.result) c.args.context.bytes.now c.args.piece
     c.in-Game.game c.in-Game.is
     (ap (id_at id) c.at.ensures) taken adds held.output held.faults held.counts.0 held.counts.1)
     c.add_game.ensures
@@ -53,6 +53,6 @@ returns-else-passes_over-2 c =
     c.passes_over-in-Unreadable.result held.passed c.if-passes_over-2.false in
     on_ok_weaker c.add_unreadable.result
     (λ adds.
-    piece_unreadable aim id c.args.context.bytes.now c.args.piece.now c.in-Unreadable.at adds.0
+    piece_unreadable aim id c.args.context.bytes.now c.args.piece c.in-Unreadable.at adds.0
     c.in-Unreadable.is taken adds.1 adds.2 held.output held.faults held.counts.0 held.counts.1)
     c.add_unreadable.ensures
