@@ -73,6 +73,7 @@ EXAMPLES = {
     "immortal.pgn": (2, 78, 78, 0),
     "messy.pgn": (1, 13, 15, 0),
     "old-mac.pgn": (2, 2, 2, 0),
+    "openings.pgn": (72, 343, 343, 0),
     "spellings.pgn": (0, 0, 0, 2),
     "two-games.pgn": (2, 2, 2, 0),
     "unplayable.pgn": (1, 5, 5, 3),
