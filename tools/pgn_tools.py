@@ -404,14 +404,14 @@ class Scratch:
 
 
 class Run:
-    """A run of another command, whose output is read. What it reports goes to standard error
-    (None), to a file, or to a pipe where that is a line at most."""
+    """A run of another command, whose output is read, or goes to a file. What it reports goes to
+    standard error (None), to a file, or to a pipe where that is a line at most."""
 
     def __init__(self, scratch, command, reports=subprocess.PIPE, **more):
         self.name, self.scratch = command[0], scratch
         Signals.let_wait(True)
-        streams = {"stdout": subprocess.PIPE, "stderr": reports, "bufsize": BLOCK}
-        self.process = subprocess.Popen(command, process_group=0, **streams, **more)
+        streams = {"stdout": subprocess.PIPE, "stderr": reports, "bufsize": BLOCK, **more}
+        self.process = subprocess.Popen(command, process_group=0, **streams)
         scratch.runs.add(self)
         Signals.let_wait(False)
         self.reports = self.process.stderr or reports
@@ -419,6 +419,18 @@ class Run:
     def lines(self):
         """Its output."""
         return self.process.stdout
+
+    def put(self, text):
+        """Puts a text into it, where its input is a pipe."""
+        try:
+            self.process.stdin.write(text)
+        except BrokenPipeError:
+            self.end(good=())
+
+    def close_input(self):
+        """Puts no more into it."""
+        with contextlib.suppress(BrokenPipeError):
+            self.process.stdin.close()
 
     def end(self, good=(0,)):
         """Waits for its end, which has to be a good one: the status. Its reports can be read."""
@@ -450,18 +462,11 @@ class Sorter:
         command = [SORT, *options, "-T", scratch.folder]
         in_bytes = {**os.environ, "LC_ALL": "C"}
         self.run = Run(scratch, command, stdin=subprocess.PIPE, env=in_bytes)
-
-    def put(self, line):
-        """Puts a line in."""
-        try:
-            self.run.process.stdin.write(line)
-        except BrokenPipeError:
-            self.run.end(good=())
+        self.put = self.run.put
 
     def lines(self):
         """All lines in order."""
-        with contextlib.suppress(BrokenPipeError):
-            self.run.process.stdin.close()
+        self.run.close_input()
         yield from self.run.lines()
         self.run.end()
 
