@@ -160,6 +160,10 @@ class Position:
                     continue
             yield move
 
+    def takes_en_passant(self):
+        """Whether a legal move takes a pawn en passant."""
+        return any(move[1] == self.passed and self.board[move[0]] in "Pp" for move in self.legal())
+
     def san(self, move, after, moves):
         source, target, promotion = move
         man = self.board[source].upper()
