@@ -34,7 +34,7 @@ pub use exports::following::Followed;
 pub use exports::game_line::push_line;
 pub use exports::notation::Notation;
 pub use exports::style::Style;
-pub use openings::{Classified, Opening, OpeningLine, Openings};
+pub use openings::{Classified, FollowedLine, Opening, OpeningLine, Openings};
 pub use replays::played_line::MainLine;
 pub use replays::replayer::{
     Lines, check_lines, check_variations, count_plies, replay, replay_beginning,

@@ -1,6 +1,6 @@
 //! Lines of a file of openings, and which of them a game came to.
 ghost use Rattle.std.specs.Prelude.{◌≡◌, ◌<◌, ◌^◌, ◌++◌, ◌∷◌, [], List, IfOk, IfSome};
-ghost use Rattle.std.specs.Prelude.{IsTrue, MatchResult};
+ghost use Rattle.std.specs.Prelude.{MatchResult};
 ghost use Rattle.std.specs.Prelude.{Some, length, map, option_map};
 ghost use Rattle.std.specs.List.{slice_get};
 ghost use Rattle.chess.specs.Public.Positions.{State};
@@ -11,7 +11,7 @@ ghost use Rattle.pgn_game.specs.Public.MainLines.{main_words};
 ghost use Rattle.pgn_game.specs.Public.Openings.{NamedLine, named_of, ends_of, IsFirstIn};
 ghost use Rattle.pgn_game.specs.Public.Openings.{IsOpeningIn, HasOpening, IsTaggedBy, IsClassified};
 ghost use Rattle.pgn_game.specs.Public.Openings.{HasContents, HasLineOf, unless_empty};
-ghost use Rattle.pgn_game.specs.Public.Replays.{IsSoundGame, fault_of};
+ghost use Rattle.pgn_game.specs.Public.Replays.{HasPlies, fault_of};
 ghost use Rattle.pgn_game.specs.Public.Starts.{fen_tag};
 ghost use Rattle.pgn_game.specs.Private.Filing.{HasOpeningFrom, sieve_place};
 ghost use Rattle.pgn_game.specs.Private.Following.{FindsLine};
@@ -68,11 +68,18 @@ fn place_of(pawns: [u64; 2]) -> usize
     (white.wrapping_add(black) >> 48) as usize
 }
 
-/// A game as it counts, and whether its main line is sound.
+/// A game as it counts, and the number of plies of its main line where that is sound.
 #[derive(Drop)]
 pub struct Classified<'a> {
     pub game: RawGame<'a>,
-    pub sound: bool,
+    pub plies: Option<usize>,
+}
+
+/// A main line that was played: its opening, or none, and the number of its plies.
+#[derive(Clone, Copy, Debug, PartialEq, Eq)]
+pub struct FollowedLine {
+    pub opening: Option<Opening>,
+    pub plies: usize,
 }
 
 /// The lines of a file of openings, which are found by their last positions.
@@ -174,14 +181,15 @@ impl Openings {
         }
     }
 
-    /// The opening of the main line that is played from this start, or none; or its fault.
+    /// The main line that is played from this start, with its opening; or its fault.
     fn follow<'a>(
         &self,
         start: GamePosition,
         elements: &[Element<'a>],
-    ) -> Result<Option<Opening>, GameFault<'a>>
+    ) -> Result<FollowedLine, GameFault<'a>>
         ensures { MatchResult result
-            (HasOpeningFrom (ends_of self.now) start (main_words (map item_of elements.now) 0))
+            (λ line. HasOpeningFrom (ends_of self.now) start
+            (main_words (map item_of elements.now) 0) line.opening line.plies)
             (λ fault.
             IfSome (fault_of fault)
             (IsMoveFault start 0 (main_words (map item_of elements.now) 0))) }
@@ -193,17 +201,21 @@ impl Openings {
                 found = self.after(found, walk.plies, &walk.position);
             }
         }
-        Ok(found)
+        Ok(FollowedLine {
+            opening: found,
+            plies: walk.plies,
+        })
     }
 
-    /// The opening of the game, or none; or the fault of its main line.
+    /// The main line of the game, with its opening; or its fault.
     pub fn opening_of<'a>(
         &self,
         alloc: Global,
         game: &RawGame<'a>,
-    ) -> Result<Option<Opening>, GameFault<'a>>
+    ) -> Result<FollowedLine, GameFault<'a>>
         ensures { MatchResult result
-            (HasOpening self.now game.now)
+            (λ line. HasOpening self.now game.now line.opening
+            × HasPlies (tag_in fen_tag game.now.tags) game.now.elements line.plies)
             (λ fault.
             IfSome (fault_of fault)
             (IsFault Main (tag_in fen_tag game.now.tags) game.now.elements)) }
@@ -241,7 +253,7 @@ impl Openings {
     }
 
     /// The game as it counts: with the tags of its opening, or as it stands where it has none; and
-    /// whether its main line is sound.
+    /// the number of plies of its main line where that is sound.
     pub fn classified<'a>(
         &'a self,
         alloc: Global,
@@ -249,17 +261,22 @@ impl Openings {
     ) -> Result<Classified<'a>, AllocError>
         ensures counts { IfOk result (λ classified.
             IsClassified self.now game.entry classified.game) }
-        ensures sound { IfOk result (λ classified. IsTrue classified.sound
-            → IsSoundGame Main (tag_in fen_tag game.entry.tags) game.entry.elements) }
+        ensures plies { IfOk result (λ classified. IfSome classified.plies
+            (HasPlies (tag_in fen_tag game.entry.tags) game.entry.elements)) }
     {
-        let (game, sound) = match self.opening_of(alloc, &game) {
-            Ok(Some(opening)) => (self.named(game, opening.line)?, true),
-            Ok(None) => (game, true),
-            Err(GameFault::OutOfMemory) => return Err(AllocError),
-            Err(GameFault::BadPosition) => (game, false),
-            Err(GameFault::Illegal { .. }) => (game, false),
-            Err(GameFault::Ambiguous { .. }) => (game, false),
-        };
-        Ok(Classified { game, sound })
+        match self.opening_of(alloc, &game) {
+            Ok(line) => {
+                let plies = Some(line.plies);
+                let game = match line.opening {
+                    Some(opening) => self.named(game, opening.line)?,
+                    None => game,
+                };
+                Ok(Classified { game, plies })
+            }
+            Err(GameFault::OutOfMemory) => Err(AllocError),
+            Err(GameFault::BadPosition) => Ok(Classified { game, plies: None }),
+            Err(GameFault::Illegal { .. }) => Ok(Classified { game, plies: None }),
+            Err(GameFault::Ambiguous { .. }) => Ok(Classified { game, plies: None }),
+        }
     }
 }

@@ -3,7 +3,8 @@ use Rattle.std.proofs.lemmas.Option.{slice_get_within}
 use Rattle.pgn_game.proofs.Common.{◌≡◌, ℕ, ◌+◌, List, [], ◌∷◌, ◌++◌, length, Option, Some, None}
 use Rattle.std.specs.Prelude.{is_some, true, false}
 use Rattle.pgn_game.proofs.Common.{refl, sym, ap, ◌∙◌, subst, length-append, State, Move, Item}
-use Rattle.pgn_game.proofs.Common.{MainWalk, HasWalked, HasStepped}
+use Rattle.pgn_game.proofs.Common.{MainWalk, HasWalked, HasStepped, IsMainLine, arith}
+use Rattle.pgn_game.proofs.OneReplay.{line_length}
 use Rattle.pgn_game.specs.Public.Openings.{IsOpeningIn}
 use Rattle.pgn_game.specs.declared.openings.Opening.{Opening}
 use Rattle.pgn_game.specs.Private.Walks.{HasPlayed, HasPassed}
@@ -66,3 +67,11 @@ followed_step ends found next (Some m) there played move other =
 -- no line ends before the first position
 pub none_at_first : (ends : List State) → IsOpeningIn ends [] None
 none_at_first ends = λ ply line there. cc
+
+-- a line has as many moves as it has positions before the last
+pub plies_walked : (start : State) (words : List (List ℕ)) (before : List State) (P : State)
+    (played : List Move) (plies : ℕ) → length before ≡ plies
+    → IsMainLine start words (before ++ P ∷ []) played → length played ≡ plies
+plies_walked start words before P played plies count line =
+    let size = line_length start words (before ++ P ∷ []) played line in
+    let whole = length-append before (P ∷ []) in omega (arith, size, whole, count)

@@ -44,7 +44,8 @@ abbrev pub HaveContents : List NamedLine → Type 0
 HaveContents lines = (place : ℕ) (line : NamedLine) → slice_get lines place ≡ Some line
     → HasContents line
 
--- the words are a main line from the start, which has the opening or none
-abbrev pub HasOpeningFrom : List State → State → List (List ℕ) → Option Opening → Type 0
-HasOpeningFrom ends start words found = (positions : List State) × (played : List Move)
+-- the words are a main line from the start, which has the opening or none, and so many plies
+abbrev pub HasOpeningFrom : List State → State → List (List ℕ) → Option Opening → ℕ → Type 0
+HasOpeningFrom ends start words found plies = (positions : List State) × (played : List Move)
     × IsMainLine start words positions played × IsOpeningIn ends positions found
+    × (length played ≡ plies)

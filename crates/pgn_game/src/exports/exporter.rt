@@ -188,18 +188,6 @@ pub fn export_followed<'a>(
     put_parts_or_leave(&own, &followed.movetext, style, out)
 }
 
-/// What stands in the way where no line is faulty: memory is refused.
-fn refused(fault: GameFault<'_>) -> AllocError
-    requires { fault_of fault ≡ None }
-{
-    match fault {
-        GameFault::OutOfMemory => AllocError,
-        GameFault::BadPosition => unreachable!(),
-        GameFault::Illegal { .. } => unreachable!(),
-        GameFault::Ambiguous { .. } => unreachable!(),
-    }
-}
-
 /// Appends the export of the game in the style: its tags, one a line, an empty line, its movetext
 /// in lines, and an empty line. The replay is one of the game, and of all its lines where the style
 /// keeps variations. Where memory is refused, nothing is appended.
@@ -217,6 +205,6 @@ pub fn export<'a>(
 {
     match put_or_leave(alloc, game, replayed.position(0), style, out) {
         Ok(()) => Ok(()),
-        Err(fault) => Err(refused(fault)),
+        Err(fault) => Err(fault.refused()),
     }
 }

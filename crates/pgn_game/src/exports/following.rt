@@ -90,7 +90,8 @@ pub(crate) fn follow_movetext<'a>(
         IfSome (fault_of fault)
         (HasLineFault (lines_with style.now.variations) start.now game.now.elements)) }
 {
-    let writer = MovetextWriter::new(Vec::new(alloc), style);
+    let room = Vec::with_capacity(alloc, game.text().len())?;
+    let writer = MovetextWriter::new(room, style);
     let mut follower = Follower::new(writer, openings, start);
     walk_lines(alloc, game, start, style.variations, &mut follower)?;
     let Follower { inner, place, .. } = follower;

@@ -1,5 +1,6 @@
 //! Why a game can't be replayed.
-ghost use Rattle.std.specs.Prelude.{◌≡◌};
+ghost use Rattle.std.specs.Prelude.{◌≡◌, None};
+ghost use Rattle.pgn_game.specs.Public.Replays.{fault_of};
 ghost use Rattle.pgn_game.specs.declared.turns.fault.GameFault.TheVariants.{OutOfMemory};
 
 use std::alloc::AllocError;
@@ -32,5 +33,19 @@ impl<'a> From<AllocError> for GameFault<'a> {
 
     fn from(_: AllocError) -> Self {
         GameFault::OutOfMemory
+    }
+}
+
+impl GameFault<'_> {
+    /// What stands in the way where no line is faulty: memory is refused.
+    pub fn refused(self) -> AllocError
+        requires { fault_of self ≡ None }
+    {
+        match self {
+            GameFault::OutOfMemory => AllocError,
+            GameFault::BadPosition => unreachable!(),
+            GameFault::Illegal { .. } => unreachable!(),
+            GameFault::Ambiguous { .. } => unreachable!(),
+        }
     }
 }

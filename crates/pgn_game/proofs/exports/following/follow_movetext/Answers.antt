@@ -17,7 +17,7 @@ returns-clause-text c =
     let (movetext, is, all) =
     written_movetext c.args.style.now c.args.start.now c.args.game.now steps []
     c.put_last.new.out.items first.inner last.inner
-    (rw c.new-follower.ensures.inner (rw c.new.ensures.items at c.new-writer.ensures))
+    (rw c.new-follower.ensures.inner (rw c.in_ok-room.ensures.items at c.new-writer.ensures))
     c.walk_lines.ensures.paired walks went.inner
     (rw c.result.ensures at c.in_ok-put_last.ensures.text) in
     rw all is

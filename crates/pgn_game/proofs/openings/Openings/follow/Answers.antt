@@ -4,6 +4,7 @@ use Rattle.pgn_game.proofs.Common.{err_from_is_err_and, State}
 use Rattle.pgn_game.specs.Public.Openings.{ends_of}
 use Rattle.pgn_game.proofs.WalkFacts.{walk_begins, stuck_at, walk_ends, items_step, items_end}
 use Rattle.pgn_game.proofs.openings.Following.{HasFollowed, none_at_first, followed_step}
+use Rattle.pgn_game.proofs.openings.Following.{plies_walked}
 use Rattle.pgn_game.proofs.openings.Openings.follow.Goals.{then-is_some, else-is_some}
 use Rattle.pgn_game.proofs.openings.Openings.follow.Goals as goal
 
@@ -52,7 +53,14 @@ returns c =
     c.loop-element.walk items c.loop-element.found)
     (items_end c.args.elements.now c.loop-element.element-index (omega arith))
     c.loop-element.invariant.followed in
-    (there.0 ++ c.loop-element.walk.position ∷ [], there.1, walk_ends there.2, there.4)
+    let line = walk_ends there.2 in (
+      there.0 ++ c.loop-element.walk.position ∷ [],
+      there.1,
+      line,
+      there.4,
+      plies_walked c.args.start words there.0 c.loop-element.walk.position there.1
+          c.loop-element.walk.plies there.3 line,
+    )
 
 pub returns-in_err-step : goal.returns-in_err-step
 returns-in_err-step c =
