@@ -12,3 +12,4 @@ pub mod PlainTexts
 pub mod PlainCells
 pub mod UciTexts
 pub mod LineMaking
+pub mod Finders

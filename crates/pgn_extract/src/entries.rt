@@ -1,14 +1,15 @@
 //! The entries of a game, found while its main line is played, or once it is kept.
-ghost use Rattle.std.specs.Prelude.{◌≡◌, ◌≤◌, ◌↔◌, ℕ, IsTrue, MatchResult, IfSome};
+ghost use Rattle.std.specs.Prelude.{◌≡◌, ◌≤◌, ◌↔◌, ℕ, true, IsTrue, MatchResult, IfOk, IfSome};
 ghost use Rattle.pgn_text.specs.Public.GameTexts.{tag_in};
 ghost use Rattle.pgn_game.specs.Public.Faults.{IsFault};
-ghost use Rattle.pgn_game.specs.Public.Replays.{fault_of};
+ghost use Rattle.pgn_game.specs.Public.Replays.{IsSoundGame, fault_of};
 ghost use Rattle.pgn_game.specs.Public.Starts.{fen_tag};
 ghost use Rattle.pgn_game.specs.declared.replays.replayer.Lines.TheVariants.{Main};
 ghost use Rattle.pgn_criteria.specs.Public.Meeting.{heading_of};
 ghost use Rattle.pgn_extract.specs.Public.Aims.{HasNoChance, IsRuledOut, aim_of};
 ghost use Rattle.pgn_extract.specs.Private.Finding.{AddsEntries, StopsAtFault, IsChosen};
 ghost use Rattle.pgn_extract.specs.Private.Finding.{ListsNone};
+ghost use Rattle.pgn_extract.specs.Private.Lines.{IsFinderOf};
 
 pub(crate) mod annotations;
 mod fields;
@@ -35,7 +36,7 @@ use crate::settings::{Fields, Mode, Select, Settings};
 use pgn_criteria::Criteria;
 use pgn_game::{GameFault, count_plies};
 use pgn_text::RawGame;
-use std::alloc::Global;
+use std::alloc::{AllocError, Global};
 
 /// What is asked of a game, and which one it is.
 #[derive(Clone, Copy)]
@@ -48,18 +49,14 @@ pub struct GameContext<'a> {
     pub own: GameId,
 }
 
-/// Adds the lines of the entries of a game, or answers its fault. Each position is asked as it is
-/// reached, and none is kept, unless the criteria speak of the moves at each ply or a row shows
-/// something of the whole main line.
-pub fn push_entries<'a>(
-    text: &mut Vec<u8>,
+/// What is looked for in a game, of which it is known whether its main line is sound, or it is not.
+fn finder_of<'a>(
     context: GameContext<'a>,
     game: &RawGame<'a>,
-) -> Result<(), GameFault<'a>>
-    ensures { MatchResult result
-        (λ _. AddsEntries (aim_of context.entry.settings.now) context.entry.own game.now
-        text.old.items text.new.items)
-        (λ fault. IfSome (fault_of fault) (StopsAtFault game.now text.old.items text.new.items)) }
+    is_sound: bool,
+) -> Result<Finder<'a>, AllocError>
+    ensures { IfOk result
+        (IsFinderOf context.entry.settings.now context.entry.own game.now is_sound) }
 {
     let GameContext {
         alloc,
@@ -68,12 +65,37 @@ pub fn push_entries<'a>(
     } = context;
     let mut mark = Vec::with_capacity(alloc, MARK_ROOM)?;
     push_named_mark(&mut mark, &settings.name, own)?;
-    let finder = Finder {
+    Ok(Finder {
         settings,
         first: settings.first,
         lines: LineMaker::of_game(alloc, &settings.line, RowGame::in_text(context, game))?,
         mark,
-    };
+        is_sound,
+    })
+}
+
+/// Adds the lines of the entries of a game, or answers its fault. Each position is asked as it is
+/// reached, and none is kept, unless the criteria speak of the moves at each ply or a row shows
+/// something of the whole main line. Where that is known to be sound, it is not played to its end
+/// once no more is looked for.
+pub fn push_entries<'a>(
+    text: &mut Vec<u8>,
+    context: GameContext<'a>,
+    game: &RawGame<'a>,
+    is_sound: bool,
+) -> Result<(), GameFault<'a>>
+    requires { is_sound ≡ true → IsSoundGame Main (tag_in fen_tag game.now.tags) game.now.elements }
+    ensures { MatchResult result
+        (λ _. AddsEntries (aim_of context.entry.settings.now) context.entry.own game.now
+        text.old.items text.new.items)
+        (λ fault. IfSome (fault_of fault) (StopsAtFault game.now text.old.items text.new.items)) }
+{
+    let GameContext {
+        alloc,
+        settings,
+        ..
+    } = context;
+    let finder = finder_of(context, game, is_sound)?;
     if finder.lines.needs_line() {
         return find_kept(&finder, alloc, game, text);
     }
@@ -109,7 +131,7 @@ fn has_no_chance<'a>(criteria: &'a Option<Criteria>, game: &RawGame<'a>) -> bool
 /// Whether the listing has no line of a game, whatever its moves are: its tags and its result keep
 /// it from having an entry.
 pub fn lists_none<'a>(settings: &'a Settings, game: &RawGame<'a>) -> bool
-    ensures { IsTrue result → ListsNone (aim_of settings.now) (heading_of game.now) }
+    ensures { IsTrue result ↔ ListsNone (aim_of settings.now) (heading_of game.now) }
 {
     settings.mode == Mode::List && has_no_chance(&settings.criteria, game)
 }
@@ -146,6 +168,7 @@ pub fn has_entry<'a>(
         first: true,
         lines: LineMaker::Fields(Fields::NONE),
         mark: Vec::new(alloc),
+        is_sound: false,
     };
     let mut found = false;
     find_played(&finder, alloc, game, question, &mut found)?;

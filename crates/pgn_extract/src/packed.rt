@@ -179,6 +179,7 @@ fn push_found<L: Line + Drop>(
         first: settings.first,
         lines,
         mark,
+        is_sound: true,
     };
     let mut line = start;
     finder.find(&mut line, text, true)

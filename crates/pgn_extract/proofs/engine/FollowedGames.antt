@@ -11,8 +11,9 @@ use Rattle.pgn_extract.specs.Public.Notes.{IsNote}
 use Rattle.pgn_game.specs.Public.Exports.{IsExport}
 use Rattle.pgn_game.specs.Public.Faults.{IsFault}
 use Rattle.pgn_game.specs.Public.Openings.{NamedLine, IsClassified, IsTaggedBy, tag_by}
-use Rattle.pgn_game.specs.Public.Replays.{IsReplay, IsSoundGame}
-use Rattle.pgn_extract.specs.Private.Blockwise.{AddsCounted, CountsAs, ExportsAll}
+use Rattle.pgn_game.specs.Public.Replays.{HasPlies, IsReplay, IsSoundGame}
+use Rattle.pgn_game.proofs.OneReplay.{no_fault}
+use Rattle.pgn_extract.specs.Private.Blockwise.{AddsCounted, AddsSearched, CountsAs, ExportsAll}
 use Rattle.pgn_extract.specs.declared.settings.Mode.TheVariants as modes
 use Rattle.pgn_extract.specs.declared.settings.Select.{Select}
 use Rattle.pgn_extract.proofs.GameExport.{own_export}
@@ -20,8 +21,9 @@ use Rattle.pgn_extract.proofs.SomeCounted.{some_classified}
 use Rattle.pgn_extract.proofs.TagsFirst.{no_met, none_chosen, played_verdict, ruled_out_or_not}
 use Rattle.pgn_extract.proofs.TagsFirst.{unplayed_verdict}
 use Rattle.pgn_extract.specs.Private.Finding.{ListsNone}
-use Rattle.pgn_extract.specs.Public.Listing.{IsShownOf}
-use Rattle.pgn_extract.proofs.Common.{Main, IsEntry, inl, inr, plies_of}
+use Rattle.pgn_extract.specs.Public.Listing.{IsShownOf, listing}
+use Rattle.pgn_extract.proofs.Common.{Main, IsEntry, inl, inr, plies_of, AddsEntries, ◌++◌, IfSome}
+use Rattle.pgn_extract.proofs.Common.{StopsAtFault}
 use Rattle.pgn_extract.proofs.engine.AllTaken.{all_written}
 
 -- a line of openings names no start
@@ -105,38 +107,65 @@ module _ (aim : Aim) (all : ExportsAll aim) (lines : List NamedLine)
       ) adds
 
 -- a sound game of which the listing has no line is reported by none
-pub listed_none : (aim : Aim) (id : GameId) {old new : Report} (lines : List NamedLine)
-    (game other : GameText) → aim.openings ≡ Some lines → IsGameText other
-    → IsClassified lines game other
-    → IsSoundGame Main (tag_in fen_tag game.tags) game.elements → ListsNone aim (heading_of other)
-    → AddsVerdict old new (SoundGame []) 0 → AddsCounted aim.mode aim old new id game
-listed_none aim id lines game other are good is (replay, sound) none adds =
-    let heading = heading_of other in
-    let played = of_counted (λ fen items. IsReplay Main fen items replay) lines game other is
-    sound in
+pub listed_none : (aim : Aim) (id : GameId) {old new : Report} (game : GameText) (replay : Replay)
+    → IsReplay Main (tag_in fen_tag game.tags) game.elements replay
+    → ListsNone aim (heading_of game) → AddsVerdict old new (SoundGame []) 0
+    → AddsSearched aim.mode aim old new id game
+listed_none aim id game replay is none adds =
+    let heading = heading_of game in
     let fails : (ply : ℕ) → IsEntry aim heading replay ply → ⊥ =
     λ ply entry. no_met aim.criteria heading replay ply none.no_chance entry.0.2 in
-    let replayed : IsReplayed modes.List aim id (by_itself other) (SoundGame []) = (
+    let replayed : IsReplayed modes.List aim id (by_itself game) (SoundGame []) = (
       replay,
-      played,
+      is,
       (
         [],
         none_chosen id (IsEntry aim heading replay)
-            (IsShownOf aim id (by_itself other) replay) fails (plies_of 0 replay.positions),
+            (IsShownOf aim id (by_itself game) replay) fails (plies_of 0 replay.positions),
         refl,
       ),
     ) in (
-      other,
-      subst (λ (o : Option (List NamedLine)). CountsAs o game other) (sym are) (good, is),
-      (
-        SoundGame [],
-        elim (ruled_out_or_not aim heading) [
-          | inl out ↦ unplayed_verdict aim.mode aim id (by_itself other) out
-          | inr not_out ↦ played_verdict aim.tags_first aim.mode aim id (by_itself other)
-              (SoundGame []) not_out
-              (subst (λ (m : Mode). IsReplayed m aim id (by_itself other) (SoundGame []))
-              (sym none.mode) replayed)
-        ],
-        adds,
-      ),
+      SoundGame [],
+      elim (ruled_out_or_not aim heading) [
+        | inl out ↦ unplayed_verdict aim.mode aim id (by_itself game) out
+        | inr not_out ↦ played_verdict aim.tags_first aim.mode aim id (by_itself game)
+            (SoundGame []) not_out
+            (subst (λ (m : Mode). IsReplayed m aim id (by_itself game) (SoundGame []))
+            (sym none.mode) replayed)
+      ],
+      adds,
     )
+
+-- one of which it may have some by the lines of its entries
+pub listed_kept : (aim : Aim) (id : GameId) {old new : Report} (game : GameText)
+    → aim.mode ≡ modes.List → (ListsNone aim (heading_of game) → ⊥)
+    → AddsEntries aim id game old.output.items new.output.items
+    → ((text : List ℕ) → new.output.items ≡ old.output.items ++ text
+    → AddsVerdict old new (SoundGame text) 0)
+    → AddsSearched aim.mode aim old new id game
+listed_kept aim id game mode some (replay, is, entries, listed, added) adds =
+    let text = listing aim.name entries in
+    let replayed : IsReplayed modes.List aim id (by_itself game) (SoundGame text) =
+    (replay, is, (entries, listed, refl)) in (
+      SoundGame text,
+      played_verdict aim.tags_first aim.mode aim id (by_itself game) (SoundGame text)
+          (λ out. some (record { mode = mode; no_chance = out.no_chance }))
+          (subst (λ (m : Mode). IsReplayed m aim id (by_itself game) (SoundGame text)) (sym mode)
+          replayed),
+      adds text added,
+    )
+
+-- the game as it counts has the plies of the game
+pub plies_counted : (lines : List NamedLine) (game other : GameText) (plies : ℕ)
+    → IsClassified lines game other → HasPlies (tag_in fen_tag game.tags) game.elements plies
+    → HasPlies (tag_in fen_tag other.tags) other.elements plies
+plies_counted lines game other plies counts has =
+    of_counted (λ fen items. HasPlies fen items plies) lines game other counts has
+
+-- a sound game has no fault
+pub none_of_sound : (game : GameText) (plies : ℕ) (old new : List ℕ) (fault : Option Fault)
+    → HasPlies (tag_in fen_tag game.tags) game.elements plies
+    → IfSome fault (StopsAtFault game old new) → fault ≡ None
+none_of_sound game plies old new None has none = refl
+none_of_sound game plies old new (Some fault) (replay, is, count) (met, more, added) =
+    absurd (no_fault Main (tag_in fen_tag game.tags) game.elements fault (replay, is) met)

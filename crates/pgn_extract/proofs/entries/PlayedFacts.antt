@@ -8,11 +8,11 @@ use Rattle.pgn_extract.proofs.Common.{IsReplay, fen_tag, Main, heading_of, SomeH
 use Rattle.pgn_extract.proofs.Common.{Aim, AsksFor, Stands, GoesTo}
 use Rattle.pgn_extract.proofs.Common.{NoneAfter, Where, HasFault, IsNeverMet, Fails}
 use Rattle.pgn_extract.proofs.Common.{aim_with, IsNextMove}
-use Rattle.pgn_extract.proofs.Common.{slice_get, MatchOption, after, IsSan, one_start}
+use Rattle.pgn_extract.proofs.Common.{slice_get, MatchOption, after, IsSan, one_start, false≢true}
 use Rattle.pgn_game.specs.Public.Faults.{Fault, IsMoveFault, IsFault}
 use Rattle.pgn_game.specs.Public.PlayedLines.{PlayedLine, PlaysWord, HasEnded, HasAdvanced, IsBegun}
 use Rattle.pgn_game.specs.Public.PlayedLines.{IsNextText}
-use Rattle.pgn_game.specs.Public.Replays.{IsSomeReplay}
+use Rattle.pgn_game.specs.Public.Replays.{IsSomeReplay, IsSoundGame}
 use Rattle.pgn_extract.specs.Private.Finding.{IsPlayedTo, StopsInLine, GoesOnWith}
 use Rattle.pgn_extract.specs.declared.entries.finding.Finder.{Finder}
 use Rattle.pgn_extract.specs.Private.PlayedLines.{IsPlayedWith}
@@ -186,12 +186,14 @@ stands_there game line before played to replay own =
     (rest, left.3 ∙ ap (λ ps. before ++ ps) begins)
 
 -- at its start
-pub begins_with : (game : GameText) (line : PlayedLine) (asked : List Conditions)
-    (aim : Aim) → IsBegun (tag_in fen_tag game.tags) game.elements line → AsksFor aim game asked
-    → IsPlayedWith line asked aim game [] line.position
-begins_with game line asked aim begun asks =
+pub begins_with : (known : Bool) (game : GameText) (line : PlayedLine) (asked : List Conditions)
+    (aim : Aim) → (known ≡ true → IsSoundGame Main (tag_in fen_tag game.tags) game.elements)
+    → IsBegun (tag_in fen_tag game.tags) game.elements line → AsksFor aim game asked
+    → IsPlayedWith known line asked aim game [] line.position
+begins_with known game line asked aim sound begun asks =
     let to = played_none begun in
     record {
+      sound = sound;
       asks = asks;
       here = refl;
       played = [];
@@ -206,10 +208,10 @@ pub fails_there : (game : GameText) (line : PlayedLine) (before : List State) (p
     → IsFault Main (tag_in fen_tag game.tags) game.elements fault
 fails_there game line before played to fault met = inr (to.start, to.is_start, to.faults fault met)
 
-module _ (asked : List Conditions) (old new : PlayedLine) (on : Bool) (aim : Aim)
+module _ (known : Bool) (asked : List Conditions) (old new : PlayedLine) (on : Bool) (aim : Aim)
     (game : GameText) (before : List State) where
   abbrev With : PlayedLine → Aim → GameText → List State → State → Type 0
-  With line other some passed P = IsPlayedWith line asked other some passed P
+  With line other some passed P = IsPlayedWith known line asked other some passed P
 
   -- after one more move
   pub plays_on : PlaysWord old new → (P : State) → With old aim game before P
@@ -221,6 +223,7 @@ module _ (asked : List Conditions) (old new : PlayedLine) (on : Bool) (aim : Aim
         [],
         new.position,
         subst (λ ps. With new aim game ps new.position) here (record {
+          sound = at.sound;
           asks = at.asks;
           here = refl;
           played = at.played ++ word.m ∷ [];
@@ -251,35 +254,35 @@ module _ (asked : List Conditions) (old new : PlayedLine) (on : Bool) (aim : Aim
           absurd (omega (arith, size, low, within))
 
 -- what a column shows where the line stands is what it shows of its ply
-abbrev pub ShowsThere : PlayedLine → List Conditions → PlyColumn → List ℕ → Type 0
-ShowsThere line asked column value =
-    Where (λ aim game before P. IsPlayedWith line asked aim game before P)
+abbrev pub ShowsThere : Bool → PlayedLine → List Conditions → PlyColumn → List ℕ → Type 0
+ShowsThere known line asked column value =
+    Where (λ aim game before P. IsPlayedWith known line asked aim game before P)
     (ShowsValue column value)
 
-pub shows_ply : (line : PlayedLine) (asked : List Conditions) (value : List ℕ)
-    → value ≡ decimal line.plies → ShowsThere line asked Ply value
+pub shows_ply : {known : Bool} (line : PlayedLine) (asked : List Conditions) (value : List ℕ)
+    → value ≡ decimal line.plies → ShowsThere known line asked Ply value
 shows_ply line asked value is aim game before P at rows replay own rest parts =
     is ∙ ap decimal (sym at.to.count)
 
-pub shows_position : (line : PlayedLine) (asked : List Conditions) (own : PositionColumn)
+pub shows_position : {known : Bool} (line : PlayedLine) (asked : List Conditions) (own : PositionColumn)
     (value : List ℕ) → IsPositionCell own line.position value
-    → ShowsThere line asked (OfPosition own) value
+    → ShowsThere known line asked (OfPosition own) value
 shows_position line asked own value is aim game before P at rows replay of rest parts = (
   P,
   ap (λ ps. slice_get ps (length before)) parts ∙ at_seam before P rest,
   subst (λ Q. IsPositionCell own Q value) (sym at.here) is,
 )
 
-pub shows_next : (line : PlayedLine) (asked : List Conditions) (value : List ℕ)
-    → IsNextValue line value → ShowsThere line asked Next value
+pub shows_next : {known : Bool} (line : PlayedLine) (asked : List Conditions) (value : List ℕ)
+    → IsNextValue line value → ShowsThere known line asked Next value
 shows_next line asked value (text, is, left) aim game before P at rows replay own rest parts =
     move_value replay (length before) text value
     (next_text_there at.to replay own text is) left
 
 -- so is the fault of its next move, where something is added already
-pub fails_at : (line : PlayedLine) (asked : List Conditions) (old some mid new : List ℕ)
+pub fails_at : {known : Bool} (line : PlayedLine) (asked : List Conditions) (old some mid new : List ℕ)
     → mid ≡ old ++ some → (fault : Fault) → StopsInLine line mid new fault
-    → Where (λ aim game before P. IsPlayedWith line asked aim game before P) (HasFault fault)
+    → Where (λ aim game before P. IsPlayedWith known line asked aim game before P) (HasFault fault)
     × (more : List ℕ) × (new ≡ old ++ more)
 fails_at line asked old some mid new added fault (met, more, is) = (
   λ aim game before P at. fails_there game line before at.played at.to fault met,
@@ -288,24 +291,32 @@ fails_at line asked old some mid new added fault (met, more, is) = (
 )
 
 -- the line that went on, or has ended
-pub moves_on : (asked : List Conditions) (old new : PlayedLine) (on more : Bool)
+pub moves_on : {known : Bool} (asked : List Conditions) (old new : PlayedLine) (on more : Bool)
     → HasAdvanced old new more
-    → Where (λ aim game before P. IsPlayedWith old asked aim game before P)
-    (GoesTo (λ aim game before P. IsPlayedWith new asked aim game before P) on more)
-moves_on asked old new on true word aim game before P at =
-    plays_on asked old new on aim game before word P at
-moves_on asked old new on false ended aim game before P at =
-    ends_there asked old new on aim game before ended P at
+    → Where (λ aim game before P. IsPlayedWith known old asked aim game before P)
+    (GoesTo (λ aim game before P. IsPlayedWith known new asked aim game before P) on more)
+moves_on {known} asked old new on true word aim game before P at =
+    plays_on known asked old new on aim game before word P at
+moves_on {known} asked old new on false ended aim game before P at =
+    ends_there known asked old new on aim game before ended P at
 
-pub fails_moved : (line : PlayedLine) (asked : List Conditions) (fault : Fault)
+-- a line that is known to be sound, once no more is looked for
+pub ends_known : {known : Bool} (asked : List Conditions) (line : PlayedLine) (on : Bool)
+    → known ≡ true → on ≡ false
+    → Where (λ aim game before P. IsPlayedWith known line asked aim game before P)
+    (GoesTo (λ aim game before P. IsPlayedWith known line asked aim game before P) on false)
+ends_known asked line on is off aim game before P at =
+    (at.sound is, λ is_on. absurd (false≢true (sym off ∙ is_on)))
+
+pub fails_moved : {known : Bool} (line : PlayedLine) (asked : List Conditions) (fault : Fault)
     → IsMoveFault line.position line.plies line.words fault
-    → Where (λ aim game before P. IsPlayedWith line asked aim game before P) (HasFault fault)
+    → Where (λ aim game before P. IsPlayedWith known line asked aim game before P) (HasFault fault)
 fails_moved line asked fault met aim game before P at =
     fails_there game line before at.played at.to fault met
 
 -- where nothing is asked nothing is met
-pub never_met : (line : PlayedLine) (asked : List Conditions) → length asked ≡ 0
-    → Where (λ aim game before P. IsPlayedWith line asked aim game before P) IsNeverMet
+pub never_met : {known : Bool} (line : PlayedLine) (asked : List Conditions) → length asked ≡ 0
+    → Where (λ aim game before P. IsPlayedWith known line asked aim game before P) IsNeverMet
 never_met line asked none aim game before P at replay own rest is n low within met =
     let meets = (at.asks replay own n within).1 met in no_hold _ _ asked none meets.hold
   where
@@ -315,10 +326,10 @@ never_met line asked none aim game before P at replay own rest is n low within m
     no_hold P m (first ∷ more) empty hold = absurd (omega arith)
 
 -- a fault from the start on is that of the game
-pub fails_at_start : (finder : Finder) (game : GameText) (line : PlayedLine)
-    (asked : List Conditions) → IsPlayedWith line asked (aim_with finder None) game [] line.position
+pub fails_at_start : {known : Bool} (finder : Finder) (game : GameText) (line : PlayedLine)
+    (asked : List Conditions) → IsPlayedWith known line asked (aim_with finder None) game [] line.position
     → (Grew : Type 0) (fault : Fault)
-    → Fails (λ aim own before P. IsPlayedWith line asked aim own before P) finder fault × Grew
+    → Fails (λ aim own before P. IsPlayedWith known line asked aim own before P) finder fault × Grew
     → IsFault Main (tag_in fen_tag game.tags) game.elements fault × Grew
 fails_at_start finder game line asked at Grew fault (fails, grew) =
     (fails None game line.position at, grew)

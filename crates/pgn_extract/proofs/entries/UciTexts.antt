@@ -1,5 +1,5 @@
 -- The next move as `--uci` writes it: on a line that is played, and on one that is kept.
-use Rattle.std.proofs.Common.{◌+◌, ◌-◌, take, drop}
+use Rattle.std.proofs.Common.{◌+◌, ◌-◌, take, drop, Bool}
 use Rattle.std.specs.Prelude.{◌≢◌, ◌↔◌, codes, Result, Err, IsErrOf}
 use Rattle.std.proofs.Math.Seq.{drop-append_seam}
 use Rattle.std.proofs.lemmas.List.{take_all, take_at, length-append}
@@ -105,8 +105,8 @@ first_left P (word ∷ words) later more value (m, rest, others, later_is, more_
     is ∙ ap uci_text (one_move P word own m also named)
     ∙ ap (λ (ms : List Move). uci_cell (slice_get ms 0)) (sym more_is)
 
-pub shows_next_uci : (line : PlayedLine) (asked : List Conditions) (value : List ℕ)
-    → IsNextUci line.position line.words value → ShowsThere line asked NextUci value
+pub shows_next_uci : {known : Bool} (line : PlayedLine) (asked : List Conditions) (value : List ℕ)
+    → IsNextUci line.position line.words value → ShowsThere known line asked NextUci value
 shows_next_uci line asked value is aim game before P at rows replay own rest parts =
     let left = left_of at.to replay own in
     let here : slice_get replay.played (length before) ≡ slice_get left.1 0 =

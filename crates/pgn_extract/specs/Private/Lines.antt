@@ -24,8 +24,9 @@ use Rattle.pgn_extract.specs.declared.rows.column.PositionColumn.TheVariants.{Fe
 use Rattle.pgn_extract.specs.declared.settings.EntryLine.{EntryLine}
 use Rattle.pgn_extract.specs.declared.settings.EntryLine.TheVariants.{Marked, InColumns}
 use Rattle.pgn_extract.specs.declared.settings.Fields.{Fields}
+use Rattle.pgn_extract.specs.declared.settings.Settings.{Settings}
 use Rattle.pgn_extract.specs.declared.entries.finding.Finder.{Finder}
-use Rattle.pgn_extract.specs.Private.Finding.{IsOfGame}
+use Rattle.pgn_extract.specs.Private.Finding.{IsOfGame, named_mark}
 use Rattle.pgn_extract.specs.Private.AnnotationLists.{lists_in}
 use Rattle.pgn_extract.specs.Private.RowTexts.{IsPartText, ArePartTexts, MakesRows, columns_of}
 use Rattle.pgn_extract.specs.Private.RowTexts.{EachColumn, need_line}
@@ -241,3 +242,13 @@ marked_lines mark (entry ∷ more) = marked_line mark entry ++ marked_lines mark
 abbrev pub or_some : Bool → List Entry → Bool
 or_some found [] = found
 or_some found (entry ∷ more) = true
+
+-- it looks for what is asked of the game, and makes the lines of it; that it is sound may be known
+pub record IsFinderOf (asked : Settings) (id : GameId) (game : GameText) (known : Bool)
+    (finder : Finder) : Type 0 where
+  pub settings : finder.settings.now ≡ asked
+  pub first : finder.first ≡ asked.first
+  pub line : asked.line ≡ made_line finder.lines
+  pub makes : MakesLines finder.lines asked.name id game
+  pub mark : finder.mark.items ≡ named_mark asked.name id
+  pub sound : finder.is_sound ≡ known

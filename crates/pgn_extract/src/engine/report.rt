@@ -18,7 +18,9 @@ ghost use Rattle.pgn_extract.specs.Public.Notes.{IsNote};
 ghost use Rattle.pgn_extract.specs.Public.Verdicts.{Verdict, FaultyGame, replayed_lines};
 ghost use Rattle.pgn_game.specs.declared.replays.replayer.Lines.TheVariants.{Main};
 ghost use Rattle.pgn_game.specs.Public.Faults.{Fault};
-ghost use Rattle.pgn_game.specs.Public.Replays.{fault_of};
+ghost use Rattle.pgn_game.specs.Public.Replays.{HasPlies, fault_of};
+ghost use Rattle.pgn_game.specs.Public.Starts.{fen_tag};
+ghost use Rattle.pgn_text.specs.Public.GameTexts.{tag_in};
 
 use crate::engine::exporting::{exports_all, push_faulty, put_selected, written_lines};
 use crate::entries::listing::push_plies;
@@ -185,7 +187,28 @@ fn push_listed<'a>(
     if context.settings.line.is_bare() && context.settings.criteria.is_none() {
         return push_counted(text, context, game);
     }
-    push_entries(text, context, game)
+    push_entries(text, context, game, false)
+}
+
+/// Appends the lines of the entries of a game that is sound, and whose main line has so many plies.
+fn push_of_sound<'a>(
+    text: &mut Vec<u8>,
+    context: GameContext<'a>,
+    game: &RawGame<'a>,
+    plies: usize,
+) -> Result<(), AllocError>
+    requires { HasPlies (tag_in fen_tag game.now.tags) game.now.elements plies }
+    ensures { OnOk result
+        (AddsEntries (aim_of context.entry.settings.now) context.entry.own game.now
+        text.old.items text.new.items) }
+{
+    if context.settings.line.is_bare() && context.settings.criteria.is_none() {
+        return push_plies(text, context, plies);
+    }
+    match push_entries(text, context, game, true) {
+        Ok(()) => Ok(()),
+        Err(fault) => Err(fault.refused()),
+    }
 }
 
 /// Appends what goes to the output of a sound game; or answers the first fault of the lines that
@@ -326,6 +349,27 @@ impl Report {
         }
     }
 
+    /// Adds the lines of the entries of a game that is sound, and whose main line has so many plies;
+    /// where its tags and its result keep it from having one, it is not searched.
+    fn add_listed<'a>(
+        &mut self,
+        context: GameContext<'a>,
+        game: &RawGame<'a>,
+        plies: usize,
+    ) -> Result<(), AllocError>
+        requires mode { context.settings.now.mode ≡ Mode.List }
+        requires sound { HasPlies (tag_in fen_tag game.now.tags) game.now.elements plies }
+        ensures { OnOk result
+            (AddsSearched context.entry.settings.now.mode (aim_of context.entry.settings.now)
+            self.old self.new
+            context.entry.own game.now) }
+    {
+        if lists_none(context.settings, game) {
+            return Ok(());
+        }
+        push_of_sound(&mut self.output, context, game, plies)
+    }
+
     /// Adds what is reported of a game as it counts: where lines of openings are given, with the
     /// tags of its opening.
     fn add_counted<'a>(
@@ -347,12 +391,14 @@ impl Report {
         if exports_all(context.settings) {
             return self.add_followed(context, game_place, game, openings);
         }
-        let Classified { game, sound } = openings.classified(context.alloc, game)?;
+        let Classified { game, plies } = openings.classified(context.alloc, game)?;
         game.invariant();
-        if sound && lists_none(context.settings, &game) {
-            return Ok(());
+        match plies {
+            Some(plies) if context.settings.mode == Mode::List => {
+                self.add_listed(context, &game, plies)
+            }
+            _ => self.add_searched(context, game_place, &game),
         }
-        self.add_searched(context, game_place, &game)
     }
 
     /// Adds what is reported of a game.

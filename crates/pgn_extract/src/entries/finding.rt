@@ -13,13 +13,15 @@ use crate::entries::sink::Sink;
 use crate::settings::Settings;
 
 /// What is looked for in a main line: plies within the bounds of settings that meet the criteria,
-/// or only the first of them; what is shown of each entry, and what its line begins with.
+/// or only the first of them; what is shown of each entry, and what its line begins with. The main
+/// line may be known to be sound.
 #[derive(Drop)]
 pub(crate) struct Finder<'s> {
     pub(crate) settings: &'s Settings,
     pub(crate) first: bool,
     pub(crate) lines: LineMaker<'s>,
     pub(crate) mark: Vec<u8>,
+    pub(crate) is_sound: bool,
 }
 
 impl<'s> Finder<'s> {

@@ -1,5 +1,6 @@
 //! A main line whose positions are asked while it is played.
-ghost use Rattle.std.specs.Prelude.{◌≡◌, ◌↔◌, ◌++◌, ℕ, List, false, Option, IsTrue, IfErr, IfSome};
+ghost use Rattle.std.specs.Prelude.{◌≡◌, ◌↔◌, ◌++◌, ℕ, List, true, false, Option, IsTrue, IfErr};
+ghost use Rattle.std.specs.Prelude.{IfSome};
 ghost use Rattle.std.specs.Prelude.{◌≤◌, OnOk, codes, length};
 ghost use Rattle.std.proofs.Common.{ap};
 ghost use Rattle.chess.specs.Public.San.{IsOnlyNamed};
@@ -12,7 +13,7 @@ ghost use Rattle.pgn_extract.specs.Public.Aims.{GameId, aim_of};
 ghost use Rattle.pgn_extract.specs.Private.Lines.{aim_with, HandsOn, MakesLines, keeps_line};
 ghost use Rattle.pgn_criteria.specs.Public.Meeting.{Heading, SomeHold};
 ghost use Rattle.pgn_criteria.specs.Public.Conditions.{Conditions};
-ghost use Rattle.pgn_game.specs.Public.Replays.{Replay, fault_of};
+ghost use Rattle.pgn_game.specs.Public.Replays.{IsSoundGame, Replay, fault_of};
 ghost use Rattle.pgn_extract.specs.Private.Finding.{AsksFor, StopsInLine};
 ghost use Rattle.pgn_extract.specs.Private.Finding.{IsDashLeftOut, IsNextValue, IsNextUci};
 ghost use Rattle.pgn_extract.specs.Private.RowTexts.{IsPlainValue, needs_line};
@@ -176,18 +177,19 @@ fn push_next_uci<'a>(text: &mut Vec<u8>, line: &MainLine<'_, 'a>) -> Result<(), 
     Ok(())
 }
 
-/// A main line while it is played.
+/// A main line while it is played, which may be known to be sound.
 #[derive(Drop)]
 pub(crate) struct Played<'g, 'a, Q: Question> {
     pub(crate) line: MainLine<'g, 'a>,
     pub(crate) question: Q,
+    pub(crate) is_sound: bool,
 }
 
 impl<'g, 'a, Q: Question> Line for Played<'g, 'a, Q> {
     type Fault = GameFault<'a>;
 
     ghost At = { λ own aim game before P.
-        IsPlayedWith own.line (Q.asked own.question) aim game before P };
+        IsPlayedWith own.is_sound own.line (Q.asked own.question) aim game before P };
 
     ghost Valid = { λ own. Unit {0} };
 
@@ -224,7 +226,10 @@ impl<'g, 'a, Q: Question> Line for Played<'g, 'a, Q> {
     }
 
     #[inline(always)]
-    fn advance(&mut self, _is_open: bool) -> Result<bool, GameFault<'a>> {
+    fn advance(&mut self, is_open: bool) -> Result<bool, GameFault<'a>> {
+        if self.is_sound && !is_open {
+            return Ok(false);
+        }
         self.line.advance()
     }
 
@@ -245,6 +250,8 @@ pub(crate) fn find_played<'a, Q: Question, S: Sink>(
     requires takes { S.Takes finder.now.lines }
     requires shows { keeps_line finder.now.lines ≡ false }
     requires asks { AsksFor (aim_of finder.now.settings.now) game.now (Q.asked question) }
+    requires sound { finder.now.is_sound ≡ true
+        → IsSoundGame Main (tag_in fen_tag game.now.tags) game.now.elements }
     ensures found { OnOk result ((name : Option (List ℕ)) (id : GameId)
         → MakesLines finder.now.lines name id game.now
         → HandsOn (aim_with finder.now name) id game.now
@@ -255,6 +262,10 @@ pub(crate) fn find_played<'a, Q: Question, S: Sink>(
 {
     let is_open = question.is_open();
     let line = MainLine::begin(alloc, game)?;
-    let mut line = Played { line, question };
+    let mut line = Played {
+        line,
+        question,
+        is_sound: finder.is_sound,
+    };
     finder.find(&mut line, sink, is_open)
 }

@@ -20,7 +20,8 @@ returns-clause-found g c =
     (λ found name id of.
     let aim = aim_with c.args.finder.now name in
     found name id c.args.game.now [] line.position
-    (begins_with c.args.game.now line asked aim c.in_ok-line.ensures c.requires.asks)
+    (begins_with c.args.finder.now.is_sound c.args.game.now line asked aim c.requires.sound
+    c.in_ok-line.ensures c.requires.asks)
     (none_yet aim c.args.game.now) of)
     c.find.ensures.found
 
@@ -34,4 +35,5 @@ returns-clause-fault g c =
     IfSome_then _ met
     (fails_at_start c.args.finder.now c.args.game.now line
     asked
-    (begins_with c.args.game.now line asked aim c.in_ok-line.ensures c.requires.asks) _))
+    (begins_with c.args.finder.now.is_sound c.args.game.now line asked aim c.requires.sound
+    c.in_ok-line.ensures c.requires.asks) _))

@@ -1,0 +1,21 @@
+use Rattle.std.proofs.Common.{◌++◌, ap, ◌∙◌, refl}
+use Rattle.pgn_extract.proofs.Common.{named_mark}
+use Rattle.pgn_extract.proofs.entries.LineMaking.{makes_named}
+use Rattle.pgn_extract.proofs.entries.finder_of.Goals as goal
+
+pub returns : goal.returns
+returns c =
+    let settings = c.args.context.settings.now in
+    let id = c.args.context.own in
+    let game = c.args.game.now in
+    let named = named_mark settings.name id in
+    record {
+      settings = refl;
+      first = refl;
+      line = c.in_ok-of_game.ensures.0;
+      makes = makes_named c.in_ok-of_game.field-0 c.in_text.result settings.name id game
+          c.in_text.ensures.name c.in_text.ensures.id
+          (c.in_ok-of_game.ensures.1 game c.in_text.ensures.source);
+      mark = c.in_ok-push_named_mark.ensures ∙ ap (λ t. t ++ named) c.in_ok-mark.ensures.items;
+      sound = refl;
+    }
