@@ -264,8 +264,8 @@ pub shows_ply : {known : Bool} (line : PlayedLine) (asked : List Conditions) (va
 shows_ply line asked value is aim game before P at rows replay own rest parts =
     is ∙ ap decimal (sym at.to.count)
 
-pub shows_position : {known : Bool} (line : PlayedLine) (asked : List Conditions) (own : PositionColumn)
-    (value : List ℕ) → IsPositionCell own line.position value
+pub shows_position : {known : Bool} (line : PlayedLine) (asked : List Conditions)
+    (own : PositionColumn) (value : List ℕ) → IsPositionCell own line.position value
     → ShowsThere known line asked (OfPosition own) value
 shows_position line asked own value is aim game before P at rows replay of rest parts = (
   P,
@@ -280,8 +280,9 @@ shows_next line asked value (text, is, left) aim game before P at rows replay ow
     (next_text_there at.to replay own text is) left
 
 -- so is the fault of its next move, where something is added already
-pub fails_at : {known : Bool} (line : PlayedLine) (asked : List Conditions) (old some mid new : List ℕ)
-    → mid ≡ old ++ some → (fault : Fault) → StopsInLine line mid new fault
+pub fails_at : {known : Bool} (line : PlayedLine) (asked : List Conditions)
+    (old some mid new : List ℕ) → mid ≡ old ++ some → (fault : Fault)
+    → StopsInLine line mid new fault
     → Where (λ aim game before P. IsPlayedWith known line asked aim game before P) (HasFault fault)
     × (more : List ℕ) × (new ≡ old ++ more)
 fails_at line asked old some mid new added fault (met, more, is) = (
@@ -327,7 +328,8 @@ never_met line asked none aim game before P at replay own rest is n low within m
 
 -- a fault from the start on is that of the game
 pub fails_at_start : {known : Bool} (finder : Finder) (game : GameText) (line : PlayedLine)
-    (asked : List Conditions) → IsPlayedWith known line asked (aim_with finder None) game [] line.position
+    (asked : List Conditions)
+    → IsPlayedWith known line asked (aim_with finder None) game [] line.position
     → (Grew : Type 0) (fault : Fault)
     → Fails (λ aim own before P. IsPlayedWith known line asked aim own before P) finder fault × Grew
     → IsFault Main (tag_in fen_tag game.tags) game.elements fault × Grew

@@ -349,8 +349,8 @@ impl Report {
         }
     }
 
-    /// Adds the lines of the entries of a game that is sound, and whose main line has so many plies;
-    /// where its tags and its result keep it from having one, it is not searched.
+    /// Adds the lines of the entries of a sound game, whose main line has so many plies. Where its
+    /// tags and its result keep it from having one, it is not searched.
     fn add_listed<'a>(
         &mut self,
         context: GameContext<'a>,

@@ -29,7 +29,8 @@ returns-in_default c =
     on_result c.find_played.result (AddsEntries (aim_of settings) id game old new) (λ fault.
     IfSome (fault_of fault) (StopsAtFault game old new))
     (on_ok_weaker c.find_played.result
-    (finder_adds settings id game c.args.is_sound finder.finder finder.ensures old new) c.find_played.ensures.found)
+    (finder_adds settings id game c.args.is_sound finder.finder finder.ensures old new)
+    c.find_played.ensures.found)
     (MatchResult-weaker c.find_played.result c.find_played.ensures.fault (λ done none. tt)
     (λ fault met. IfSome_then _ met (stops_of game old new)))
 
@@ -44,7 +45,8 @@ returns-then-needs_line c =
     on_result c.find_kept.result (AddsEntries (aim_of settings) id game old new) (λ fault.
     IfSome (fault_of fault) (StopsAtFault game old new))
     (on_ok_weaker c.find_kept.result
-    (finder_adds settings id game c.args.is_sound finder.finder finder.ensures old new) c.find_kept.ensures.found)
+    (finder_adds settings id game c.args.is_sound finder.finder finder.ensures old new)
+    c.find_kept.ensures.found)
     c.find_kept.ensures.fault
 
 pub returns-in_default-2 : goal.returns-in_default-2
@@ -55,10 +57,11 @@ returns-in_default-2 c =
     let finder = c.in_ok-finder in
     let old = c.args.text.now.items in
     let new = c.find_kept-in_default-2.new.text.items in
-    on_result c.find_kept-in_default-2.result (AddsEntries (aim_of settings) id game old new) (λ fault.
-    IfSome (fault_of fault) (StopsAtFault game old new))
+    on_result c.find_kept-in_default-2.result (AddsEntries (aim_of settings) id game old new)
+    (λ fault. IfSome (fault_of fault) (StopsAtFault game old new))
     (on_ok_weaker c.find_kept-in_default-2.result
-    (finder_adds settings id game c.args.is_sound finder.finder finder.ensures old new) c.find_kept-in_default-2.ensures.found)
+    (finder_adds settings id game c.args.is_sound finder.finder finder.ensures old new)
+    c.find_kept-in_default-2.ensures.found)
     c.find_kept-in_default-2.ensures.fault
 
 pub returns : goal.returns
@@ -72,6 +75,7 @@ returns c =
     on_result c.find_played-2.result (AddsEntries (aim_of settings) id game old new) (λ fault.
     IfSome (fault_of fault) (StopsAtFault game old new))
     (on_ok_weaker c.find_played-2.result
-    (finder_adds settings id game c.args.is_sound finder.finder finder.ensures old new) c.find_played-2.ensures.found)
+    (finder_adds settings id game c.args.is_sound finder.finder finder.ensures old new)
+    c.find_played-2.ensures.found)
     (MatchResult-weaker c.find_played-2.result c.find_played-2.ensures.fault (λ done none. tt)
     (λ fault met. IfSome_then _ met (stops_of game old new)))

@@ -15,6 +15,6 @@ returns c =
     let old = c.args.self.now in
     on_ok_weaker c.push_of_sound.result (λ adds.
     listed_kept (aim_of c.args.context.settings.now) c.args.context.own {old = old}
-    {new = record old { output = c.push_of_sound.new.text }} c.args.game.now c.requires.mode (λ none. let is = c.lists_none.ensures.1 none in
-    let off = c.if-lists_none.false in cc) adds (λ text added.
-    sound_added added refl refl refl)) c.push_of_sound.ensures
+    {new = record old { output = c.push_of_sound.new.text }} c.args.game.now c.requires.mode
+    (λ none. let is = c.lists_none.ensures.1 none in let off = c.if-lists_none.false in cc) adds
+    (λ text added. sound_added added refl refl refl)) c.push_of_sound.ensures
