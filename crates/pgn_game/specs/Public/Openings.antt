@@ -90,7 +90,8 @@ abbrev pub IsNamedBy : List NamedLine → GameText → NamedLine → Type 0
 IsNamedBy lines game line = (opening : Opening) × HasOpening lines game (Some opening)
     × (slice_get lines opening.line ≡ Some line) × HasContents line
 
--- that line; or none, where the main line comes to the end of none or is faulty
+-- that line; or none, where the main line is faulty or comes to the end of none, or to that of one
+-- which is not named by contents of strings, as each line of a file is
 abbrev pub IsOpeningLine : List NamedLine → GameText → Option NamedLine → Type 0
 IsOpeningLine lines game None = (line : NamedLine) → IsNamedBy lines game line → ⊥
 IsOpeningLine lines game (Some line) = IsNamedBy lines game line
