@@ -6,8 +6,9 @@ ghost use Rattle.pgn_criteria.specs.Public.Laws.{MemoryIsTheOnlyFault, EachPosit
 ghost use Rattle.pgn_criteria.specs.Public.Laws.{MirrorIsUndone, FlipIsUndone, SidesAreAlike};
 ghost use Rattle.pgn_criteria.specs.Public.Laws.{StepShowsNextPosition};
 
-/// A text spells at most one list of alternatives, and is either accepted, or too long, or refused
-/// for one of its lines. Memory runs out only where the text is neither too long nor bad.
+/// A text spells at most one list of alternatives. None is both accepted and refused, and none is
+/// refused for two reasons or lines. Memory runs out only where the text is neither too long nor
+/// bad.
 pub fn one_meaning()
     ensures meaning { TextHasOneMeaning }
     ensures answer { TextHasOneAnswer }

@@ -22,7 +22,7 @@ abbrev pub TextHasOneMeaning : Type 0
 TextHasOneMeaning = (text : List ℕ) (first second : List Conditions) → Accepts text first
     → Accepts text second → first ≡ second
 
--- a text is either accepted, or too long, or refused for one of its lines
+-- no text is both accepted and refused, and none is refused for two reasons or for two lines
 abbrev pub TextHasOneAnswer : Type 0
 TextHasOneAnswer =
     ((text : List ℕ) (alternatives : List Conditions) → Accepts text alternatives
