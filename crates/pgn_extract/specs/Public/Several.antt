@@ -170,7 +170,7 @@ pub record BeginsPath (order : Order) (path : List ℕ) (at : AtPath) (out err :
     pub outputs : AppendsFront out.old.bytes out.new.bytes output
     pub reports : AppendsFront err.old.bytes err.new.bytes report
 
--- a run over the file ended with the error, and left what it says
+-- a run over the file ended with the error, and left what it says where some of its bytes were read
 abbrev pub StopsInFile : RunError → Order → AtPath → Passage → Passage → Type 0
 StopsInFile error order (FileOf text) out err =
     (input : Passage)
