@@ -1,6 +1,6 @@
 -- Worked examples of rows: cells, strings and members as they are written, names and numbers.
 use Rattle.std.proofs.Common.{◌≡◌, ◌≤◌, ◌++◌, ℕ, List, [], ◌∷◌, true, false, inl, inr, refl}
-use Rattle.std.proofs.Common.{ap, arith, drop, length}
+use Rattle.std.proofs.Common.{ap, arith, drop, length, Bor}
 use Rattle.std.specs.Prelude.{bytes_eq, codes, decimal, Option, Some, None, ◌==◌}
 use Rattle.std.specs.List.{slice_get}
 use Rattle.chess.specs.Public.Fen.{IsFen}
@@ -15,7 +15,8 @@ use Rattle.pgn_text.specs.Public.Games.{Item, MoveText, GlyphNumber, CommentText
 use Rattle.pgn_text.specs.Public.Games.{VariationClose}
 use Rattle.pgn_extract.specs.Public.Annotations.{annotations_at, annotation_lists, IsCommandAt}
 use Rattle.pgn_extract.specs.Public.Annotations.{IsCommandValue, IsAnnotationCell, missing, stands}
-use Rattle.pgn_extract.specs.Public.Columns.{column_name, is_number_column}
+use Rattle.pgn_extract.specs.Public.Columns.{column_name, is_number_column, IsColumnFault}
+use Rattle.pgn_extract.specs.Public.Columns.{IsWrongAfter}
 use Rattle.pgn_extract.specs.Public.Csv as csv
 use Rattle.pgn_extract.specs.Public.GivenMarks.{game_id}
 use Rattle.pgn_extract.specs.Public.Json as json
@@ -34,6 +35,7 @@ use Rattle.pgn_extract.specs.declared.rows.column.PlyColumn.TheVariants.{Ply, Of
 use Rattle.pgn_extract.specs.declared.rows.column.PlyColumn.TheVariants.{NextUci, OfLine}
 use Rattle.pgn_extract.specs.declared.rows.column.PositionColumn.TheVariants.{Fen, Turn, Number}
 use Rattle.pgn_extract.specs.declared.rows.column.PositionColumn.TheVariants.{Men, Check, Material}
+use Rattle.pgn_extract.specs.declared.rows.list.ColumnsError.TheVariants as err
 use Rattle.pgn_extract.proofs.Common.{false≢true}
 use Rattle.pgn_extract.proofs.rows.CommandFacts.{command_closes, is_command_value}
 use Rattle.pgn_extract.proofs.rows.CommandFacts.{one_command_value}
@@ -241,3 +243,18 @@ no_clock_of_an_evaluation is =
 
 evaluation_shown : IsAnnotationCell Eval (CommentText (codes "[%eval #-3]") ∷ []) (codes "#-3")
 evaluation_shown = is_command_value (codes "[%eval ") (codes "[%eval #-3]")
+
+-- ---- names of columns
+
+-- a column of ours that is not there is not one without a name
+not_nameless : (word : Bor (List ℕ)) → IsColumnFault (codes "@fan") (err.NoName word) → ⊥
+not_nameless word (is, some, own, bad) = own (codes "fan", refl)
+
+-- nor is an empty name
+not_empty : (word : Bor (List ℕ)) → IsColumnFault [] (err.NoName word) → ⊥
+not_empty word (is, some, own, bad) = some refl
+
+-- after 64 names the next is one too many, whatever it is
+too_many_first : (before : List (List ℕ)) → length before ≡ 64
+    → IsWrongAfter before [] err.Empty → ⊥
+too_many_first before many (few, is) = absurd (omega (arith, many, few))

@@ -16,7 +16,8 @@ use Rattle.chess.proofs.FieldFacts.{parted_after, parted_by_run}
 use Rattle.chess.specs.Public.Fen.{parted_at}
 use Rattle.chess.specs.Shared.Runs.{run_of, after_run}
 use Rattle.pgn_extract.specs.Private.ColumnLists.{HasRead}
-use Rattle.pgn_extract.specs.Public.Columns.{IsRefusedList, IsWrongAfter}
+use Rattle.pgn_extract.specs.Public.Columns.{IsColumnFault, IsRefusedList, IsWrongAfter}
+use Rattle.pgn_extract.specs.declared.rows.list.ColumnsError.TheVariants as err
 use Rattle.pgn_extract.specs.Public.Columns.{column_name, IsColumnOf, AreDistinct, HaveNames}
 use Rattle.pgn_extract.specs.Public.Columns.{AreColumns, shows_annotations}
 use Rattle.pgn_extract.proofs.Common.{cases_Bool}
@@ -177,6 +178,16 @@ refused text rest name more columns fault read parts wrong = (
   },
   wrong,
 )
+
+-- what no column is called is wrong after fewer names than 64
+pub wrong_there : (before : List (List ℕ)) (name : List ℕ) (fault : ColumnsError)
+    → length before < 64 → IsColumnFault name fault → IsWrongAfter before name fault
+wrong_there before name err.Empty few is = (few, is)
+wrong_there before name (err.Unknown word) few is = (few, is)
+wrong_there before name (err.NoName word) few is = (few, is)
+wrong_there before name (err.Twice word) few is = absurd is
+wrong_there before name err.TooMany few is = absurd is
+wrong_there before name err.OutOfMemory few is = tt
 
 -- there is a next name
 pub some_name : (rest : List ℕ) → (name : List ℕ) × (more : List (List ℕ))

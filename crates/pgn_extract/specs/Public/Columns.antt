@@ -1,7 +1,6 @@
 -- The columns of a row by their names, and the list of names that is given.
-use Rattle.std.specs.Prelude.{◌≡◌, ◌≢◌, ◌≤◌, ℕ, Bool, true, false, List, [], ◌∷◌, ◌++◌, length}
-use Rattle.std.specs.Prelude.{codes}
-use Rattle.std.specs.Prelude.{IsTrue}
+use Rattle.std.specs.Prelude.{◌≡◌, ◌≢◌, ◌<◌, ◌≤◌, ℕ, Bool, true, false, List, [], ◌∷◌, ◌++◌}
+use Rattle.std.specs.Prelude.{length, codes, IsTrue}
 use Rattle.std.specs.List.{Contains, list_all}
 use Rattle.chess.specs.Public.Fen.{parted_at}
 use Rattle.pgn_game.specs.declared.exports.notation.Notation.TheVariants.{San, Uci}
@@ -126,13 +125,16 @@ IsNoOwnName name = ((own : GameColumn) → name ≡ game_column_name own → ⊥
     × ((own : PlyColumn) → name ≡ ply_column_name own → ⊥)
     × ((own : AnnotationColumn) → name ≡ annotation_column_name own → ⊥)
 
+-- it begins with the sign of a column of ours
+abbrev pub HasOwnSign : List ℕ → Type 0
+HasOwnSign name = (rest : List ℕ) × (name ≡ 64 ∷ rest)
+
 -- no column is called so, for this reason
 abbrev pub IsColumnFault : List ℕ → ColumnsError → Type 0
 IsColumnFault name err.Empty = name ≡ []
-IsColumnFault name (err.Unknown word) =
-    (word.now ≡ name) × ((rest : List ℕ) × (name ≡ 64 ∷ rest)) × IsNoOwnName name
+IsColumnFault name (err.Unknown word) = (word.now ≡ name) × HasOwnSign name × IsNoOwnName name
 IsColumnFault name (err.NoName word) =
-    (word.now ≡ name) × (IsTagName name → ⊥)
+    (word.now ≡ name) × (name ≢ []) × (HasOwnSign name → ⊥) × (IsTagName name → ⊥)
 IsColumnFault name (err.Twice word) = ⊥
 IsColumnFault name err.TooMany = ⊥
 IsColumnFault name err.OutOfMemory = Unit {0}
@@ -162,13 +164,17 @@ pub record RefusesAt (text : List ℕ) (before : List (List ℕ)) (columns : Lis
   pub named : HaveNames before columns
   pub distinct : AreDistinct before
 
--- this is wrong with a name after those before it
+-- this is wrong with a name after those before it, of which there are fewer than 64 but where they
+-- are too many
 abbrev pub IsWrongAfter : List (List ℕ) → List ℕ → ColumnsError → Type 0
-IsWrongAfter before name (err.Twice word) = (word.now ≡ name) × Contains before name
+IsWrongAfter before name (err.Twice word) =
+    (length before < 64) × (word.now ≡ name) × Contains before name
 IsWrongAfter before name err.TooMany = length before ≡ 64
-IsWrongAfter before name err.Empty = IsColumnFault name err.Empty
-IsWrongAfter before name (err.Unknown word) = IsColumnFault name (err.Unknown word)
-IsWrongAfter before name (err.NoName word) = IsColumnFault name (err.NoName word)
+IsWrongAfter before name err.Empty = (length before < 64) × IsColumnFault name err.Empty
+IsWrongAfter before name (err.Unknown word) =
+    (length before < 64) × IsColumnFault name (err.Unknown word)
+IsWrongAfter before name (err.NoName word) =
+    (length before < 64) × IsColumnFault name (err.NoName word)
 IsWrongAfter before name err.OutOfMemory = Unit {0}
 
 -- the text is refused, for the first of its names with which something is wrong

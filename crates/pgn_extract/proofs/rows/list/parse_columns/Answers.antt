@@ -3,7 +3,7 @@ use Rattle.std.specs.List.{list_any}
 use Rattle.pgn_extract.specs.declared.rows.list.ColumnsError.TheVariants as err
 use Rattle.chess.specs.Public.Fen.{parted_at}
 use Rattle.pgn_extract.proofs.rows.ColumnFacts.{some_name, as_many, refused, is_among, is_called}
-use Rattle.pgn_extract.proofs.rows.ColumnFacts.{first_name, reads_on, reads_last}
+use Rattle.pgn_extract.proofs.rows.ColumnFacts.{first_name, reads_on, reads_last, wrong_there}
 use Rattle.pgn_extract.proofs.rows.list.parse_columns.Goals as goal
 
 pub returns-then-len-eq-MOST_COLUMNS : goal.returns-then-len-eq-MOST_COLUMNS
@@ -13,6 +13,17 @@ returns-then-len-eq-MOST_COLUMNS c =
     let size = as_many read.before c.loop-name.columns.items read.named in
     refused c.args.text.now c.loop-name.rest.now next.0 next.1 c.loop-name.columns.items err.TooMany
     read next.2 (omega arith)
+
+pub returns-in-Err : goal.returns-in-Err
+returns-in-Err c =
+    let read = c.loop-name.invariant in
+    let name = c.next_name.result.0.now in
+    let next = first_name c.next_name.result.1 (parted_at 44 c.loop-name.rest.now) name
+    (λ rest. parted_at 44 rest.now) c.next_name.ensures in
+    let size = as_many read.before c.loop-name.columns.items read.named in
+    refused c.args.text.now c.loop-name.rest.now name next.0 c.loop-name.columns.items
+    c.in-Err.fault read next.1
+    (wrong_there read.before name c.in-Err.fault (omega (arith, size)) c.in-Err.ensures)
 
 pub returns-then-has_name : goal.returns-then-has_name
 returns-then-has_name c =
@@ -33,7 +44,11 @@ returns-then-has_name c =
             read.named;
         distinct = read.distinct;
       },
-      (refl, is_among read.before c.loop-name.columns.items name read.named called),
+      (
+        let size = as_many read.before c.loop-name.columns.items read.named in omega arith,
+        refl,
+        is_among read.before c.loop-name.columns.items name read.named called,
+      ),
     )
 
 pub returns-in_default : goal.returns-in_default
