@@ -1,5 +1,7 @@
 //! The file of `--openings`: its lines, and why it is refused.
-ghost use Rattle.std.specs.Prelude.{◌≡◌, [], IfOk, unwrap_or};
+ghost use Rattle.std.specs.Prelude.{◌≡◌, ◌∷◌, [], ℕ, Option, IfOk, is_some, unwrap_or};
+ghost use Rattle.memchr.specs.Find.{FindsNeedle};
+ghost use Rattle.pgn_text.specs.Public.Blocks.{event_line};
 ghost use Rattle.pgn_text.specs.Public.GameTexts.{tag_in};
 ghost use Rattle.pgn_text.specs.Public.Strings.{IsContents};
 ghost use Rattle.pgn_game.specs.Public.Openings.{HasContents, named_of};
@@ -9,6 +11,7 @@ use crate::app::messages;
 use crate::marks::GameId;
 use crate::output::file_name::FileName;
 use crate::output::texts::{push_fault_line, push_game_fault};
+use memchr::memmem;
 use pgn_game::{GameFault, Lines, OpeningLine, Openings, replay};
 use pgn_text::{Piece, RawGame, games};
 use std::alloc::{AllocError, Global};
@@ -65,6 +68,15 @@ fn line_of<'a>(alloc: Global, game: &RawGame<'a>) -> Result<OpeningLine, GameFau
     })
 }
 
+/// Whether an event line begins in the text after its first byte. There a new game begins, whatever
+/// is open before it: so a brace or a result was lost.
+fn has_event_line(text: &[u8]) -> bool
+    ensures { (found : Option ℕ) × FindsNeedle text.now (10 ∷ event_line) 0 found
+        × (result ≡ is_some found) }
+{
+    memmem::find(text, b"\n[Event \"").is_some()
+}
+
 /// The refusal of a game of the file, with the file's name, the game's mark and its fault.
 fn bad_game(alloc: Global, path: &str, id: GameId, fault: GameFault<'_>) -> BadOpenings {
     match bad_game_line(alloc, path, id, fault) {
@@ -109,7 +121,14 @@ pub(crate) fn read_openings(alloc: Global, path: &str, text: &[u8]) -> Result<Op
             return Err(BadOpenings::Line(messages::TOO_MANY_OPENINGS));
         }
         number = number.saturating_add(1);
-        let line = match piece? {
+        let piece = piece?;
+        if let Piece::Game(game) = &piece
+            && has_event_line(game.text())
+        {
+            let offset = game.at() as u64;
+            return Err(unreadable(alloc, path, GameId { number, offset })?);
+        }
+        let line = match piece {
             Piece::Game(game) => match line_of(alloc, &game) {
                 Ok(line) => line,
                 Err(fault) => {

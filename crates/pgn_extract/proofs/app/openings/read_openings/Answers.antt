@@ -6,12 +6,12 @@ use Rattle.pgn_extract.proofs.app.openings.read_openings.Goals as goal
 
 pub loop-piece-preserved : goal.loop-piece-preserved
 loop-piece-preserved c =
-    let takes = rw c.in_ok-game.was at c.in-Some.ensures.steps in
+    let takes = rw c.in_ok-piece.was at c.in-Some.ensures.steps in
     let good = subst IsGameText c.game.view_is c.game.invariant in
     subst (AreRead c.into_iter-piece-iterator.result c.next.new.self)
     (sym c.in_ok-openings-2.ensures)
-    (more_read c.in_ok-game.field-0 c.in-Game.game (named_of c.in-Ok.line) c.loop-piece.invariant
-    takes c.in-Game.is good c.in-Ok.ensures.own)
+    (more_read c.in_ok-piece.piece c.in-Game-piece.game (named_of c.in-Ok.line)
+    c.loop-piece.invariant takes c.in-Game-piece.is good c.in-Ok.ensures.own)
 
 pub returns : goal.returns
 returns c =
