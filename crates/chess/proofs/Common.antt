@@ -55,6 +55,7 @@ pub use Rattle.chess.specs.Public.San.{kind_said, letter_text, pawn_text, promot
 pub use Rattle.chess.specs.Public.San.IsCheckSign.{check, mate, quiet}
 pub use Rattle.chess.specs.Public.San.IsDisambiguation.{alone, by_both, by_file, by_rank}
 pub use Rattle.chess.specs.Public.Sets.{HoldsExactly, IsAttacker, IsBitboardOf, IsSquaresOf}
+pub use Rattle.chess.specs.Public.Sets.{IsTakenFirst}
 pub use Rattle.chess.specs.Public.Sets.{Places, has_bit, is_in, no_places, size_of}
 pub use Rattle.chess.specs.Public.Squares.{IsAhead, IsOnBoard, IsStraight, Place, gap, index_of}
 pub use Rattle.chess.specs.Public.Squares.{place_cmp, same_square, square_at}
@@ -65,7 +66,7 @@ pub use Rattle.chess.specs.Shared.CellFacts.{men_of-put, no_cell, on_board-men_o
 pub use Rattle.chess.specs.Shared.CellFacts.{same_men}
 pub use Rattle.chess.specs.Shared.Codes.{IsKept}
 pub use Rattle.chess.specs.Shared.Runs.{after_all, after_run, run_of}
-pub use Rattle.chess.specs.Shared.SetBitboards.{HasOnly, IsTakenFirst, places_of}
+pub use Rattle.chess.specs.Shared.SetBitboards.{HasOnly, places_of}
 pub use Rattle.chess.specs.Shared.SetFacts.{and_false, empty_bitboard, false_of, index_of-below}
 pub use Rattle.chess.specs.Shared.SetFacts.{is_in-empty, is_in-places_of, on_board-places_of}
 pub use Rattle.chess.specs.Shared.SetFacts.{on_board-square_at, square_at-index_of}

@@ -2,6 +2,8 @@ pub mod BoardExamples
 pub mod Examples
 pub mod GoingExamples
 pub mod KeyExamples
+pub mod ListExamples
 pub mod PinExamples
+pub mod SetExamples
 pub mod StartText
 pub mod TextExamples

@@ -4,6 +4,7 @@ pub mod Bitboards
 pub mod PseudoAttacks
 pub mod Cells
 pub mod MoveWords
+pub mod MoveListWords
 pub mod FenWords
 pub mod FenTextWords
 pub mod FilledFields

@@ -6,6 +6,7 @@ pub mod Attacks
 pub mod Positions
 pub mod Start
 pub mod Moves
+pub mod MoveLists
 pub mod Passes
 pub mod Letters
 pub mod San

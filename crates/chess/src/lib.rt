@@ -1,4 +1,5 @@
-//! Chess by the FIDE Laws: boards, positions, legal moves, FEN and SAN. No call takes memory.
+//! Chess by the FIDE Laws: boards, positions, legal moves, FEN and SAN. `Position::legal_moves`
+//! alone takes memory.
 //!
 //! The position after the one legal move that a word names; none where the word names none or
 //! several:

@@ -3,6 +3,7 @@ use crate::board::{Kind, Square, Wing};
 
 pub(crate) mod castling;
 mod legal;
+mod list;
 mod pass;
 mod play;
 pub(crate) mod pseudo_legal;

@@ -1,8 +1,8 @@
 -- Sets of squares.
-use Rattle.std.specs.Prelude.{◌≡◌, ◌↔◌, ◌==◌, ℕ, Bool, true, Some}
+use Rattle.std.specs.Prelude.{◌≡◌, ◌≤◌, ◌↔◌, ◌==◌, ◌&&◌, ℕ, Bool, true, not, Option, Some, None}
 use Rattle.std.specs.FinSet.{FinSet, empty, contains, len}
 use Rattle.std.specs.Int.{bit_at}
-use Rattle.chess.specs.Public.Squares.{Place, IsOnBoard, place_cmp, index_of}
+use Rattle.chess.specs.Public.Squares.{Place, IsOnBoard, place_cmp, index_of, same_square}
 use Rattle.chess.specs.Public.Placements.{Placement, man_at}
 use Rattle.chess.specs.Public.Attacks.{IsAttackedFrom, Reaches}
 use Rattle.chess.specs.declared.board.man.Man.{Man}
@@ -47,3 +47,11 @@ IsBitboardOf fact bitboard = (s : Place) → IsOnBoard s
 -- how many squares a set has
 abbrev pub size_of : Places → ℕ
 size_of set = len set
+
+-- the first square of a set in the order a1, b1 to h1, a2 and so on was taken out; or there was
+-- none, and the set is as it was
+abbrev pub IsTakenFirst : Places → Places → Option Place → Type 0
+IsTakenFirst old new None = (old ≡ no_places) × (new ≡ old)
+IsTakenFirst old new (Some t) = IsOnBoard t × (is_in old t ≡ true)
+    × ((s : Place) → is_in old s ≡ true → index_of t ≤ index_of s)
+    × ((s : Place) → is_in new s ≡ (is_in old s && not (same_square s t)))

@@ -3,7 +3,8 @@ ghost use Rattle.std.specs.Prelude.{◌≡◌, ◌&&◌, ◌||◌, ◌↔◌, �
 ghost use Rattle.std.specs.Prelude.{Some, None, true, not};
 ghost use Rattle.chess.specs.Public.Squares.{Place, IsOnBoard, same_square, index_of};
 ghost use Rattle.chess.specs.Public.Sets.{is_in, no_places, size_of, has_bit, HoldsExactly};
-ghost use Rattle.chess.specs.Shared.SetBitboards.{HasOnly, IsTakenFirst};
+ghost use Rattle.chess.specs.Public.Sets.{IsTakenFirst};
+ghost use Rattle.chess.specs.Shared.SetBitboards.{HasOnly};
 
 use crate::board::Square;
 use std::marker::Model;
@@ -166,9 +167,9 @@ impl SquareSet {
     }
 
     /// Takes out the first square in the order a1, b1 to h1, a2 and so on: `None` where there is
-    /// none.
+    /// none. So a loop over it meets each square of the set once, in that order.
     #[inline(always)]
-    pub(crate) fn take_first(&mut self) -> Option<Square>
+    pub fn take_first(&mut self) -> Option<Square>
         ensures { IsTakenFirst self.old self.new result }
     {
         let bitboard = self.bitboard;

@@ -316,7 +316,7 @@ impl<B: Board> Position<B> {
     }
 
     /// Squares among which are all those to which a legal move goes from the square.
-    fn candidates(&self, from: Square) -> SquareSet
+    pub(crate) fn candidates(&self, from: Square) -> SquareSet
         ensures { HasEach (λ t. CanGo self.now from t) result }
     {
         let Some(man) = self.at(from) else {

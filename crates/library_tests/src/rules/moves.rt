@@ -1,5 +1,5 @@
 //! Legal moves and the positions after them (Laws 3.1 to 3.9; PGN 16.1.3).
-use crate::rules::rows::{Says, has_fen, has_just, move_of, played, position, square};
+use crate::rules::rows::{Says, has_fen, has_in_order, move_of, played, position, square};
 use chess::Board;
 use std::test::Fail;
 use test_support::rows_hold;
@@ -220,19 +220,19 @@ fn targets_are_counted() -> Result<(), Fail> {
     rows_hold(&Says::Counts, TARGETS, 17)
 }
 
-/// Whether the targets of the square are just these squares.
+/// Whether the targets of the square are just these squares, in order.
 pub fn aims_at<B: Board>(fen: &str, from: &str, wanted: &str) -> Option<bool> {
-    has_just(&position::<B>(fen)?.targets(square(from)?), wanted)
+    has_in_order(position::<B>(fen)?.targets(square(from)?), wanted)
 }
 
-/// A position, a square, and its targets.
+/// A position, a square, and its targets in the order a1, b1 to h1, a2 and so on.
 const AIMS: &str = "
 # en passant would leave the king attacked by the rook
 8/8/8/K2pP2r/8/8/8/4k3 w - d6 0 1 | e5 | e6
 # the rook bars castling, and can be taken
 4k3/8/8/8/8/8/5r2/4K2R w K - 0 1 | e1 | d1 f2
 # an attack on b1 is no bar
-1r2k3/8/8/8/8/8/8/R3K3 w Q - 0 1 | e1 | c1 d1 d2 e2 f1 f2
+1r2k3/8/8/8/8/8/8/R3K3 w Q - 0 1 | e1 | c1 d1 f1 d2 e2 f2
 ";
 
 #[test]

@@ -79,6 +79,17 @@ pub fn has_just(set: &SquareSet, names: &str) -> Option<bool> {
     Some(set.count() == count)
 }
 
+/// Whether the squares of the set are those of these names, in the order a1, b1 to h1, a2 and so
+/// on.
+pub fn has_in_order(mut set: SquareSet, names: &str) -> Option<bool> {
+    for name in names.split_whitespace() {
+        if set.take_first() != Some(square(name)?) {
+            return Some(false);
+        }
+    }
+    Some(set.take_first().is_none())
+}
+
 /// The square of a name such as `e4`, which stands at this place of the bytes.
 pub fn square_in(bytes: &[u8], place: usize) -> Option<Square> {
     let file = *bytes.get(place)?;
