@@ -66,22 +66,28 @@ compared_alike compared.Greater a b n (inr beyond) = (λ h. beyond.1, λ h. beyo
 compared_alike compared.GreaterOrEqual a b n (inr beyond) =
     (λ h. omega (arith, beyond.1), λ h. omega (arith, beyond.0))
 
+-- where two replays agree before so many plies, so many first moves fit the same
+pub agreed_fits : (most : ℕ) (replay other : Replay)
+    → ((i : ℕ) → i < most → AgreeAt replay.positions replay.played other.positions other.played i)
+    → FitTheSame most replay other
+agreed_fits most replay other agree = record {
+  words = λ words within. (
+    fit_on most 0 replay other agree words (omega (arith, within)),
+    fit_on most 0 other replay (λ i less.
+        (sym (agree i less).0, sym (agree i less).1)) words (omega (arith, within)),
+  );
+  counts = λ comparison count within.
+      compared_alike comparison (length replay.played) (length other.played) count
+      (counted_alike replay.played other.played count (λ i up.
+      (agree i (omega (arith, up, within))).1));
+}
+
 -- what a beginning fits each replay of the game fits
 pub beginning_fits : (fen : Option (List ℕ)) (items : List Item) (most : ℕ)
     (beginning replay : Replay) → IsGameBeginning fen items most beginning
     → IsSomeReplay fen items replay → FitTheSame most beginning replay
 beginning_fits fen items most beginning replay is whole =
-    let agree = beginning_agrees fen items most beginning replay is whole in record {
-      words = λ words within. (
-        fit_on most 0 beginning replay agree words (omega (arith, within)),
-        fit_on most 0 replay beginning (λ i less.
-            (sym (agree i less).0, sym (agree i less).1)) words (omega (arith, within)),
-      );
-      counts = λ comparison count within.
-          compared_alike comparison (length beginning.played) (length replay.played) count
-          (counted_alike beginning.played replay.played count (λ i up.
-          (agree i (omega (arith, up, within))).1));
-    }
+    agreed_fits most beginning replay (beginning_agrees fen items most beginning replay is whole)
 
 -- where alternatives are met with both replays or with neither, some of them is met with both or
 -- with neither
@@ -260,7 +266,7 @@ asks_more least most up (Moves words) within = omega (arith, within, up)
 asks_more least most up (Plies comparison count) within = omega (arith, within, up)
 asks_more least most up claim within = tt
 
-games_ask_more : (least most : ℕ) → least ≤ most → (games : List (Stated (GameClaim (List ℕ))))
+pub games_ask_more : (least most : ℕ) → least ≤ most → (games : List (Stated (GameClaim (List ℕ))))
     → AllClaims (AsksWithin least) games → AllClaims (AsksWithin most) games
 games_ask_more least most up [] within = tt
 games_ask_more least most up (one ∷ more) within =

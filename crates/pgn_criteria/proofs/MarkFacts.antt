@@ -138,19 +138,16 @@ module _ (conditions : List (PositionCondition (List ℕ))) (check stuck : Bool)
         all.0 all.1,
   )
 
--- the marks of plies, from the last on
-pub marks_end : (check stuck : Bool) (rest : List ℕ) → length rest < 3
-    → AllByRecursion (LacksMarks check stuck) (codes_in rest)
-marks_end check stuck rest short =
-    subst (AllByRecursion (LacksMarks check stuck)) (sym (below rest short)) tt
+-- what is so of plies, from the last on
+pub plies_end : (fact : PlyCode → Type 0) (rest : List ℕ) → length rest < 3
+    → AllByRecursion fact (codes_in rest)
+plies_end fact rest short = subst (AllByRecursion fact) (sym (below rest short)) tt
 
-pub marks_on : (check stuck : Bool) (rest rest' : List ℕ) → 3 ≤ length rest → rest' ≡ drop 3 rest
-    → LacksMarks check stuck (code_of (get_or rest 0 0) (get_or rest 1 0) (get_or rest 2 0))
-    → AllByRecursion (LacksMarks check stuck) (codes_in rest')
-    → AllByRecursion (LacksMarks check stuck) (codes_in rest)
-marks_on check stuck rest rest' long same lacks later =
-    subst (AllByRecursion (LacksMarks check stuck)) (sym (three rest long))
-    (lacks, rw (← same) later)
+pub plies_on : (fact : PlyCode → Type 0) (rest rest' : List ℕ) → 3 ≤ length rest
+    → rest' ≡ drop 3 rest → fact (code_of (get_or rest 0 0) (get_or rest 1 0) (get_or rest 2 0))
+    → AllByRecursion fact (codes_in rest') → AllByRecursion fact (codes_in rest)
+plies_on fact rest rest' long same here later =
+    subst (AllByRecursion fact) (sym (three rest long)) (here, rw (← same) later)
 
 -- ---- several plies at once
 

@@ -12,6 +12,8 @@ use Rattle.pgn_criteria.proofs.Common.{AllOfHeading, IsFreeOfMoves, AreFreeOfMov
 use Rattle.pgn_criteria.proofs.Common.{AllAskWithin, AllOfSeen, on_positions, FitsAt, FitsAbout}
 use Rattle.pgn_criteria.proofs.Common.{IsFirstBefore, IsSeenOf, Stated, GameClaim, Moves, Plies}
 use Rattle.pgn_criteria.specs.Private.Stages.{AllOfGame, SaysOfHeading, AllOfPly}
+use Rattle.pgn_game.proofs.Cells.{no_cell}
+use Rattle.pgn_criteria.proofs.Common.{zero, suc, drop, map, same_first}
 use Rattle.pgn_criteria.proofs.SeenFacts.{all_position}
 use Rattle.pgn_criteria.proofs.WalkFacts.{seen_said}
 use Rattle.pgn_criteria.proofs.SpanFacts.{spans_same, no_spans_hold}
@@ -242,6 +244,27 @@ meets_left heading replay plies left after a r whole front fails reports kept = 
         | inr more ↦ more
       ],
 )
+
+-- an alternative that is not met is passed over
+pub meets_after : (heading : Heading) (replay : Replay) (plies : ℕ) (left after : List Conditions)
+    (a : Conditions) → left ≡ a ∷ after → (Meets heading replay plies (a ∷ []) → ⊥)
+    → Meets heading replay plies left → Meets heading replay plies after
+meets_after heading replay plies left after a front never met = elim
+    (one_more heading replay plies a after (subst (Meets heading replay plies) front met)) [
+      | inl own ↦ absurd (never own)
+      | inr more ↦ more
+    ]
+
+-- where all claims are so, one that is not denied is
+pub one_taken : {C D : Type 0} (So : D → Type 0) (view : C → Stated D) (all : List C) (i : ℕ)
+    (own : C) (rest : List C) → drop i all ≡ own ∷ rest → (view own).is_denied ≡ false
+    → AllTaken So (map view all) → So (view own).claim
+one_taken So view [] zero own rest at plain taken = absurd (no_cell own rest at)
+one_taken So view [] (suc i) own rest at plain taken = absurd (no_cell own rest at)
+one_taken So view (first ∷ more) zero own rest at plain taken =
+    rw plain at (rw (same_first first own more rest at) at taken.0)
+one_taken So view (first ∷ more) (suc i) own rest at plain taken =
+    one_taken So view more i own rest at plain taken.1
 
 -- what is looked for before a ply, where what the conditions say of the game is so
 pub fits_first : (heading : Heading) (replay : Replay) (conditions : Conditions) (from end : ℕ)

@@ -15,3 +15,5 @@ pub mod MenAlike
 pub mod MoveEnds
 pub mod Records
 pub mod SightCodes
+pub mod Counted
+pub mod Arrivals

@@ -1,20 +1,28 @@
 //! Alternatives of criteria.
-ghost use Rattle.std.specs.Prelude.{◌≡◌, ◌↔◌, [], false, List, map, IsTrue, IfOk, IfSome};
+ghost use Rattle.std.specs.Prelude.{◌≡◌, ◌↔◌, ◌∷◌, [], ℕ, false, List, map, IsTrue, IfOk, IfSome};
 ghost use Rattle.std.specs.Prelude.{MatchOption};
 ghost use Rattle.chess.specs.Public.Placements.{Placement};
+ghost use Rattle.chess.specs.Public.Positions.{State};
+ghost use Rattle.pgn_game.specs.Public.PackReading.{IsRawOfGame};
+ghost use Rattle.pgn_game.specs.Public.Replays.{Replay};
+ghost use Rattle.pgn_criteria.specs.Private.Counted.{AllOfCounted, AreFreeOfWords};
 ghost use Rattle.pgn_criteria.specs.Private.Planning.{Plans};
+ghost use Rattle.pgn_criteria.specs.Private.Records.{heading_of_raw};
+ghost use Rattle.pgn_criteria.specs.Public.Meeting.{Meets};
+ghost use Rattle.pgn_criteria.specs.Public.Walks.{IsSeenOf};
 ghost use Rattle.pgn_criteria.specs.Private.Stages.{AreLegal, AreGood, AllOfGame, AllOfHeading};
 ghost use Rattle.pgn_criteria.specs.Private.Stages.{AllAskWithin, AreFreeOfMoves, AllOfPly};
 ghost use Rattle.pgn_criteria.specs.Private.Stages.{AllSaid, AllOfSeen, AreFixed, AreMirrored};
 ghost use Rattle.pgn_criteria.specs.Private.Stages.{OfPattern, AllOfPatterns, AllOfStage};
 ghost use Rattle.pgn_criteria.specs.Private.Stages.{AllOfRest, AreNoCounts, SpansStand};
 ghost use Rattle.pgn_criteria.specs.Private.Stages.{position_seen, seen, stage_of};
-ghost use Rattle.pgn_criteria.specs.Public.Prefilters.{NowhereSeen, codes_in};
+ghost use Rattle.pgn_criteria.specs.Public.Prefilters.{IsPlayedBy, NowhereSeen, codes_in};
 ghost use Rattle.pgn_criteria.specs.Private.Marks.{AreMarksOf, FitsSeen};
 ghost use Rattle.pgn_criteria.specs.Private.PrefilterTests.{Nowhere};
 ghost use Rattle.pgn_criteria.specs.declared.meets.Stage.TheVariants.{Squares};
 
 use crate::by_marks::marks_of_all;
+use crate::by_record::{are_free_of_words, are_of_counted, words_are_shown};
 use crate::condition::{GameClaim, MoveClaim, PositionClaim, PositionCondition, SpanClaim, Stated};
 use crate::conditions::Conditions;
 use crate::headed::Headed;
@@ -31,6 +39,7 @@ use crate::seen::Seen;
 use crate::spans::{are_no_counts, spans_stand};
 use chess::SquareSet;
 use pgn_game::Replayed;
+use pgn_game::pack::RawRecord;
 use std::alloc::{AllocError, Global};
 use std::marker::Model;
 
@@ -310,6 +319,16 @@ impl Alternative {
         are_of_heading(&self.games, game)
     }
 
+    /// Whether the tags, the result and the number of the plies of the game meet the conditions
+    /// that speak of them.
+    pub(crate) fn is_of_counted<'a, H: Headed<'a>>(&'a self, game: &H, plies: usize) -> bool
+        requires valid { H.valid game.now }
+        requires good { AreGood self.now }
+        ensures { IsTrue result ↔ AllOfCounted (H.heading game.now) plies self.now.games }
+    {
+        are_of_counted(&self.games, game, plies)
+    }
+
     /// How many first moves of the game the conditions ask for at most; `None` where they ask for
     /// each.
     pub(crate) fn beginning(&self) -> Option<usize>
@@ -335,6 +354,13 @@ impl Alternative {
         ensures { IsTrue result ↔ AreFreeOfMoves self.now }
     {
         self.moves.is_empty() && self.spans.is_empty() && are_free_of_moves(&self.games)
+    }
+
+    /// Whether none of the conditions speaks of the moves of the game but by their number.
+    pub(crate) fn is_free_of_words(&self) -> bool
+        ensures { IsTrue result ↔ AreFreeOfWords self.now }
+    {
+        self.moves.is_empty() && self.spans.is_empty() && are_free_of_words(&self.games)
     }
 
     /// The marks of positions with which the conditions hold. It is `None` where one of them has
@@ -410,5 +436,34 @@ impl Alternative {
             Some(planned) => planned.may_be_met(start, plies),
             None => false,
         }
+    }
+
+    /// Whether the moves that the conditions ask for may be among the plies.
+    fn words_are_shown(&self, plies: &[u8]) -> bool
+        ensures { result ≡ false → (P : State) (replay : Replay)
+            → IsPlayedBy P (codes_in plies.now) replay → (ply : ℕ)
+            → AllOfPly replay ply self.now → ⊥ }
+    {
+        words_are_shown(&self.moves, plies)
+    }
+
+    /// Whether the conditions may hold at a position of the packed game, as far as its record tells
+    /// with no move played. The game starts as is seen.
+    pub(crate) fn may_be_told<'a, S: Seen>(&'a self, record: &RawRecord<'a>, start: &S) -> bool
+        requires valid { IsRawOfGame record.now }
+        requires good { AreGood self.now }
+        ensures { result ≡ false → (P : State) (replay : Replay)
+            → IsSeenOf P (S.men start.now) (S.turn start.now) (S.checked start.now)
+            (S.stuck start.now) → IsPlayedBy P (codes_in record.now.plies) replay → (ply : ℕ)
+            → Meets (heading_of_raw record.now) replay ply (self.now ∷ []) → ⊥ }
+    {
+        let plies = record.plies();
+        if !self.is_of_counted(record, plies.len() / 3) {
+            return false;
+        }
+        if !self.words_are_shown(plies) {
+            return false;
+        }
+        self.may_be_met(start, plies)
     }
 }

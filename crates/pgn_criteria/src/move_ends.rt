@@ -9,7 +9,7 @@ use chess::{Kind, Move};
 use pgn_game::GamePosition;
 
 /// The letter of a kind of man (PGN 8.2.3.2).
-fn kind_letter(kind: Kind) -> u8
+pub(crate) fn kind_letter(kind: Kind) -> u8
     ensures { result ≡ kind_letter kind }
 {
     match kind {

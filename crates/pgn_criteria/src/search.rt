@@ -1,5 +1,8 @@
 //! The plies of one game that meet criteria, looked for one after the other.
-ghost use Rattle.std.specs.Prelude.{◌≡◌, ◌↔◌, ◌==◌, ℕ, false, List, length, IsTrue, IfOk, IfSome};
+ghost use Rattle.std.specs.Prelude.{◌≡◌, ◌↔◌, ◌/◌, ◌==◌, ℕ, false, List, length, IsTrue, IfOk};
+ghost use Rattle.std.specs.Prelude.{IfSome, take, ◌*◌};
+ghost use Rattle.chess.specs.declared.moves.Move.{Move};
+ghost use Rattle.pgn_game.specs.Public.CodeLines.{IsCodedLine, IsLegalLine};
 ghost use Rattle.std.specs.Prelude.{MatchResult};
 ghost use Rattle.chess.specs.Public.Positions.{State};
 ghost use Rattle.pgn_text.specs.Public.GameTexts.{GameText, tag_in};
@@ -9,7 +12,8 @@ ghost use Rattle.pgn_game.specs.Public.PackedGames.{PackedGame, IsPacked, FitsRe
 ghost use Rattle.pgn_game.specs.Public.PackReading.{IsRawOfGame, raw_of};
 ghost use Rattle.pgn_game.specs.Public.Starts.{fen_tag};
 ghost use Rattle.pgn_game.specs.declared.replays.replayer.Lines.TheVariants.{Main};
-ghost use Rattle.pgn_criteria.specs.Public.Prefilters.{MeetsSeen, NowhereSeen, codes_in};
+ghost use Rattle.pgn_criteria.specs.Public.Prefilters.{IsPlayedBy, MeetsSeen, NowhereSeen};
+ghost use Rattle.pgn_criteria.specs.Public.Prefilters.{codes_in};
 ghost use Rattle.pgn_criteria.specs.Public.Meeting.{Heading, heading_of, SomeHold, Meets};
 ghost use Rattle.pgn_criteria.specs.Public.Headings.{MayMeet};
 ghost use Rattle.pgn_criteria.specs.Private.Stages.{AllGood, AreLegal, EachAsksWithin};
@@ -19,8 +23,8 @@ use crate::alternative::Alternative;
 use crate::headed::Headed;
 use crate::meets::Criteria;
 use crate::seen::Seen;
-use pgn_game::pack::RawRecord;
-use pgn_game::{GameFault, Replayed, replay_beginning};
+use pgn_game::pack::{CodesError, RawRecord, replay_codes};
+use pgn_game::{GameFault, GamePosition, Replayed, replay_beginning};
 use pgn_text::RawGame;
 use std::alloc::{AllocError, Global};
 use std::marker::Model;
@@ -90,18 +94,19 @@ impl<'a> Search<'a> {
 
 /// What the alternatives ask of the positions of a game that begins with the moves of this replay.
 /// Conditions on tags and on the moves are decided here.
-fn left_after<'a>(
+fn left_after<'a, H: Headed<'a>>(
     alloc: Global,
     alternatives: &'a [Alternative],
-    game: &RawGame<'a>,
+    game: &H,
     beginning: &Replayed,
 ) -> Result<Search<'a>, AllocError>
+    requires valid { H.valid game.now }
     requires good { AllGood alternatives.now }
     requires legal { AreLegal beginning.now }
     requires still { (most : ℕ) × EachAsksWithin most alternatives.now }
     ensures kept { IfOk result (λ search. (ply : ℕ) (P : State)
-        → SomeHold (heading_of game.now) beginning.now ply P search
-        ↔ SomeHold (heading_of game.now) beginning.now ply P alternatives.now) }
+        → SomeHold (H.heading game.now) beginning.now ply P search
+        ↔ SomeHold (H.heading game.now) beginning.now ply P alternatives.now) }
     ensures free { IfOk result (EachAsksWithin 0) }
 {
     let mut left = Vec::new(alloc);
@@ -111,6 +116,17 @@ fn left_after<'a>(
         }
     }
     Ok(Search { left })
+}
+
+/// The bytes of so many first plies, or of all where there are no more.
+fn front_of(plies: &[u8], most: usize) -> &[u8]
+    ensures { result.now ≡ take (3 * most) plies.now }
+{
+    let size = most.saturating_mul(3);
+    if size < plies.len() {
+        return &plies[..size];
+    }
+    plies
 }
 
 impl Criteria {
@@ -168,6 +184,86 @@ impl Criteria {
             ↔ Meets (heading_of game) any ply self.now)) }
     {
         self.watch_heading(alloc, record)
+    }
+
+    /// The same where alternatives speak of the number of plies too, which the record tells. It is
+    /// `None` where an alternative that is left speaks of the moves otherwise, or of several plies.
+    pub fn watch_counted<'a>(
+        &'a self,
+        alloc: Global,
+        record: &RawRecord<'a>,
+    ) -> Result<Option<Search<'a>>, AllocError>
+        requires { IsRawOfGame record.now }
+        ensures { IfOk result (λ watched.
+            IfSome watched (λ search. (game : GameText) (replay : Replay) (packed : PackedGame)
+            → IsPacked packed.name packed.number packed.offset game replay packed
+            → FitsRecord packed → raw_of packed ≡ record.now → (any : Replay)
+            → length any.played ≡ length record.now.plies / 3 → (ply : ℕ)
+            → Meets (heading_of game) any ply search
+            ↔ Meets (heading_of game) any ply self.now)) }
+    {
+        let plies = record.plies().len() / 3;
+        let mut left = Vec::new(alloc);
+        for alternative in &self.alternatives {
+            if alternative.is_of_counted(record, plies) {
+                if !alternative.is_free_of_words() {
+                    return Ok(None);
+                }
+                left.push(alternative)?;
+            }
+        }
+        Ok(Some(Search { left }))
+    }
+
+    /// What the criteria ask of the positions of a packed game that starts there. Conditions on its
+    /// tags and on its first moves are decided here, once; no more of its line is replayed than
+    /// these ask for. It is `None` where a condition speaks of the moves at each ply, or of several
+    /// plies.
+    pub fn watch_begun<'a>(
+        &'a self,
+        alloc: Global,
+        record: &RawRecord<'a>,
+        start: GamePosition,
+    ) -> Result<Option<Search<'a>>, CodesError>
+        requires { IsRawOfGame record.now }
+        ensures { MatchResult result
+            (λ watched.
+            IfSome watched (λ search. (game : GameText) (replay : Replay) (packed : PackedGame)
+            → IsPacked packed.name packed.number packed.offset game replay packed
+            → FitsRecord packed → raw_of packed ≡ record.now → (line : Replay)
+            → IsLegalLine start line → IsCodedLine start record.now.plies line.played → (ply : ℕ)
+            → Meets (heading_of game) line ply search
+            ↔ Meets (heading_of game) line ply self.now))
+            (λ error. error ≡ CodesError.NoLine → (moves : List Move)
+            → IsCodedLine start record.now.plies moves → ⊥) }
+    {
+        let Some(most) = self.beginning else {
+            return Ok(None);
+        };
+        match replay_codes(alloc, start, front_of(record.plies(), most)) {
+            Ok(beginning) => Ok(Some(left_after(alloc, &self.alternatives, record, &beginning)?)),
+            Err(error) => Err(error),
+        }
+    }
+
+    /// Whether a position of a packed game may meet the criteria, as far as its record tells with
+    /// no move played: by its tags, its result and the number of its plies, by where men arrive,
+    /// and by what a walk shows. The game starts as is seen. No memory is needed.
+    pub fn may_meet_packed<'a, S: Seen>(&'a self, record: &RawRecord<'a>, start: &S) -> bool
+        requires { IsRawOfGame record.now }
+        ensures { result ≡ false → (game : GameText) (replay : Replay) (packed : PackedGame)
+            → IsPacked packed.name packed.number packed.offset game replay packed
+            → FitsRecord packed → raw_of packed ≡ record.now → (P : State)
+            → IsSeenOf P (S.men start.now) (S.turn start.now) (S.checked start.now)
+            (S.stuck start.now) → IsPlayedBy P (codes_in record.now.plies) replay → (ply : ℕ)
+            → Meets (heading_of game) replay ply self.now → ⊥ }
+    {
+        for alternative in &self.alternatives {
+            if alternative.may_be_told(record, start) {
+                return true;
+            }
+        }
+        false
     }
 
     /// What the criteria ask of the positions of the game, by which its plies are found while it is

@@ -3,7 +3,8 @@ use Rattle.std.specs.Prelude.{ℕ, List, [], ◌∷◌, IsTrue}
 use Rattle.chess.specs.Public.Positions.{State}
 use Rattle.chess.specs.Public.Placements.{Placement, opposite}
 use Rattle.chess.specs.declared.board.man.Side.{Side}
-use Rattle.pgn_game.specs.Public.PlyCodes.{PlyCode, code_of, moved}
+use Rattle.pgn_game.specs.Public.CodeLines.{IsLegalLine}
+use Rattle.pgn_game.specs.Public.PlyCodes.{PlyCode, AreCodes, code_of, moved}
 use Rattle.pgn_game.specs.Public.Replays.{Replay}
 use Rattle.pgn_criteria.specs.Public.Meeting.{Heading, SomeHold}
 use Rattle.pgn_criteria.specs.Public.Walks.{IsSeenOf}
@@ -29,3 +30,8 @@ abbrev pub MeetsSeen : List Conditions → Placement → Side → Type 0 → Typ
 MeetsSeen criteria men turn Checked Stuck =
     (P : State) × IsSeenOf P men turn Checked Stuck × (heading : Heading) × (replay : Replay)
     × (ply : ℕ) × SomeHold heading replay ply P criteria
+
+-- the line is played from this position by legal moves, of which these are the codes
+pub record IsPlayedBy (P : State) (codes : List PlyCode) (replay : Replay) : Type 0 where
+  pub line : IsLegalLine P replay
+  pub told : AreCodes P replay.played codes

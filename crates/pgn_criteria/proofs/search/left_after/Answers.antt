@@ -1,6 +1,6 @@
 use Rattle.std.proofs.lemmas.List.{append-nil}
 use Rattle.pgn_criteria.proofs.Common.{◌≡◌, ◌↔◌, ◌++◌, ◌∷◌, ◌+◌, ℕ, length, drop, map, ap, ◌∙◌}
-use Rattle.pgn_criteria.proofs.Common.{arith, map-append, drop-length, State, heading_of, Heading}
+use Rattle.pgn_criteria.proofs.Common.{arith, map-append, drop-length, State, Heading}
 use Rattle.pgn_criteria.proofs.Common.{SomeHold, on_positions}
 use Rattle.pgn_criteria.proofs.MeetFacts.{good_from, within_from, alternatives_from}
 use Rattle.pgn_criteria.proofs.BeginningFacts.{none_of_none}
@@ -9,8 +9,8 @@ use Rattle.pgn_criteria.proofs.search.left_after.Goals.{then-is_of_game+in_ok-pu
 use Rattle.pgn_criteria.proofs.search.left_after.Goals as goal
 
 pub loop-alternative-preserved : goal.loop-alternative-preserved
-loop-alternative-preserved c =
-    let heading : Heading = heading_of c.args.game.now in
+loop-alternative-preserved g c =
+    let heading : Heading = g.H.Headed.heading c.args.game.now in
     let replay = c.args.beginning.now in
     let all = c.args.alternatives.now in
     let i = c.loop-alternative.alternative-index in
@@ -45,8 +45,8 @@ loop-alternative-preserved c =
     }
 
 pub returns-clause-kept : goal.returns-clause-kept
-returns-clause-kept c ply P =
-    let heading : Heading = heading_of c.args.game.now in
+returns-clause-kept g c ply P =
+    let heading : Heading = g.H.Headed.heading c.args.game.now in
     let replay = c.args.beginning.now in
     let all = c.args.alternatives.now in
     let left = map (λ a. on_positions a.now) c.loop-alternative.left.items in
@@ -57,4 +57,4 @@ returns-clause-kept c ply P =
     rw (← none) (c.loop-alternative.invariant.kept ply P)
 
 pub returns-clause-free : goal.returns-clause-free
-returns-clause-free c = none_of_none (λ a. a.now) c.loop-alternative.left.items
+returns-clause-free g c = none_of_none (λ a. a.now) c.loop-alternative.left.items

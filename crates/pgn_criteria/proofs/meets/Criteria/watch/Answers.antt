@@ -1,5 +1,5 @@
-use Rattle.pgn_criteria.proofs.Common.{◌∙◌, sym, subst, arith, tag_in, fen_tag, heading_of}
-use Rattle.pgn_criteria.proofs.Common.{EachAsksWithin}
+use Rattle.pgn_criteria.proofs.Common.{◌∙◌, refl, sym, subst, arith, tag_in, fen_tag, heading_of}
+use Rattle.pgn_criteria.proofs.Common.{AllGood, EachAsksWithin}
 use Rattle.pgn_game.proofs.Beginnings.{beginning_legal}
 use Rattle.pgn_criteria.proofs.BeginningFacts.{beginning_fits, within_hold_there}
 use Rattle.pgn_criteria.proofs.StageFacts.{same_plies}
@@ -11,17 +11,24 @@ returns-in-Some c replay own ply =
     let watched = rw c.in-Some.is at c.in_ok-search.ensures in
     watched replay ply
 
-pub left_after-requires-clause-legal : goal.left_after-requires-clause-legal
-left_after-requires-clause-legal c =
-    beginning_legal (tag_in fen_tag c.args.game.now.tags) c.args.game.now.elements _
-    c.in_ok-beginning.beginning c.in_ok-beginning.ensures
-
-pub left_after-requires-clause-still : goal.left_after-requires-clause-still
-left_after-requires-clause-still c =
+pub left_after-requires : goal.left_after-requires
+left_after-requires c k =
     let most = c.in-Some-beginning.most in
     let within : EachAsksWithin most c.self.inside.alternatives.items =
-    rw c.in-Some-beginning.is at c.self.invariant.within in
-    (most, subst (EachAsksWithin most) (sym c.deref.ensures.value) within)
+    rw c.in-Some-beginning.is at c.self.invariant.within in (
+      (refl, tt),
+      (
+        tt,
+        (
+          subst AllGood (sym c.deref.ensures.value) c.self.invariant.good,
+          (
+            beginning_legal (tag_in fen_tag c.args.game.now.tags) c.args.game.now.elements _
+                c.in_ok-beginning.beginning c.in_ok-beginning.ensures,
+            (most, subst (EachAsksWithin most) (sym c.deref.ensures.value) within),
+          ),
+        ),
+      ),
+    )
 
 pub returns : goal.returns
 returns c replay own ply =
