@@ -26,6 +26,7 @@ pub mod HeadFacts
 mod TagOrder
 pub mod RecordFacts
 pub mod RecordWriting
+pub mod EditedTags
 pub mod examples
 pub mod OneExport
 pub mod PackOnce

@@ -1,3 +1,4 @@
+pub mod EditExamples
 pub mod ExportRows
 pub mod LineExamples
 pub mod OpeningExamples

@@ -1,6 +1,7 @@
 pub mod CommandFacts
 pub mod CommentFacts
 pub mod EvenFacts
+pub mod EditFacts
 pub mod ExportFacts
 pub mod LineWrapperFacts
 pub mod MovetextFacts

@@ -15,3 +15,4 @@ pub mod PackSteps
 pub mod CodeWords
 pub mod Filing
 pub mod Following
+pub mod Editing

@@ -12,6 +12,7 @@ pub mod TagLines
 pub mod TextLines
 pub mod Comments
 pub mod Exports
+pub mod Edits
 pub mod GameLines
 pub mod PlyCodes
 pub mod CodeLines

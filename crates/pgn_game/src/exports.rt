@@ -1,6 +1,7 @@
 //! Games written: in the export format, or the main line on one line.
 
 mod comment;
+pub mod edits;
 pub(crate) mod exporter;
 pub mod following;
 pub(crate) mod game_line;
@@ -9,5 +10,5 @@ mod movetext;
 pub(crate) mod notation;
 pub(crate) mod style;
 mod sweep;
-mod tag_lines;
+pub(crate) mod tag_lines;
 mod tokens;

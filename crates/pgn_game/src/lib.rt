@@ -29,11 +29,13 @@ mod replays;
 mod turns;
 
 pub use explain::{Refused, Why, named_moves, refused_word};
+pub use exports::edits::{TagEdit, TagEdits, export_edited};
 pub use exports::exporter::{export, export_followed, export_played, follow_export};
 pub use exports::following::Followed;
 pub use exports::game_line::push_line;
 pub use exports::notation::Notation;
 pub use exports::style::Style;
+pub use exports::tag_lines::push_contents;
 pub use openings::{Classified, FollowedLine, Opening, OpeningLine, Openings};
 pub use replays::played_line::MainLine;
 pub use replays::replayer::{

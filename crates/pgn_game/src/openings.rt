@@ -182,6 +182,7 @@ impl Openings {
     }
 
     /// The main line that is played from this start, with its opening; or its fault.
+    #[inline(always)]
     fn follow<'a>(
         &self,
         start: GamePosition,
@@ -208,6 +209,7 @@ impl Openings {
     }
 
     /// The main line of the game, with its opening; or its fault.
+    #[inline(always)]
     pub fn opening_of<'a>(
         &self,
         alloc: Global,

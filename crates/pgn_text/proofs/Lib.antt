@@ -19,6 +19,7 @@ pub mod ShownGame
 pub mod SortedTags
 pub mod Stopping
 pub mod TagLemmas
+pub mod Retagging
 pub mod TagStrings
 pub mod examples
 pub mod Joined

@@ -5,4 +5,3 @@ pub mod Pairing
 pub mod PlainLemmas
 pub mod ReadLemmas
 pub mod ReadingLemmas
-pub mod Retagging

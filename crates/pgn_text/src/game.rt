@@ -136,6 +136,19 @@ impl<'a> RawGame<'a> {
         self.result
     }
 
+    /// The game without its elements: what stands before its movetext, and its result.
+    pub fn head(&self, alloc: Global) -> Result<Self, AllocError>
+        ensures { IfOk result (λ head. head ≡ record self.now { elements = [] }) }
+    {
+        Ok(RawGame {
+            at: self.at,
+            text: self.text,
+            tags: self.tags.clone()?,
+            elements: Vec::new(alloc),
+            result: self.result,
+        })
+    }
+
     /// The game with these contents under the name in place of its own, or with no tag of that
     /// name.
     pub fn retagged(

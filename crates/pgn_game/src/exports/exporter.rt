@@ -102,6 +102,27 @@ pub fn export_played<'a>(
     put_or_leave(alloc, game, &start, style, out)
 }
 
+/// The movetext of the game in the style, played while it is written. Where a line that is written
+/// is faulty, the first fault is answered.
+pub(crate) fn play_movetext<'a>(
+    alloc: Global,
+    game: &RawGame<'a>,
+    style: &Style,
+) -> Result<Vec<u8>, GameFault<'a>>
+    ensures text { IfOk result (λ movetext. (start : State)
+        × IsStart (tag_in fen_tag game.now.tags) start
+        × IsMovetext style.now start game.now movetext.items) }
+    ensures fault { IfErr result (λ fault.
+        IfSome (fault_of fault)
+        (IsFault (lines_with style.now.variations) (tag_in fen_tag game.now.tags)
+        game.now.elements)) }
+{
+    let start = starting_position(alloc, game.tags())?;
+    let mut movetext = Vec::with_capacity(alloc, game.text().len())?;
+    put_movetext(alloc, game, &start, style, &mut movetext)?;
+    Ok(movetext)
+}
+
 /// Appends the tags of the game, an empty line, this movetext and an empty line; where memory is
 /// refused, some bytes of these.
 fn put_parts(
@@ -123,7 +144,7 @@ fn put_parts(
 
 /// Appends the tags of the game, an empty line, this movetext and an empty line; where memory is
 /// refused, nothing is appended.
-fn put_parts_or_leave(
+pub(crate) fn put_parts_or_leave(
     game: &RawGame,
     movetext: &[u8],
     style: &Style,

@@ -1,6 +1,6 @@
 //! The tags of a game that is written, one a line.
 ghost use Rattle.std.specs.Prelude.{◌≡◌, ◌++◌, ℕ, List, OnOk, IfSome, option_map, map, bytes_eq};
-ghost use Rattle.std.specs.Prelude.{codes, ◌||◌, filter, is_some};
+ghost use Rattle.std.specs.Prelude.{codes, ◌||◌, filter, flat_map, is_some};
 ghost use Rattle.std.specs.List.{list_any};
 ghost use Rattle.pgn_text.specs.Public.GameTexts.{tag_in, tag_names};
 ghost use Rattle.pgn_text.specs.Public.Strings.{IsContents};
@@ -27,6 +27,17 @@ fn put_byte(byte: u8, out: &mut Vec<u8>) -> Result<(), AllocError>
         out.push(b'\\')?;
     }
     out.push(if byte == b'\t' { b' ' } else { byte })?;
+    Ok(())
+}
+
+/// Appends the contents of a string with this value: a quote and a backslash stand after a
+/// backslash, and a tab is a space.
+pub fn push_contents(value: &[u8], out: &mut Vec<u8>) -> Result<(), AllocError>
+    ensures { OnOk result (out.new.items ≡ out.old.items ++ flat_map escaped value.now) }
+{
+    for byte in value {
+        put_byte(*byte, out)?;
+    }
     Ok(())
 }
 

@@ -3,7 +3,7 @@ use Rattle.std.specs.Prelude.{option_map}
 use Rattle.pgn_text.proofs.Common.{refl, subst, Some, None}
 use Rattle.pgn_text.specs.Public.GameTexts.{IsRetagged}
 use Rattle.pgn_text.proofs.game.Pairing.{tags_ascend}
-use Rattle.pgn_text.proofs.game.Retagging.{good_retagged}
+use Rattle.pgn_text.proofs.Retagging.{good_retagged}
 use Rattle.pgn_text.proofs.TagLemmas.{retagged}
 use Rattle.pgn_text.proofs.game.RawGame.retagged.Goals as goal
 use Rattle.pgn_text.proofs.game.RawGame.retagged.Goals.{in-Some+in_ok-insert-in-Some, in-None}

@@ -1,0 +1,64 @@
+-- Edits of the tags of a game that is written.
+use Rattle.std.specs.Prelude.{◌≡◌, ℕ, List, [], ◌∷◌, Option, Some, None, IfSome, IsTrue, bytes_eq}
+use Rattle.std.specs.Prelude.{if◌then◌else◌, option_map}
+use Rattle.std.specs.List.{list_all, slice_get}
+use Rattle.pgn_text.specs.Public.Bytes.{is_name_byte}
+use Rattle.pgn_text.specs.Public.GameTexts.{GameText, IsGameText, tag_in}
+use Rattle.pgn_text.specs.Public.Strings.{IsContents}
+use Rattle.pgn_game.specs.Public.Exports.{IsExport}
+use Rattle.pgn_game.specs.Public.Starts.{fen_tag}
+use Rattle.pgn_game.specs.declared.exports.edits.TagEdit.{TagEdit}
+use Rattle.pgn_game.specs.declared.exports.style.Style.{Style}
+
+-- an edit: the name of a tag, and what its string is to hold; nothing where the tag is left out
+pub record EditedTag : Type 0 where
+  pub name : List ℕ
+  pub contents : Option (List ℕ)
+
+-- what contracts see of such an edit
+abbrev pub edit_of : TagEdit → EditedTag
+edit_of edit = record {
+  name = edit.name.items;
+  contents = option_map (λ contents. contents.items) edit.contents;
+}
+
+-- an edit may be made: its name is made of the bytes of names, and is not FEN, by which the start
+-- of the game is told; and a string can hold its contents
+pub record IsEditable (edit : EditedTag) : Type 0 where
+  pub name : IsTrue (list_all is_name_byte edit.name)
+  pub start : edit.name ≡ fen_tag → ⊥
+  pub contents : IfSome edit.contents IsContents
+
+-- each of the edits may be made
+abbrev pub AreEditable : List EditedTag → Type 0
+AreEditable edits = (place : ℕ) (edit : EditedTag) → slice_get edits place ≡ Some edit
+    → IsEditable edit
+
+-- what stands under the wanted name after the edits, where this stood there: of edits of one name
+-- the last counts
+abbrev pub edited_tag : List EditedTag → List ℕ → Option (List ℕ) → Option (List ℕ)
+edited_tag [] wanted own = own
+edited_tag (edit ∷ more) wanted own =
+    edited_tag more wanted (if bytes_eq edit.name wanted then edit.contents else own)
+
+-- the other game has what stands after the edits under each name, and all else as the game has it
+pub record IsEditedBy (edits : List EditedTag) (game other : GameText) : Type 0 where
+  pub place : other.at ≡ game.at
+  pub text : other.text ≡ game.text
+  pub tags : (wanted : List ℕ)
+      → tag_in wanted other.tags ≡ edited_tag edits wanted (tag_in wanted game.tags)
+  pub elements : other.elements ≡ game.elements
+  pub result : other.result ≡ game.result
+
+-- the game is the other one once it is edited; without edits it stays as it is, and where one of
+-- them may not be made
+abbrev pub IsEdited : Option (List EditedTag) → GameText → GameText → Type 0
+IsEdited None game other = other ≡ game
+IsEdited (Some edits) game other =
+    (AreEditable edits → IsGameText other × IsEditedBy edits game other)
+    × ((AreEditable edits → ⊥) → other ≡ game)
+
+-- the text is the export in the style of the game once it is edited
+abbrev pub IsEditedExport : Option (List EditedTag) → Style → GameText → List ℕ → Type 0
+IsEditedExport edits style game text = (own : GameText) × IsEdited edits game own
+    × IsExport style own text
