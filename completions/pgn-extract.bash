@@ -11,7 +11,7 @@ _pgn_extract() {
         _pgn_extract_criteria "$word"
         return
         ;;
-    --min-ply | --max-ply | --from | --until | -w | --width) return ;;
+    --min-ply | --max-ply | --from | --until | --set | --drop | -w | --width) return ;;
     esac
     if [[ $word == -* ]]; then
         mapfile -t COMPREPLY < <(compgen -W "$_pgn_extract_options" -- "$word")
@@ -27,52 +27,59 @@ _pgn_extract() {
 _pgn_extract_options='--list --fen --next --rows --csv --tsv --jsonl --no-header --packed --index
     --moves --uci --pack --criteria --where --openings --min-ply --max-ply --first --tags-first
     --others --faulty --as-is -C --no-comments --keep-commands -N --no-glyphs -V --no-variations
-    --roster -w --width --explain --summary --progress --no-progress --from --until --at
-    --with-names --no-names -h --help --version'
+    --roster -w --width --set --drop --fix-results --explain --summary --progress --no-progress
+    --from --until --at --with-names --no-names -h --help --version'
 # Takes out what the program refuses beside an option.
 _pgn_extract_excluded() {
     case $1 in
     --list) _pgn_extract_without --rows --csv --tsv --jsonl --no-header --index --moves --uci \
-        --pack --others --faulty --as-is ;;
+        --pack --others --faulty --as-is --set --drop --fix-results ;;
     --fen) _pgn_extract_without --rows --csv --tsv --jsonl --no-header --index --moves --uci \
-        --pack --others --faulty --as-is ;;
+        --pack --others --faulty --as-is --set --drop --fix-results ;;
     --next) _pgn_extract_without --rows --csv --tsv --jsonl --no-header --index --moves --uci \
-        --pack --others --faulty --as-is ;;
+        --pack --others --faulty --as-is --set --drop --fix-results ;;
     --rows) _pgn_extract_without --list --fen --next --index --moves --uci --pack --others \
-        --faulty --as-is ;;
+        --faulty --as-is --set --drop --fix-results ;;
     --csv) _pgn_extract_without --list --fen --next --tsv --jsonl --index --moves --uci --pack \
-        --others --faulty --as-is ;;
+        --others --faulty --as-is --set --drop --fix-results ;;
     --tsv) _pgn_extract_without --list --fen --next --csv --jsonl --index --moves --uci --pack \
-        --others --faulty --as-is ;;
+        --others --faulty --as-is --set --drop --fix-results ;;
     --jsonl) _pgn_extract_without --list --fen --next --csv --tsv --index --moves --uci --pack \
-        --others --faulty --as-is ;;
+        --others --faulty --as-is --set --drop --fix-results ;;
     --no-header) _pgn_extract_without --list --fen --next --index --moves --uci --pack --others \
-        --faulty --as-is ;;
+        --faulty --as-is --set --drop --fix-results ;;
     --packed) _pgn_extract_without --moves --uci --pack --openings --tags-first --others --faulty \
-        --as-is --from --until --at --with-names --no-names ;;
+        --as-is --set --drop --fix-results --from --until --at --with-names --no-names ;;
     --index) _pgn_extract_without --list --fen --next --rows --csv --tsv --jsonl --no-header \
-        --moves --uci --pack --tags-first --others --faulty --as-is ;;
+        --moves --uci --pack --tags-first --others --faulty --as-is --set --drop --fix-results ;;
     --moves) _pgn_extract_without --list --fen --next --rows --csv --tsv --jsonl --no-header \
-        --packed --index --uci --pack --faulty --as-is ;;
+        --packed --index --uci --pack --faulty --as-is --set --drop --fix-results ;;
     --uci) _pgn_extract_without --list --fen --next --rows --csv --tsv --jsonl --no-header \
-        --packed --index --moves --pack --faulty --as-is ;;
+        --packed --index --moves --pack --faulty --as-is --set --drop --fix-results ;;
     --pack) _pgn_extract_without --list --fen --next --rows --csv --tsv --jsonl --no-header \
         --packed --index --moves --uci --tags-first --faulty --as-is -C --no-comments \
-        --keep-commands -N --no-glyphs -V --no-variations --roster -w --width ;;
+        --keep-commands -N --no-glyphs -V --no-variations --roster -w --width --set --drop \
+        --fix-results ;;
     --openings) _pgn_extract_without --packed --tags-first ;;
     --tags-first) _pgn_extract_without --packed --index --pack --openings --others --faulty ;;
     --others) _pgn_extract_without --list --fen --next --rows --csv --tsv --jsonl --no-header \
         --packed --index --tags-first --faulty ;;
     --faulty) _pgn_extract_without --list --fen --next --rows --csv --tsv --jsonl --no-header \
-        --packed --index --moves --uci --pack --tags-first --others ;;
+        --packed --index --moves --uci --pack --tags-first --others --set --drop --fix-results ;;
     --as-is) _pgn_extract_without --list --fen --next --rows --csv --tsv --jsonl --no-header \
-        --packed --index --moves --uci --pack ;;
+        --packed --index --moves --uci --pack --set --drop --fix-results ;;
     -C | --no-comments) _pgn_extract_without --pack ;;
     --keep-commands) _pgn_extract_without --pack ;;
     -N | --no-glyphs) _pgn_extract_without --pack ;;
     -V | --no-variations) _pgn_extract_without --pack ;;
     --roster) _pgn_extract_without --pack ;;
     -w | --width) _pgn_extract_without --pack ;;
+    --set) _pgn_extract_without --list --fen --next --rows --csv --tsv --jsonl --no-header \
+        --packed --index --moves --uci --pack --faulty --as-is ;;
+    --drop) _pgn_extract_without --list --fen --next --rows --csv --tsv --jsonl --no-header \
+        --packed --index --moves --uci --pack --faulty --as-is ;;
+    --fix-results) _pgn_extract_without --list --fen --next --rows --csv --tsv --jsonl --no-header \
+        --packed --index --moves --uci --pack --faulty --as-is ;;
     --progress) _pgn_extract_without --no-progress ;;
     --no-progress) _pgn_extract_without --progress ;;
     --from) _pgn_extract_without --packed ;;

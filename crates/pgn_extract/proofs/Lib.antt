@@ -15,9 +15,11 @@ pub mod Finds
 pub mod GameExport
 pub mod PackedFacts
 pub mod OneListing
+pub mod OpeningCells
 pub mod Picks
 pub mod Decided
 pub mod SomeCounted
+pub mod SomeEdited
 pub mod SomeReport
 pub mod StopNotes
 pub mod TagsFirst

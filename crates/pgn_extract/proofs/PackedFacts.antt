@@ -4,7 +4,7 @@ use Rattle.pgn_extract.proofs.Common.{◌≡◌, ◌⊎◌, ℕ, ◌+◌, ◌*�
 use Rattle.pgn_extract.proofs.Common.{◌++◌, length, false, IsTrue, or_some, false≢true, decimal}
 use Rattle.pgn_extract.proofs.Common.{GameId, Option, AreChosen, plies_of, none}
 use Rattle.pgn_extract.proofs.Common.{keep, leave, Bool, not, ◌&&◌, refl, aim_of}
-use Rattle.pgn_extract.proofs.Common.{Some, sym, ap, ◌∙◌, subst, append-nil, arith, slice_get}
+use Rattle.pgn_extract.proofs.Common.{Some, None, sym, ap, ◌∙◌, subst, append-nil, arith, slice_get}
 use Rattle.pgn_extract.proofs.Common.{same_Some, State, Move, GameText, tag_in, main_words}
 use Rattle.pgn_extract.proofs.Common.{IsMainLine, RawRecord, raw_of, PackedGame, FitsRecord}
 use Rattle.pgn_extract.proofs.Common.{AreMarks, Replay, fen_tag, IsStart, Main, head_shows}
@@ -26,6 +26,8 @@ use Rattle.pgn_extract.specs.declared.settings.Fields.{Fields}
 use Rattle.pgn_extract.specs.declared.settings.Settings.{Settings}
 use Rattle.pgn_extract.proofs.Finds.{adds_lines, some_chosen}
 use Rattle.pgn_extract.proofs.Picks.{leaves_all}
+use Rattle.pgn_extract.proofs.Common.{IsOfGame}
+use Rattle.pgn_extract.proofs.OneMain.{one_main}
 use Rattle.pgn_extract.specs.declared.settings.Mode.TheVariants as modes
 
 -- ---- the start
@@ -158,8 +160,8 @@ none_listed aim raw fields line lists game replay packed own n within entry =
     (IsShownOf (record_aim aim raw) (raw_id raw) game replay) 0 replay.positions entries listed in
     no_lines raw.name (raw_id raw) (IsEntry aim (heading_of game) replay)
     (IsShownOf (record_aim aim raw) (raw_id raw) game replay)
-    (λ ply shown is. is_marked aim.line fields line (place_of raw.name (raw_id raw) game replay ply)
-    shown is)
+    (λ ply shown is. is_marked aim.line fields line
+    (place_of raw.name None (raw_id raw) game replay ply) shown is)
     (plies_of 0 replay.positions) entries listed (sym text)
     (some.1 (n, omega arith, omega (arith, within), entry))
 
@@ -247,3 +249,15 @@ plies_counted {raw} {game} {replay} {packed} own =
     let bytes : length raw.plies ≡ 3 * length packed.plies =
     ap (λ (r : RawRecord). length r.plies) (sym own.shows) ∙ plies_size packed.plies in
     omega (arith, size, codes, bytes)
+
+-- and so many moves has each replay of the game
+pub moves_counted : {raw : RawRecord} {game : GameText} {replay : Replay} {packed : PackedGame}
+    → IsOfRecord raw game replay packed → (other : Replay) → IsOfGame game other
+    → length other.played ≡ length raw.plies / 3
+moves_counted {raw} {game} {replay} {packed} own other is =
+    let codes = codes_count own.kept.start replay.played packed.plies own.kept.plies in
+    let bytes : length raw.plies ≡ 3 * length packed.plies =
+    ap (λ (r : RawRecord). length r.plies) (sym own.shows) ∙ plies_size packed.plies in
+    let same : length replay.played ≡ length other.played =
+    ap length (one_main game replay other (Main, own.is_replay) is).1 in
+    omega (arith, codes, bytes, same)

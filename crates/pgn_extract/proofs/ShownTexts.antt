@@ -2,9 +2,8 @@
 use Rattle.std.specs.Prelude.{Option, Some, None, flat_map}
 use Rattle.pgn_extract.proofs.Common.{◌≡◌, ◌<◌, ℕ, true, List, [], ◌∷◌, length, refl, sym, ap}
 use Rattle.pgn_extract.proofs.Common.{◌∙◌, subst, MatchOption, slice_get, same_Some, State, Move}
-use Rattle.pgn_extract.proofs.Common.{GameText, IsGameText, tag_in, heading_of, IsSan, Replay}
-use Rattle.pgn_extract.proofs.Common.{IsReplay, Lines, Aim, GameId, IsEntry}
-use Rattle.pgn_extract.proofs.Common.{AreListed, Entry, plies_of, fen_tag}
+use Rattle.pgn_extract.proofs.Common.{GameText, IsGameText, tag_in, IsSan, Replay}
+use Rattle.pgn_extract.proofs.Common.{IsReplay, Lines, GameId, fen_tag}
 use Rattle.chess.specs.Public.Placements.{AreOnBoard}
 use Rattle.chess.proofs.FenOneText.{one_fen, some_fen}
 use Rattle.chess.proofs.SanOnce.{one_san}
@@ -12,15 +11,19 @@ use Rattle.pgn_game.proofs.AnAnswer.{start_on_board}
 use Rattle.pgn_game.proofs.OnBoard.{line_on_board}
 use Rattle.pgn_game.proofs.OneReplay.{same_value}
 use Rattle.pgn_game.specs.Public.MainLines.{main_words}
+use Rattle.pgn_game.specs.Public.Openings.{NamedLine}
 use Rattle.pgn_text.specs.Public.Strings.{IsContents, value_of_sign}
 use Rattle.pgn_extract.specs.Public.Annotations.{annotations_at}
-use Rattle.pgn_extract.specs.Public.Listing.{Shown, AfterPly, AsRow, IsShownBy, IsShownOf}
+use Rattle.pgn_extract.specs.Public.Listing.{Shown, AfterPly, AsRow, IsShownBy}
 use Rattle.pgn_extract.specs.Private.Lines.{is_bare}
 use Rattle.pgn_extract.specs.Public.Rows.{RowPlace, place_of, IsTagCell, IsPositionCell}
-use Rattle.pgn_extract.specs.Public.Rows.{IsAt, IsPlyCell, IsCell, AreCells, row_text}
+use Rattle.pgn_extract.specs.Public.Rows.{IsAt, IsPlyCell, IsGameCell, IsCell, AreCells, row_text}
 use Rattle.pgn_extract.specs.declared.rows.column.Column.{Column}
 use Rattle.pgn_extract.specs.declared.rows.column.Column.TheVariants.{Tag, OfGame, OfPly}
 use Rattle.pgn_extract.specs.declared.rows.column.Column.TheVariants.{OfAnnotations}
+use Rattle.pgn_extract.specs.declared.rows.column.GameColumn.{GameColumn}
+use Rattle.pgn_extract.specs.declared.rows.column.GameColumn.TheVariants.{File, Game, Offset, Id}
+use Rattle.pgn_extract.specs.declared.rows.column.GameColumn.TheVariants.{Result, OpeningPly}
 use Rattle.pgn_extract.specs.declared.rows.column.PlyColumn.{PlyColumn}
 use Rattle.pgn_extract.specs.declared.rows.column.PlyColumn.TheVariants.{Ply, OfPosition, Next}
 use Rattle.pgn_extract.specs.declared.rows.column.PlyColumn.TheVariants.{NextUci, OfLine}
@@ -29,13 +32,13 @@ use Rattle.pgn_extract.specs.declared.rows.column.PositionColumn.TheVariants.{Fe
 use Rattle.pgn_extract.specs.declared.rows.column.PositionColumn.TheVariants.{Men, Check, Material}
 use Rattle.pgn_extract.specs.declared.settings.EntryLine.{EntryLine}
 use Rattle.pgn_extract.specs.declared.settings.EntryLine.TheVariants.{Marked, InColumns}
-use Rattle.pgn_extract.proofs.Chosen.{shown_so}
 use Rattle.pgn_extract.proofs.entries.AnnotationFacts.{annotation_is, one_annotation_cell}
 use Rattle.pgn_extract.proofs.PositionTexts.{one_men_text, some_men_text, one_check_text}
 use Rattle.pgn_extract.proofs.PositionTexts.{some_check_text}
 use Rattle.pgn_extract.proofs.FieldTexts.{one_text, some_fields, no_fields, some_position}
 use Rattle.pgn_extract.proofs.FieldTexts.{some_move_text}
 use Rattle.pgn_extract.proofs.MoveCells.{one_line_cell, some_line_cell}
+use Rattle.pgn_extract.proofs.OpeningCells.{one_opening_cell, some_opening_cell}
 
 -- One cell.
 
@@ -72,11 +75,21 @@ one_ply_cell Next replay ply x y first other =
     one_move_cell (slice_get replay.played ply) replay ply x y first other
 one_ply_cell NextUci replay ply x y first other = first ∙ sym other
 
+one_game_cell : (own : GameColumn) (place : RowPlace) (x y : List ℕ) → IsGameCell own place x
+    → IsGameCell own place y → x ≡ y
+one_game_cell File place x y first other = first ∙ sym other
+one_game_cell Game place x y first other = first ∙ sym other
+one_game_cell Offset place x y first other = first ∙ sym other
+one_game_cell Id place x y first other = first ∙ sym other
+one_game_cell Result place x y first other = first ∙ sym other
+one_game_cell OpeningPly place x y first other =
+    one_opening_cell place.openings place.replay.positions x y first other
+
 one_cell : (column : Column) (place : RowPlace) (x y : List ℕ) → IsCell column place x
     → IsCell column place y → x ≡ y
 one_cell (Tag name) place x y first other =
     one_tag_cell (place.heading.named name.items) x y first other
-one_cell (OfGame own) place x y first other = first ∙ sym other
+one_cell (OfGame own) place x y first other = one_game_cell own place x y first other
 one_cell (OfPly own) place x y first other =
     one_ply_cell own place.replay place.ply x y first other
 one_cell (OfAnnotations own) place x y first other =
@@ -123,54 +136,65 @@ some_of_position Material P on_board = (_, refl)
 module _ (game : GameText) (good : IsGameText game) (lines : Lines) (replay : Replay)
     (is : IsReplay lines (tag_in fen_tag game.tags) game.elements replay) (ply : ℕ)
     (within : ply < length replay.positions) where
+  on_board : (i : ℕ) (P : State) → slice_get replay.positions i ≡ Some P → AreOnBoard P.men
+  on_board =
+      line_on_board (main_words game.elements 0) is.start replay.positions replay.played
+      (start_on_board (tag_in fen_tag game.tags) is.start is.is_start) is.line
+
   some_ply_cell : (own : PlyColumn) → (cell : List ℕ) × IsPlyCell own replay ply cell
   some_ply_cell Ply = (_, refl)
   some_ply_cell (OfPosition own) =
       let at = some_position replay.positions ply within in
-      let start = start_on_board (tag_in fen_tag game.tags) is.start is.is_start in
-      let on_board = line_on_board (main_words game.elements 0) is.start replay.positions
-      replay.played start is.line ply at.0 at.1 in
-      let cell = some_of_position own at.0 on_board in
+      let cell = some_of_position own at.0 (on_board ply at.0 at.1) in
       (cell.0, (at.0, at.1, cell.1))
   some_ply_cell (OfLine own) =
       some_line_cell lines (tag_in fen_tag game.tags) game.elements replay is own ply
   some_ply_cell Next = some_move_text lines (tag_in fen_tag game.tags) game.elements replay is ply
   some_ply_cell NextUci = (_, refl)
 
-  some_cell : (name : Option (List ℕ)) (id : GameId) (column : Column)
-      → (cell : List ℕ) × IsCell column (place_of name id game replay ply) cell
-  some_cell name id (Tag own) =
-      some_tag_cell (tag_in own.items game.tags) (λ contents. good.strings own.items contents)
-  some_cell name id (OfGame own) = (_, refl)
-  some_cell name id (OfPly own) = some_ply_cell own
-  some_cell name id (OfAnnotations own) = (_, annotation_is own (annotations_at game.elements ply))
+  module _ (name : Option (List ℕ)) (openings : Option (List NamedLine)) (id : GameId) where
+    abbrev place : RowPlace
+    place = place_of name openings id game replay ply
 
-  some_cells : (name : Option (List ℕ)) (id : GameId) (columns : List Column)
-      → (cells : List (List ℕ)) × AreCells columns (place_of name id game replay ply) cells
-  some_cells name id [] = ([], refl)
-  some_cells name id (column ∷ columns) =
-      let own = some_cell name id column in
-      let more = some_cells name id columns in
-      (own.0 ∷ more.0, (own.0, more.0, refl, own.1, more.1))
+    some_game_cell : (own : GameColumn) → (cell : List ℕ) × IsGameCell own place cell
+    some_game_cell File = (_, refl)
+    some_game_cell Game = (_, refl)
+    some_game_cell Offset = (_, refl)
+    some_game_cell Id = (_, refl)
+    some_game_cell Result = (_, refl)
+    some_game_cell OpeningPly = some_opening_cell openings replay.positions on_board
 
-  some_of_line : (line : EntryLine) (name : Option (List ℕ)) (id : GameId)
-      → (shown : Shown) × IsShownBy line (place_of name id game replay ply) shown
-  some_of_line (Marked fields) name id =
-      let text = some_fields fields lines (tag_in fen_tag game.tags) game.elements replay is ply
-      within in
-      (AfterPly text.0, (text.0, text.1, refl))
-  some_of_line (InColumns row) name id =
-      let cells = some_cells name id row.columns.items in
-      (AsRow (row_text row.format row.columns.items cells.0), (_, (cells.0, cells.1, refl), refl))
+    some_cell : (column : Column) → (cell : List ℕ) × IsCell column place cell
+    some_cell (Tag own) =
+        some_tag_cell (tag_in own.items game.tags) (λ contents. good.strings own.items contents)
+    some_cell (OfGame own) = some_game_cell own
+    some_cell (OfPly own) = some_ply_cell own
+    some_cell (OfAnnotations own) = (_, annotation_is own (annotations_at game.elements ply))
+
+    some_cells : (columns : List Column) → (cells : List (List ℕ)) × AreCells columns place cells
+    some_cells [] = ([], refl)
+    some_cells (column ∷ columns) =
+        let own = some_cell column in
+        let more = some_cells columns in
+        (own.0 ∷ more.0, (own.0, more.0, refl, own.1, more.1))
+
+    some_of_line : (line : EntryLine) → (shown : Shown) × IsShownBy line place shown
+    some_of_line (Marked fields) =
+        let text = some_fields fields lines (tag_in fen_tag game.tags) game.elements replay is ply
+        within in
+        (AfterPly text.0, (text.0, text.1, refl))
+    some_of_line (InColumns row) =
+        let cells = some_cells row.columns.items in
+        (AsRow (row_text row.format row.columns.items cells.0), (_, (cells.0, cells.1, refl), refl))
 
 -- and there is one for each ply of a main line
-pub some_shown : (line : EntryLine) (name : Option (List ℕ)) (id : GameId) (game : GameText)
-    → IsGameText game → (lines : Lines) (replay : Replay)
+pub some_shown : (line : EntryLine) (name : Option (List ℕ)) (openings : Option (List NamedLine))
+    (id : GameId) (game : GameText) → IsGameText game → (lines : Lines) (replay : Replay)
     → IsReplay lines (tag_in fen_tag game.tags) game.elements replay → (ply : ℕ)
     → ply < length replay.positions
-    → (shown : Shown) × IsShownBy line (place_of name id game replay ply) shown
-some_shown line name id game good lines replay is ply within =
-    some_of_line game good lines replay is ply within line name id
+    → (shown : Shown) × IsShownBy line (place_of name openings id game replay ply) shown
+some_shown line name openings id game good lines replay is ply within =
+    some_of_line game good lines replay is ply within name openings id line
 
 -- Nothing but the mark and the ply.
 
@@ -179,21 +203,3 @@ pub nothing_shown : (line : EntryLine) → is_bare line ≡ true → (place : Ro
 nothing_shown (Marked fields) bare place =
     ([], no_fields fields bare place.replay place.ply, refl)
 nothing_shown (InColumns row) bare place = absurd (cc)
-
--- so the name does not matter
-bare_shown : (line : EntryLine) → is_bare line ≡ true → (name other : Option (List ℕ)) (id : GameId)
-    (game : GameText) (replay : Replay) (ply : ℕ) (shown : Shown)
-    → IsShownBy line (place_of name id game replay ply) shown
-    → IsShownBy line (place_of other id game replay ply) shown
-bare_shown (Marked fields) bare name other id game replay ply shown is = is
-bare_shown (InColumns row) bare name other id game replay ply shown is = absurd (cc)
-
-pub listed_bare : (aim : Aim) (name : Option (List ℕ)) (id : GameId) (game : GameText)
-    (replay : Replay) (entries : List Entry) → is_bare aim.line ≡ true
-    → AreListed (record aim { name = name }) id game replay entries
-    → AreListed aim id game replay entries
-listed_bare aim name id game replay entries bare listed =
-    shown_so id (IsEntry aim (heading_of game) replay)
-    (IsShownOf (record aim { name = name }) id game replay) (IsShownOf aim id game replay)
-    (λ ply shown. bare_shown aim.line bare name aim.name id game replay ply shown)
-    (plies_of 0 replay.positions) entries listed

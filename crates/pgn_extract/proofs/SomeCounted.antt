@@ -1,32 +1,25 @@
 -- Some parts that make a game count as one, whatever lines of openings are given.
 use Rattle.std.proofs.Common.{◌≡◌, ◌⊎◌, ◌<◌, ℕ, zero, suc, List, [], ◌∷◌, ◌++◌, Option, Some, None}
-use Rattle.std.proofs.Common.{Bool, true, false, inl, inr, refl, sym, ap, subst, ◌∙◌, arith, length}
-use Rattle.std.proofs.Common.{◌↔◌, ◌==◌, IfSome, IsTrue, codes, bytes_eq, if◌then◌else◌}
-use Rattle.std.specs.FinMap.{FinMap, entries, entries_sorted, from_entries, get, insert}
-use Rattle.std.specs.FinMap.{get-entries, get-from_entries, get-insert, get-remove, remove}
-use Rattle.std.specs.List.{list_all, slice_get}
+use Rattle.std.proofs.Common.{inl, inr, refl, sym, ap, subst, ◌∙◌, arith, length}
+use Rattle.std.proofs.Common.{IfSome, codes, bytes_eq}
+use Rattle.std.specs.List.{slice_get}
 use Rattle.std.proofs.lemmas.Option.{same_Some}
 use Rattle.std.proofs.lemmas.List.{append-nil, append_assoc}
 use Rattle.pgn_extract.proofs.Common.{GameText, IsGameText, Part, Replay, Fault, Lines, Main}
 use Rattle.pgn_extract.proofs.Common.{tag_in, fen_tag, IsReplayOf, IsFaultOf, IsGameOf}
 use Rattle.pgn_extract.specs.Public.Listing.{IsCounted}
 use Rattle.pgn_extract.proofs.Counting.{same_opening}
+use Rattle.pgn_extract.proofs.SomeEdited.{contents_or_not, some_edited}
+use Rattle.pgn_game.specs.Public.Edits.{AreEditable, EditedTag, IsEditable}
 use Rattle.chess.proofs.SameSettled.{settled_same}
 use Rattle.chess.proofs.Settled.{Settled, settled_like}
 use Rattle.chess.specs.Public.Keys.{IsSamePosition}
 use Rattle.chess.specs.Public.Placements.{AreOnBoard}
 use Rattle.chess.specs.Public.Positions.{State}
-use Rattle.pgn_text.proofs.SortedTags.{name_cmp, names_of_sorted, find-tag_in}
-use Rattle.pgn_text.proofs.Values.{is_contents-none, is_contents-some}
-use Rattle.pgn_text.proofs.Common.{is_eq, is_eq-slice_cmp, is_name_byte, nat_list_cmp_total}
-use Rattle.std.proofs.Common.{cond}
-use Rattle.std.proofs.lemmas.Cmp.{nat_list_eq_equiv}
-use Rattle.pgn_text.specs.Shared.StringTexts.{contents_front}
-use Rattle.pgn_text.proofs.TagLemmas.{bytes_eq-same}
 use Rattle.pgn_text.specs.Public.Strings.{IsContents}
 use Rattle.pgn_game.proofs.AnAnswer.{game_answer, start_on_board}
 use Rattle.pgn_game.specs.Public.Openings.{NamedLine, EndsIn, HasContents, HasOpening, IsClassified}
-use Rattle.pgn_game.specs.Public.Openings.{IsFirstIn, IsOpeningLine, IsNamedBy, IsOpeningIn}
+use Rattle.pgn_game.specs.Public.Openings.{IsFirstIn, IsOpeningLine, IsOpeningIn}
 use Rattle.pgn_game.specs.Public.Openings.{IsTaggedBy, ends_of, unless_empty}
 use Rattle.pgn_game.specs.declared.openings.Opening.{Opening}
 use Rattle.pgn_game.proofs.NoOpening.{none_there, none_of_faulty, as_it_stands, line_within}
@@ -73,7 +66,8 @@ first_end (Q ∷ ends) P on_board = elim (same_or_other Q P on_board) [
         by zero less there = not_here other there
         by (suc before) less there = first.1 before (omega arith) there
 
-some_opening : (ends seen left : List State) (found : Option Opening)
+-- positions have an opening or none, where some of them have
+pub some_opening : (ends seen left : List State) (found : Option Opening)
     → ((i : ℕ) (P : State) → slice_get left i ≡ Some P → AreOnBoard P.men)
     → IsOpeningIn ends seen found → (last : Option Opening) × IsOpeningIn ends (seen ++ left) last
 some_opening ends seen [] found on_board is =
@@ -93,19 +87,6 @@ some_opening ends seen (P ∷ left) found on_board is =
 
 -- ---- the tags of a line
 
-contents_or_not : (text : List ℕ) → IsContents text ⊎ (IsContents text → ⊥)
-contents_or_not text = by (contents_front false text) refl
-  where
-    either : (r : Bool) → IsTrue r ↔ IsContents text → IsContents text ⊎ (IsContents text → ⊥)
-    either true is = inl (is.0 refl)
-    either false is = inr (λ good. let no = is.1 good in cc)
-
-    by : (read : Option (List ℕ × List ℕ)) → read ≡ contents_front false text
-        → IsContents text ⊎ (IsContents text → ⊥)
-    by None read = either false (is_contents-none text read)
-    by (Some (front, rest)) read =
-        either (length rest == 0) (is_contents-some text front rest (length rest == 0) read refl)
-
 named_or_not : (line : NamedLine) → HasContents line ⊎ (HasContents line → ⊥)
 named_or_not line = elim (contents_or_not line.code) [
   | inr bad ↦ inr (λ good. bad good.code)
@@ -122,110 +103,48 @@ held : (text : List ℕ) → IsContents text → IfSome (unless_empty text) IsCo
 held [] good = tt
 held (byte ∷ more) good = good
 
--- tags with other contents under a name, or no tag of that name
-abbrev changed : FinMap name_cmp (List ℕ) → List ℕ → Option (List ℕ) → FinMap name_cmp (List ℕ)
-changed tags name None = remove tags name
-changed tags name (Some text) = insert tags name text
+-- the edits that give a game the tags of a line, of which the last of a name counts
+abbrev line_edits : NamedLine → List EditedTag
+line_edits line =
+    record { name = codes "Variation"; contents = unless_empty line.variation }
+    ∷ record { name = codes "Opening"; contents = unless_empty line.name }
+    ∷ record { name = codes "ECO"; contents = unless_empty line.code }
+    ∷ []
 
-same_name : (name wanted : List ℕ) → is_eq (name_cmp wanted name) ≡ bytes_eq name wanted
-same_name name wanted = is_eq-slice_cmp wanted name ∙ nat_list_eq_equiv.symm wanted name
-
-as_if : {A : Type 0} (test : Bool) (x y : A) → cond test x y ≡ (if test then x else y)
-as_if true x y = refl
-as_if false x y = refl
-
-found : (tags : FinMap name_cmp (List ℕ)) (name : List ℕ) (contents : Option (List ℕ))
-    (wanted : List ℕ) → get (changed tags name contents) wanted
-    ≡ (if bytes_eq name wanted then contents else get tags wanted)
-found tags name None wanted = get-remove nat_list_cmp_total tags name wanted
-    ∙ ap (λ v. cond v None (get tags wanted)) (same_name name wanted)
-    ∙ as_if (bytes_eq name wanted) None (get tags wanted)
-found tags name (Some text) wanted = get-insert nat_list_cmp_total tags name text wanted
-    ∙ ap (λ v. cond v (Some text) (get tags wanted)) (same_name name wanted)
-    ∙ as_if (bytes_eq name wanted) (Some text) (get tags wanted)
-
-abbrev own_tags : GameText → FinMap name_cmp (List ℕ)
-own_tags game = from_entries {R = name_cmp} game.tags
-
-abbrev tags_by : NamedLine → GameText → FinMap name_cmp (List ℕ)
-tags_by line game =
-    changed (changed (changed (own_tags game) (codes "Variation") (unless_empty line.variation))
-    (codes "Opening") (unless_empty line.name)) (codes "ECO") (unless_empty line.code)
-
-abbrev tagged : NamedLine → GameText → GameText
-tagged line game = record game { tags = entries (tags_by line game) }
-
-is_tagged : (line : NamedLine) (game : GameText) → IsTaggedBy (Some line) game (tagged line game)
-is_tagged line game = record {
-  place = refl;
-  text = refl;
-  tags = λ wanted. sym (find-tag_in wanted (entries (tags_by line game)))
-      ∙ sym (get-entries (tags_by line game) wanted)
-      ∙ found _ (codes "ECO") (unless_empty line.code) wanted
-      ∙ ap (λ o. if bytes_eq (codes "ECO") wanted then unless_empty line.code else o)
-      (found _ (codes "Opening") (unless_empty line.name) wanted
-      ∙ ap (λ o. if bytes_eq (codes "Opening") wanted then unless_empty line.name else o)
-      (found _ (codes "Variation") (unless_empty line.variation) wanted
-      ∙ ap (λ o. if bytes_eq (codes "Variation") wanted then unless_empty line.variation else o)
-      (get-from_entries nat_list_cmp_total game.tags wanted ∙ find-tag_in wanted game.tags)));
-  elements = refl;
-  result = refl;
-}
-
--- what holds of each tag of the game and of the three of the line holds of each that it then has
-each_tag : (Fact : List ℕ → List ℕ → Type 0) (line : NamedLine) (game : GameText)
-    → ((name own : List ℕ) → tag_in name game.tags ≡ Some own → Fact name own)
-    → IfSome (unless_empty line.code) (Fact (codes "ECO"))
-    → IfSome (unless_empty line.name) (Fact (codes "Opening"))
-    → IfSome (unless_empty line.variation) (Fact (codes "Variation"))
-    → (name own : List ℕ) → tag_in name (tagged line game).tags ≡ Some own → Fact name own
-each_tag Fact line game each code opening variation name own here =
-    by (bytes_eq (codes "ECO") name) refl (bytes_eq (codes "Opening") name) refl
-    (bytes_eq (codes "Variation") name) refl (sym ((is_tagged line game).tags name) ∙ here)
-  where
-    given : (tag : List ℕ) (contents : Option (List ℕ)) → IfSome contents (Fact tag)
-        → bytes_eq tag name ≡ true → contents ≡ Some own → Fact name own
-    given tag None fact same is = absurd (cc)
-    given tag (Some text) fact same is =
-        subst (λ n. Fact n own) (bytes_eq-same tag name same)
-        (subst (Fact tag) (same_Some text own is) fact)
-
-    by : (a : Bool) → bytes_eq (codes "ECO") name ≡ a → (b : Bool)
-        → bytes_eq (codes "Opening") name ≡ b → (c : Bool)
-        → bytes_eq (codes "Variation") name ≡ c
-        → (if a then unless_empty line.code else (if b then unless_empty line.name
-        else (if c then unless_empty line.variation else tag_in name game.tags))) ≡ Some own
-        → Fact name own
-    by true same b _ c _ is = given (codes "ECO") (unless_empty line.code) code same is
-    by false _ true same c _ is = given (codes "Opening") (unless_empty line.name) opening same is
-    by false _ false _ true same is =
-        given (codes "Variation") (unless_empty line.variation) variation same is
-    by false _ false _ false _ is = each name own is
-
-named : (contents : Option (List ℕ)) (name : List ℕ) → IsTrue (list_all is_name_byte name)
-    → IfSome contents (λ _. IsTrue (list_all is_name_byte name))
-named None name good = tt
-named (Some text) name good = good
+-- they may be made
+line_may : (line : NamedLine) → HasContents line → AreEditable (line_edits line)
+line_may line good zero edit here = subst IsEditable (same_Some _ edit here) (record {
+  name = refl;
+  start = λ same. let differ = ap (λ name. bytes_eq name fen_tag) same in cc;
+  contents = held line.variation good.variation;
+})
+line_may line good (suc zero) edit here = subst IsEditable (same_Some _ edit here) (record {
+  name = refl;
+  start = λ same. let differ = ap (λ name. bytes_eq name fen_tag) same in cc;
+  contents = held line.name good.name;
+})
+line_may line good (suc (suc zero)) edit here = subst IsEditable (same_Some _ edit here) (record {
+  name = refl;
+  start = λ same. let differ = ap (λ name. bytes_eq name fen_tag) same in cc;
+  contents = held line.code good.code;
+})
+line_may line good (suc (suc (suc place))) edit here = absurd (cc)
 
 -- a game with the tags of a line
 some_tagged : (line : NamedLine) (game : GameText) → HasContents line → IsGameText game
     → (other : GameText) × IsGameText other × IsTaggedBy (Some line) game other
-some_tagged line game contents good = (
-  tagged line game,
-  record {
-    ordered = names_of_sorted (entries (tags_by line game)) (entries_sorted (tags_by line game));
-    strings = each_tag (λ _ text. IsContents text) line game good.strings
-        (held line.code contents.code) (held line.name contents.name)
-        (held line.variation contents.variation);
-    names = each_tag (λ name _. IsTrue (list_all is_name_byte name)) line game good.names
-        (named (unless_empty line.code) (codes "ECO") refl)
-        (named (unless_empty line.name) (codes "Opening") refl)
-        (named (unless_empty line.variation) (codes "Variation") refl);
-    paired = good.paired;
-    ends = good.ends;
-  },
-  is_tagged line game,
-)
+some_tagged line game contents good =
+    let some = some_edited (line_edits line) game good (line_may line contents) in (
+      some.0,
+      some.1,
+      record {
+        place = some.2.place;
+        text = some.2.text;
+        tags = some.2.tags;
+        elements = some.2.elements;
+        result = some.2.result;
+      },
+    )
 
 -- ---- the game as it counts
 

@@ -2,15 +2,15 @@
 -- its FEN tag has the contents of a string,
 -- and each sound one has an export.
 use Rattle.std.proofs.Common.{◌≡◌, ◌⊎◌, ℕ, zero, suc, arith, ◌+◌, ◌<◌, ◌≤◌, ◌==◌, Bool, true, false}
-use Rattle.std.proofs.Common.{List, [], ◌∷◌, ◌++◌, map, length, Option, Some, None, IfSome, refl}
+use Rattle.std.proofs.Common.{List, [], ◌∷◌, ◌++◌, map, length, refl}
 use Rattle.std.proofs.Common.{ap, sym, subst, inl, inr, codes}
 use Rattle.pgn_extract.proofs.Common.{cases_lt, cases_Bool, both_ways, PieceKind, ReadableGame}
 use Rattle.pgn_extract.proofs.Common.{UnreadableRest, TooLongBlock, MarkedPiece, marked, AreOfBlock}
 use Rattle.pgn_extract.proofs.Common.{over, within, AreOfBlocks, AreMarkedPieces, GameText}
 use Rattle.pgn_extract.proofs.Common.{IsGameText, ShowsGame, tag_in, Part, spelled, lines_with}
-use Rattle.pgn_extract.proofs.Common.{Fault, Lines, Main, fen_tag, id_of, IfChosen, is_chosen}
+use Rattle.pgn_extract.proofs.Common.{Lines, Main, fen_tag, id_of, IfChosen, is_chosen}
 use Rattle.pgn_extract.proofs.Common.{fault_text, mark_line, IsGameOf, listing, plies_of}
-use Rattle.pgn_extract.proofs.Common.{cause_text, IsReplayOf, IsFaultOf, Form, Standard, AsItStands}
+use Rattle.pgn_extract.proofs.Common.{cause_text, IsReplayOf, Form, Standard, AsItStands}
 use Rattle.pgn_extract.proofs.Common.{Line, Record, line_with, lines_in, written_lines, HasEntry}
 use Rattle.pgn_extract.proofs.Common.{IsTextOf, IsWritten, selected, unselected, as_it_stands}
 use Rattle.pgn_extract.proofs.Common.{faulty_text, Verdict, SoundGame, FaultyGame, IsOutput}
@@ -20,10 +20,9 @@ use Rattle.pgn_extract.proofs.Common.{AreVerdicts, replayed_lines, IsPieceVerdic
 use Rattle.pgn_extract.proofs.Common.{IsUnreadableVerdict, Replay, Heading, heading_of, Aim, GameId}
 use Rattle.pgn_extract.proofs.Common.{IsMet, IsWanted, IsEntry, Mode}
 use Rattle.pgn_text.specs.Public.Pieces.{Piece, Game, Unreadable, ArePieces}
-use Rattle.pgn_text.specs.Public.Strings.{IsContents}
 use Rattle.pgn_text.proofs.ShownGame.{some_game_text}
-use Rattle.pgn_game.proofs.AnAnswer.{game_answer}
 use Rattle.pgn_game.proofs.SomeExport.{some_export}
+use Rattle.pgn_extract.proofs.SomeEdited.{some_edited_export}
 use Rattle.pgn_game.proofs.SomeRecord.{a_record}
 use Rattle.pgn_game.proofs.GameLineFacts.{some_line}
 use Rattle.pgn_extract.specs.Public.Laws.{TextHasAReport}
@@ -176,8 +175,9 @@ module _ (aim : Aim) (decided : IsDecided aim) (id : GameId) (game : GameText)
   some_text : (form : Form) (replay : Replay) → IsReplayOf (lines_in form aim.style) game replay
       → (own : List ℕ) × IsTextOf form aim id game own
   some_text Standard replay is =
-      some_export aim.style game replay text
-      (lines_with aim.style.variations, (λ kept. ap lines_with kept), is)
+      some_edited_export aim.edits aim.style game text (λ own good elements fen.
+      some_export aim.style own replay good
+      (lines_with aim.style.variations, (λ kept. ap lines_with kept), rw (fen, elements) is))
   some_text AsItStands replay is = (as_it_stands game.text, refl)
   some_text (Line notation) replay is =
       let own = some_line notation (tag_in fen_tag game.tags) game.elements (replay, is) in
@@ -201,7 +201,7 @@ module _ (aim : Aim) (decided : IsDecided aim) (id : GameId) (game : GameText)
       (plies_of 0 replay.positions)
       (λ ply has. listed_or_not Main replay is ply (within_plies replay.positions ply has))
       (λ ply has.
-      some_shown aim.line aim.name id game text Main replay is
+      some_shown aim.line aim.name aim.openings id game text Main replay is
       ply (within_plies replay.positions ply has)) in
       (listing aim.name some.0, (some.0, some.1, refl))
 

@@ -5,3 +5,4 @@ pub mod SeveralFacts
 pub mod SeveralPackFacts
 pub mod StoppedFiles
 pub mod OpeningLines
+pub mod EditTexts

@@ -1,4 +1,5 @@
 pub mod ChoiceRows
+pub mod EditExamples
 pub mod Examples
 pub mod LineRows
 pub mod ReportExamples

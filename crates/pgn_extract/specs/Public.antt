@@ -2,6 +2,7 @@
 pub mod GivenMarks
 pub mod Choices
 pub mod Aims
+pub mod AskedEdits
 pub mod Requests
 pub mod Index
 pub mod Csv

@@ -7,6 +7,7 @@ mod chosen_marks;
 pub mod command;
 mod conditions;
 mod debians;
+pub mod edits;
 mod endings;
 pub(crate) mod files;
 pub(crate) mod header;
@@ -21,16 +22,17 @@ mod prefix;
 pub mod status;
 
 use crate::app::chosen_marks::{MarkNames, MarksFile, Unmarked, read_marks};
-use crate::app::command::read_arguments;
+use crate::app::command::{Request, read_arguments};
 use crate::app::conditions::push_lines;
 use crate::app::debians::debians_option;
+use crate::app::edits::{edit_line, read_edits};
 use crate::app::endings::{
     flush_rest, line_of, put_summary, report_bytes, report_failure, report_line,
 };
 use crate::app::files::{Files, Task, Total, name_file, run_files, run_input};
 use crate::app::header::{RefusedColumns, put_header, read_row};
 use crate::app::openings::{BadOpenings, MOST_BYTES, read_openings};
-use crate::app::order::{Order, accept, has_names, settings_of};
+use crate::app::order::{Given, Order, accept, has_names, settings_of};
 use crate::app::outputs::refuse_outputs;
 use crate::app::packs::{PackTask, search_packs};
 use crate::app::prefix::read_prefix;
@@ -43,7 +45,7 @@ use crate::rows::column::Row;
 use clap::Error;
 use clap::error::ErrorKind;
 use pgn_criteria::{Criteria, CriteriaError};
-use pgn_game::Openings;
+use pgn_game::{Openings, TagEdits};
 use pgn_text::Tally;
 use std::alloc::{AllocError, Global};
 use std::io;
@@ -173,6 +175,14 @@ fn row_of(alloc: Global, order: &Order<'_>) -> Result<Option<Row>, Refusal>
         Err(RefusedColumns::Line(line)) => Err(Refusal::Line(line)),
         Err(RefusedColumns::Named(line)) => Err(Refusal::Text(line)),
         Err(RefusedColumns::OutOfMemory) => Err(Refusal::OutOfMemory),
+    }
+}
+
+/// The edits that are asked for, if some are.
+fn edits_of(alloc: Global, request: &Request<'_>) -> Result<Option<TagEdits>, Refusal> {
+    match read_edits(alloc, request) {
+        Ok(edits) => Ok(edits),
+        Err(fault) => Err(Refusal::Text(edit_line(alloc, &fault)?)),
     }
 }
 
@@ -342,6 +352,49 @@ fn open_input<'a, F: Files>(
     }
 }
 
+/// What is read for a run before its input is opened, and the lines of the file of marks that have
+/// none.
+fn read_given<F: Files>(
+    alloc: Global,
+    files: &mut F,
+    order: &Order<'_>,
+) -> Result<(Given, Option<Unmarked>), Refusal>
+where
+    F::Input: Drop,
+    ensures { IfOk result (λ read. IsInPacks order.now.request read.0.row) }
+{
+    let row = row_of(alloc, order)?;
+    let edits = edits_of(alloc, &order.request)?;
+    refuse_outputs(alloc, files, &order.request)?;
+    let criteria = read_criteria(alloc, files, order)?;
+    let openings = read_asked_openings(alloc, files, order)?;
+    let (chosen, unmarked) = match read_chosen(alloc, files, order)? {
+        Some((marks, unmarked)) => (Some(marks), Some(unmarked)),
+        None => (None, None),
+    };
+    let given = Given {
+        row,
+        openings,
+        criteria,
+        chosen,
+        edits,
+    };
+    Ok((given, unmarked))
+}
+
+/// Shows what may mislead a person, and from when on progress is shown.
+fn show_order<F: Files>(files: &mut F, request: &Request<'_>, noted: bool) {
+    if noted && request.min_ply > request.max_ply {
+        files.show_notes(messages::NO_PLY_BETWEEN.as_bytes());
+    }
+    if noted {
+        files.note_kinds(request.packed);
+    }
+    if !request.no_progress {
+        files.show_progress(request.progress);
+    }
+}
+
 /// Reads the arguments and the criteria, opens the input and runs: the status, or what the program
 /// ends with before its run.
 fn start<F: Files, O: Write, E: Write>(
@@ -357,28 +410,13 @@ where
     ensures { OnErr result (out.new.faulted ≡ false) }
 {
     let order = read_order(alloc, arguments, files.is_watched())?;
+    let (given, unmarked) = read_given(alloc, files, &order)?;
     let request = &order.request;
-    let row = row_of(alloc, &order)?;
-    refuse_outputs(alloc, files, request)?;
-    let criteria = read_criteria(alloc, files, &order)?;
-    let openings = read_asked_openings(alloc, files, &order)?;
-    let (chosen, unmarked) = match read_chosen(alloc, files, &order)? {
-        Some((marks, unmarked)) => (Some(marks), Some(unmarked)),
-        None => (None, None),
-    };
-    if order.noted && request.min_ply > request.max_ply {
-        files.show_notes(messages::NO_PLY_BETWEEN.as_bytes());
-    }
-    if order.noted {
-        files.note_kinds(request.packed);
-    }
-    if !request.no_progress {
-        files.show_progress(request.progress);
-    }
+    show_order(files, request, order.noted);
     if request.packed {
         let task = PackTask {
             alloc,
-            settings: settings_of(&order, row, None, criteria, None),
+            settings: settings_of(&order, given),
             no_header: request.no_header,
             paths: &request.files,
             summary: request.summary,
@@ -388,7 +426,7 @@ where
     }
     let mut task = Task {
         alloc,
-        settings: settings_of(&order, row, openings, criteria, chosen),
+        settings: settings_of(&order, given),
         paths: &request.files,
         with_names: has_names(request),
         summary: request.summary,

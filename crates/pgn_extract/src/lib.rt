@@ -27,9 +27,10 @@ mod rows;
 mod settings;
 
 pub use app::command::Request;
+pub use app::edits::{EditFault, read_edits};
 pub use app::files::{Files, Stream, Task, Total, run_files, run_input};
 pub use app::header::{RefusedColumns, put_header, read_row};
-pub use app::order::{Order, accept, has_names, settings_of};
+pub use app::order::{Given, Order, accept, has_names, settings_of};
 pub use app::{messages, program, status};
 pub use engine::{run, run_skipping};
 pub use explain::kinds::{HEAD, folder_note, kind_note};

@@ -1,19 +1,20 @@
 //! The entries of a packed game: a walk over the codes of its plies shows its positions.
 ghost use Rattle.std.specs.Prelude.{◌≡◌, ◌≢◌, ◌++◌, true, false, Some, None, codes};
-ghost use Rattle.std.specs.Prelude.{MatchOption, OnOk, IfOk, IfErr};
+ghost use Rattle.std.specs.Prelude.{MatchOption, OnOk, IfOk, IfErr, IfSome};
 ghost use Rattle.pgn_text.specs.Public.GameTexts.{tag_in};
 ghost use Rattle.pgn_game.specs.Public.Faults.{Fault};
 ghost use Rattle.pgn_game.specs.Public.Replays.{fault_of};
 ghost use Rattle.pgn_game.specs.Public.Starts.{fen_tag};
 ghost use Rattle.pgn_game.specs.Public.PackReading.{IsRawOfGame};
 ghost use Rattle.pgn_extract.specs.Public.Aims.{Aim, aim_of};
-ghost use Rattle.pgn_extract.specs.Private.Finding.{named_mark};
+ghost use Rattle.pgn_extract.specs.Private.Finding.{AsksFor, named_mark};
 ghost use Rattle.pgn_extract.specs.Public.Index.{mark_line, titled};
 ghost use Rattle.pgn_extract.specs.Public.Listing.{has_annotations};
 ghost use Rattle.pgn_extract.specs.Private.Lines.{is_bare};
 ghost use Rattle.pgn_criteria.specs.Public.Meeting.{heading_of};
 ghost use Rattle.pgn_criteria.specs.Public.Prefilters.{codes_in};
 ghost use Rattle.pgn_extract.specs.Private.Packed.{raw_id, PutsRecord, LeavesRecord, EachOfRecord};
+ghost use Rattle.pgn_extract.specs.Private.KeptPacked.{IsStartOf};
 ghost use Rattle.pgn_extract.specs.Private.Packed.{HasNoText, ShowsInitial, StartsThere};
 ghost use Rattle.pgn_extract.specs.Private.Packed.{StartsWith, bare_aim, aim_making, HasNoEntry};
 ghost use Rattle.pgn_extract.specs.Private.Lines.{IsEnoughFor, MakesLines};
@@ -31,14 +32,14 @@ use crate::entries::line_maker::LineMaker;
 use crate::entries::listing::push_lines;
 use crate::marks::GameId;
 use crate::output::texts::{MARK_ROOM, push_mark};
-use crate::packed::kept_packed::push_kept_record;
+use crate::packed::kept_packed::{push_kept_record, start_of};
 use crate::packed::marked::Marked;
 use crate::packed::walked::Walked;
 use crate::settings::{Fields, Mode, Settings};
 use chess::{Bits, Board, Side};
-use pgn_criteria::{Criteria, MarkSet, Seen, Walk};
-use pgn_game::pack::RawRecord;
-use pgn_game::{GameFault, given_position};
+use pgn_criteria::{Criteria, MarkSet, Search, Seen, Walk};
+use pgn_game::pack::{CodesError, RawRecord};
+use pgn_game::{GameFault, GamePosition, given_position};
 use pgn_text::is_contents;
 use std::alloc::{AllocError, Global};
 
@@ -128,6 +129,7 @@ fn begin_at(
 
 /// Begins the walk where the game of the record starts, if that is another position than the
 /// initial one, which it shows.
+#[inline(always)]
 fn begin(alloc: Global, walk: &mut Walk<Bits>, record: &RawRecord<'_>) -> Result<(), PackedFault>
     requires { ShowsInitial record.now walk.old }
     ensures ok { OnOk result (StartsThere record.now walk.new) }
@@ -161,7 +163,7 @@ fn push_found<L: Line + Drop>(
     requires valid { L.Valid start }
     requires shows { IsEnoughFor L.Shows lines }
     requires makes { EachOfRecord context.record.now (λ game replay packed.
-        MakesLines lines context.record.now.name (raw_id context.record.now) game) }
+        MakesLines lines context.record.now.name None (raw_id context.record.now) game) }
     requires stands { StandsInRecord (L.At start) (aim_making context.settings.now lines)
         context.record.now }
     ensures { OnOk result (ListsRecord (aim_making context.entry.settings.now lines.entry)
@@ -262,6 +264,110 @@ fn push_marked(
     Ok(())
 }
 
+/// Adds the mark and the ply of each entry of a packed game that is walked, and asked this in place
+/// of the criteria.
+#[inline(always)]
+fn push_walked<'a>(
+    text: &mut Vec<u8>,
+    context: RecordContext<'a, '_, 'a>,
+    search: Search<'a>,
+) -> Result<(), PackedFault>
+    requires asks { EachOfRecord context.record.now (λ game replay packed.
+        AsksFor (bare_aim context.settings.now) game search) }
+    ensures ok { OnOk result (ListsRecord (bare_aim context.entry.settings.now)
+        context.entry.record.now text.old.items text.new.items) }
+    ensures err { IfErr result (λ fault. fault ≡ PackedFault.NoGame
+        → (text.new.items ≡ text.old.items) × HasNoText context.entry.record.now) }
+{
+    let RecordContext { alloc, record, .. } = context;
+    let (check, stuck) = (record.in_check(), record.is_stuck());
+    let mut walk = Walk::new(Bits::initial(), Side::White, check, stuck);
+    if let Err(fault) = begin(alloc, &mut walk, record) {
+        return Err(fault);
+    }
+    if !search.may_be_met(&walk, record.plies()) {
+        return Ok(());
+    }
+    let line = Walked {
+        walk,
+        search,
+        left: record.plies(),
+        ply: 0,
+    };
+    push_found(text, context, LineMaker::Fields(Fields::NONE), line)?;
+    Ok(())
+}
+
+/// What criteria ask of the positions of a packed game that starts there, where they speak of its
+/// first moves; `None` where they speak of the moves at each ply, or of several plies.
+fn begun_search<'a>(
+    context: RecordContext<'a, '_, 'a>,
+    criteria: &'a Criteria,
+    start: GamePosition,
+) -> Result<Option<Search<'a>>, PackedFault>
+    requires criteria { context.settings.now.criteria ≡ Some criteria.now }
+    requires shows { IsRawOfGame context.record.now }
+    requires start { IsStartOf context.record.now start }
+    ensures ok { IfOk result (λ told. IfSome told (λ search.
+        EachOfRecord context.entry.record.now (λ game replay packed.
+        AsksFor (bare_aim context.entry.settings.now) game search))) }
+    ensures err { IfErr result (λ fault. fault ≡ PackedFault.NoGame
+        → HasNoText context.entry.record.now) }
+{
+    match criteria.watch_begun(context.alloc, context.record, start) {
+        Ok(told) => Ok(told),
+        Err(CodesError::NoLine) => Err(PackedFault::NoGame),
+        Err(CodesError::OutOfMemory) => Err(PackedFault::OutOfMemory),
+    }
+}
+
+/// What criteria ask of the positions of a packed game where they speak of the number of its plies
+/// or of its first moves; `None` where they speak of the moves at each ply, or of several plies.
+#[inline(never)]
+fn told_search<'a>(
+    context: RecordContext<'a, '_, 'a>,
+    criteria: &'a Criteria,
+) -> Result<Option<Search<'a>>, PackedFault>
+    requires criteria { context.settings.now.criteria ≡ Some criteria.now }
+    requires shows { IsRawOfGame context.record.now }
+    ensures ok { IfOk result (λ told. IfSome told (λ search.
+        EachOfRecord context.entry.record.now (λ game replay packed.
+        AsksFor (bare_aim context.entry.settings.now) game search))) }
+    ensures err { IfErr result (λ fault. fault ≡ PackedFault.NoGame
+        → HasNoText context.entry.record.now) }
+{
+    let RecordContext { alloc, record, .. } = context;
+    if let Some(search) = criteria.watch_counted(alloc, record)? {
+        return Ok(Some(search));
+    }
+    match start_of(alloc, record) {
+        Ok(start) => begun_search(context, criteria, start),
+        Err(fault) => Err(fault),
+    }
+}
+
+/// What criteria ask of the positions of a packed game; `None` where they speak of the moves at
+/// each ply, or of several plies.
+#[inline(always)]
+fn search_of<'a>(
+    context: RecordContext<'a, '_, 'a>,
+    criteria: &'a Criteria,
+) -> Result<Option<Search<'a>>, PackedFault>
+    requires criteria { context.settings.now.criteria ≡ Some criteria.now }
+    requires shows { IsRawOfGame context.record.now }
+    ensures ok { IfOk result (λ told. IfSome told (λ search.
+        EachOfRecord context.entry.record.now (λ game replay packed.
+        AsksFor (bare_aim context.entry.settings.now) game search))) }
+    ensures err { IfErr result (λ fault. fault ≡ PackedFault.NoGame
+        → HasNoText context.entry.record.now) }
+{
+    let RecordContext { alloc, record, .. } = context;
+    if let Some(search) = criteria.watch_packed(alloc, record)? {
+        return Ok(Some(search));
+    }
+    told_search(context, criteria)
+}
+
 /// Adds the mark and the ply of each entry of a packed game by criteria. Answers `false`, and adds
 /// nothing, where its line has to be replayed, since they speak of its moves or of several plies.
 fn push_seen<'a>(
@@ -278,32 +384,68 @@ fn push_seen<'a>(
     ensures err { IfErr result (λ fault. fault ≡ PackedFault.NoGame
         → (text.new.items ≡ text.old.items) × HasNoText context.entry.record.now) }
 {
-    let RecordContext { alloc, record, .. } = context;
-    if let Some(marks) = criteria.marks_packed(record) {
+    if let Some(marks) = criteria.marks_packed(context.record) {
         return match push_marked(text, context, marks) {
             Ok(()) => Ok(true),
             Err(fault) => Err(fault),
         };
     }
-    let Some(search) = criteria.watch_packed(alloc, record)? else {
+    let found = match search_of(context, criteria) {
+        Ok(found) => found,
+        Err(fault) => return Err(fault),
+    };
+    let Some(search) = found else {
         return Ok(false);
     };
+    match push_walked(text, context, search) {
+        Ok(()) => Ok(true),
+        Err(fault) => Err(fault),
+    }
+}
+
+/// Whether a packed game may have an entry by criteria on its moves or on several plies: not where
+/// its record tells of none with no move played.
+#[inline(never)]
+fn may_be_played<'a>(
+    context: RecordContext<'a, '_, 'a>,
+    criteria: &'a Criteria,
+) -> Result<bool, PackedFault>
+    requires criteria { context.settings.now.criteria ≡ Some criteria.now }
+    requires shows { IsRawOfGame context.record.now }
+    ensures none { IfOk result (λ may. may ≡ false
+        → HasNoEntry (bare_aim context.entry.settings.now) context.entry.record.now) }
+    ensures err { IfErr result (λ fault. fault ≡ PackedFault.NoGame
+        → HasNoText context.entry.record.now) }
+{
+    let RecordContext { alloc, record, .. } = context;
     let (check, stuck) = (record.in_check(), record.is_stuck());
     let mut walk = Walk::new(Bits::initial(), Side::White, check, stuck);
     if let Err(fault) = begin(alloc, &mut walk, record) {
         return Err(fault);
     }
-    if !search.may_be_met(&walk, record.plies()) {
-        return Ok(true);
+    Ok(criteria.may_meet_packed(record, &walk))
+}
+
+/// Adds the lines of the entries of a packed game by criteria on its moves or on several plies. Its
+/// line is replayed only where it may have an entry.
+fn push_played<'a>(
+    text: &mut Vec<u8>,
+    context: RecordContext<'a, '_, 'a>,
+    criteria: &'a Criteria,
+) -> Result<(), PackedFault>
+    requires held { has_annotations context.settings.now.line ≡ false }
+    requires criteria { context.settings.now.criteria ≡ Some criteria.now }
+    requires shows { IsRawOfGame context.record.now }
+    ensures ok { OnOk result (ListsRecord (aim_of context.entry.settings.now)
+        context.entry.record.now text.old.items text.new.items) }
+    ensures err { IfErr result (λ fault. fault ≡ PackedFault.NoGame
+        → (text.new.items ≡ text.old.items) × HasNoText context.entry.record.now) }
+{
+    match may_be_played(context, criteria) {
+        Ok(true) => push_kept_record(text, context),
+        Ok(false) => Ok(()),
+        Err(fault) => Err(fault),
     }
-    let line = Walked {
-        walk,
-        search,
-        left: record.plies(),
-        ply: 0,
-    };
-    push_found(text, context, LineMaker::Fields(Fields::NONE), line)?;
-    Ok(true)
 }
 
 /// Whether a packed game may have an entry by criteria: not where its positions tell of none.
@@ -323,10 +465,10 @@ fn may_have_entry<'a>(
         Ok(is_seen) => is_seen,
         Err(fault) => return Err(fault),
     };
-    if is_seen && found.is_empty() {
-        return Ok(false);
+    if !is_seen {
+        return may_be_played(context, criteria);
     }
-    Ok(true)
+    Ok(!found.is_empty())
 }
 
 /// Adds the lines of the entries of a packed game by criteria. Where more than marks and plies is
@@ -347,7 +489,7 @@ fn push_met<'a>(
     if context.settings.line.is_bare() {
         return match push_seen(text, context, criteria) {
             Ok(true) => Ok(()),
-            Ok(false) => push_kept_record(text, context),
+            Ok(false) => push_played(text, context, criteria),
             Err(fault) => Err(fault),
         };
     }

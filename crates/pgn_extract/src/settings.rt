@@ -7,7 +7,7 @@ use crate::marks::Marks;
 use crate::output::file_name::FileName;
 use crate::rows::column::Row;
 use pgn_criteria::Criteria;
-use pgn_game::{Notation, Openings, Style};
+use pgn_game::{Notation, Openings, Style, TagEdits};
 
 /// What a run writes.
 #[derive(Clone, Copy, Debug, PartialEq, Eq)]
@@ -119,6 +119,8 @@ pub struct Settings {
     pub select: Select,
     /// How each game that the export selects is written.
     pub form: Form,
+    /// The edits of the tags of a game in the standard's format. Without them a game has its own.
+    pub edits: Option<TagEdits>,
     /// What is kept of a game in the standard's format. Where variations are, each line of a game
     /// must be sound, also of one that is written as it stands; else its main line alone, as where
     /// it is written on a line or as a record.

@@ -90,6 +90,7 @@ fn plies(first: bool) -> Settings
         line: EntryLine::Marked(Fields::NONE),
         select: Select::Matching,
         form: Form::Standard,
+        edits: None,
         style: WHOLE,
         explain: false,
         tags_first: false,

@@ -44,6 +44,7 @@ fn settings_of(mode: Mode, number: u64, offset: u64) -> Settings
         line: EntryLine::Marked(Fields::NONE),
         select: Select::Matching,
         form: Form::Standard,
+        edits: None,
         style: PLAIN,
         explain: false,
         tags_first: false,

@@ -8,9 +8,10 @@ use Rattle.pgn_extract.proofs.Common.{lines_with, tag_in, written_lines, Form, M
 use Rattle.pgn_text.specs.Public.Games.{Item}
 use Rattle.pgn_extract.specs.Public.Aims.{HasNoChance, IsRuledOut}
 use Rattle.pgn_extract.specs.Public.Notes.{IsNote}
+use Rattle.pgn_game.specs.Public.Edits.{IsEditedExport}
 use Rattle.pgn_game.specs.Public.Exports.{IsExport}
 use Rattle.pgn_game.specs.Public.Faults.{IsFault}
-use Rattle.pgn_game.specs.Public.Openings.{NamedLine, IsClassified, IsTaggedBy, tag_by}
+use Rattle.pgn_game.specs.Public.Openings.{NamedLine, IsClassified, tag_by}
 use Rattle.pgn_game.specs.Public.Replays.{HasPlies, IsReplay, IsSoundGame}
 use Rattle.pgn_game.proofs.OneReplay.{no_fault}
 use Rattle.pgn_extract.specs.Private.Blockwise.{AddsCounted, AddsSearched, CountsAs, ExportsAll}
@@ -84,7 +85,8 @@ module _ (aim : Aim) (all : ExportsAll aim) (lines : List NamedLine)
         played,
         all_written aim id other replay text all.all played
             (subst (λ (f : Form). IsTextOf f aim id (by_itself other) text) (sym all.form)
-            (own_export aim.style other text exports)),
+            (subst (λ e. IsEditedExport e aim.style (by_itself other) text) (sym all.edits)
+            (by_itself other, refl, own_export aim.style other text exports))),
       ) adds
 
   pub faulty_counts : IsGameText game → (fault : Fault) (note : List ℕ)

@@ -95,7 +95,8 @@ pub listed_plies : (aim : Aim) (id : GameId) (plies end : ℕ) → aim.criteria 
     → AreListed aim id game replay (plies_from id aim.min_ply (end - aim.min_ply))
 listed_plies aim id plies end no_criteria plain range game replay size =
     between id (IsEntry aim (heading_of game) replay) (IsShownOf aim id game replay)
-    (λ ply. nothing_shown aim.line plain (place_of aim.name id game replay ply)) aim.min_ply end
+    (λ ply. nothing_shown aim.line plain (place_of aim.name aim.openings id game replay ply))
+    aim.min_ply end
     replay.positions
     (λ n entry. entry.0.0)
     (λ n less. let plain = plain_entry aim no_criteria (heading_of game) replay plies n

@@ -1,5 +1,6 @@
 -- What a finder of a game hands on is what its settings ask for.
 use Rattle.std.proofs.Common.{◌≡◌, ◌++◌, ℕ, Bool, List, Option, sym, ap, ◌∙◌, subst}
+use Rattle.pgn_game.specs.Public.Openings.{NamedLine}
 use Rattle.pgn_extract.proofs.Common.{Aim, aim_of, aim_with, AddsEntries, HandsOn, GameId, GameText}
 use Rattle.pgn_extract.proofs.Common.{marked_lines}
 use Rattle.pgn_extract.specs.Private.Lines.{IsFinderOf, MakesLines, made_line}
@@ -11,23 +12,25 @@ use Rattle.pgn_extract.proofs.Finds.{adds_lines}
 module _ (asked : Settings) (id : GameId) (game : GameText) (known : Bool) (finder : Finder)
     (is : IsFinderOf asked id game known finder) where
   -- under the name that is asked for it looks for what is asked
-  same_aim : aim_with finder asked.name ≡ aim_of asked
+  same_aim : aim_with finder asked.name asked.openings ≡ aim_of asked
   same_aim =
       ap (λ (s : Settings). record (aim_of s) {
         first = finder.first;
         line = made_line finder.lines;
         name = asked.name;
+        openings = asked.openings;
       }) is.settings
       ∙ ap (λ f. record (aim_of asked) { first = f; line = made_line finder.lines }) is.first
       ∙ ap (λ (l : EntryLine). record (aim_of asked) { line = l }) (sym is.line)
 
   pub finder_adds : (old new : List ℕ)
-      → ((name : Option (List ℕ)) (own : GameId) → MakesLines finder.lines name own game
-      → HandsOn (aim_with finder name) own game
+      → ((name : Option (List ℕ)) (openings : Option (List NamedLine)) (own : GameId)
+      → MakesLines finder.lines name openings own game
+      → HandsOn (aim_with finder name openings) own game
       (λ got. new ≡ old ++ marked_lines finder.mark.items got))
       → AddsEntries (aim_of asked) id game old new
   finder_adds old new found =
       adds_lines (aim_of asked) id game finder.mark.items old new is.mark
       (subst (λ (a : Aim). HandsOn a id game
       (λ got. new ≡ old ++ marked_lines finder.mark.items got)) same_aim
-      (found asked.name id is.makes))
+      (found asked.name asked.openings id is.makes))

@@ -3,15 +3,17 @@ use Rattle.std.proofs.Common.{◌≡◌, ◌++◌, ◌∷◌, ℕ, List, [], Opt
 use Rattle.std.proofs.Common.{◌∙◌, subst, length}
 use Rattle.chess.specs.Public.Positions.{State}
 use Rattle.pgn_text.specs.Public.GameTexts.{GameText}
+use Rattle.pgn_game.specs.Public.Openings.{NamedLine}
 use Rattle.pgn_game.specs.Public.Replays.{Replay}
 use Rattle.pgn_extract.specs.Public.Aims.{Aim, GameId}
 use Rattle.pgn_extract.specs.Public.Listing.{AfterPly, AsRow, IsShownBy}
 use Rattle.pgn_extract.specs.Private.Lines.{is_bare}
 use Rattle.pgn_extract.specs.Public.Rows.{IsRow, place_of}
 use Rattle.pgn_extract.specs.Private.AnnotationLists.{lists_in}
+use Rattle.pgn_extract.specs.Private.Finding.{IsOfGame}
 use Rattle.pgn_extract.specs.Private.Lines.{ShowsFields, ShowsParts, ShowsLine, Makes}
 use Rattle.pgn_extract.specs.Private.Lines.{MakesLines, made_line}
-use Rattle.pgn_extract.specs.Private.RowGames.{name_of}
+use Rattle.pgn_extract.specs.Private.RowGames.{name_of, openings_of}
 use Rattle.pgn_extract.specs.Private.RowTexts.{MakesRows, ArePartTexts, columns_of}
 use Rattle.pgn_extract.specs.Private.RowTexts.{filled, or_quotes}
 use Rattle.pgn_extract.specs.declared.entries.line_maker.LineMaker.{LineMaker}
@@ -31,7 +33,7 @@ pub shows_marked : (lines : LineMaker) (fields : Fields) (text : List ℕ) (aim 
 shows_marked lines fields text aim id game before P is makes shows replay own rest parts =
     let line : aim.line ≡ Marked fields = makes.line ∙ ap made_line is in
     subst (λ (l : EntryLine).
-    IsShownBy l (place_of aim.name id game replay (length before)) (AfterPly text))
+    IsShownBy l (place_of aim.name aim.openings id game replay (length before)) (AfterPly text))
     (sym line) (text, shows line replay own rest parts, refl)
 
 -- the text that a maker of rows makes
@@ -39,18 +41,20 @@ abbrev pub made_text : RowMaker → List (List ℕ) → List ℕ
 made_text rows values =
     or_quotes rows.row.now.format (filled rows.parts.items values rows.last.items) ++ 10 ∷ []
 
-row_made : (rows : RowMaker) (name : Option (List ℕ)) (id : GameId) (game : GameText)
-    → MakesRows rows name id game → (replay : Replay) (ply : ℕ) (values : List (List ℕ))
+row_made : (rows : RowMaker) (name : Option (List ℕ)) (openings : Option (List NamedLine))
+    (id : GameId) (game : GameText) → MakesRows rows name openings id game
+    → (replay : Replay) → IsOfGame game replay → (ply : ℕ) (values : List (List ℕ))
     → ArePartTexts rows.row.now.format (lists_in rows.annotations) (columns_of rows.parts.items)
     replay ply values
-    → IsRow rows.row.now (place_of name id game replay ply) (made_text rows values)
-row_made rows name id game makes replay ply values are =
-    let (cells, have, text) = makes replay ply values are in
+    → IsRow rows.row.now (place_of name openings id game replay ply) (made_text rows values)
+row_made rows name openings id game makes replay of ply values are =
+    let (cells, have, text) = makes replay of ply values are in
+    let place = place_of name openings id game replay ply in
     let row = rows.row.now in (
       cells,
       have,
       ap (λ t. or_quotes row.format t ++ 10 ∷ []) text
-          ∙ sym (row_is row.format row.columns.items (place_of name id game replay ply) cells have),
+          ∙ sym (row_is row.format row.columns.items place cells have),
     )
 
 -- a row
@@ -61,21 +65,25 @@ pub shows_row : (lines : LineMaker) (rows : RowMaker) (values : List (List ℕ))
     → ShowsLine (AsRow (made_text rows values)) id aim game before P
 shows_row lines rows values aim id game before P is makes shows replay own rest parts =
     let line : aim.line ≡ InColumns rows.row.now = makes.line ∙ ap made_line is in
-    let made : MakesRows rows aim.name id game =
-    subst (λ (l : LineMaker). MakesLines l aim.name id game) is makes.of_game in
+    let made : MakesRows rows aim.name aim.openings id game =
+    subst (λ (l : LineMaker). MakesLines l aim.name aim.openings id game) is makes.of_game in
     let are = shows (ap is_bare line) replay own rest parts in
     subst (λ (l : EntryLine).
-    IsShownBy l (place_of aim.name id game replay (length before))
+    IsShownBy l (place_of aim.name aim.openings id game replay (length before))
     (AsRow (made_text rows values))) (sym line) (
       made_text rows values,
-      row_made rows aim.name id game made replay (length before) values are,
+      row_made rows aim.name aim.openings id game made replay own (length before) values are,
       refl,
     )
 
--- a maker of the lines of a game makes them under the name and the mark that the game has
-pub makes_named : (lines : LineMaker) (own : RowGame) (name : Option (List ℕ)) (id : GameId)
-    (game : GameText) → name_of own ≡ name → own.id ≡ id
-    → MakesLines lines (name_of own) own.id game → MakesLines lines name id game
-makes_named lines own name id game named marked makes =
-    subst (λ n. MakesLines lines n id game) named
-    (subst (λ i. MakesLines lines (name_of own) i game) marked makes)
+-- a maker of the lines of a game makes them under the name and the mark that the game has, and by
+-- its lines of openings
+pub makes_named : (lines : LineMaker) (own : RowGame) (name : Option (List ℕ))
+    (openings : Option (List NamedLine)) (id : GameId) (game : GameText) → name_of own ≡ name
+    → openings_of own.source ≡ openings → own.id ≡ id
+    → MakesLines lines (name_of own) (openings_of own.source) own.id game
+    → MakesLines lines name openings id game
+makes_named lines own name openings id game named given marked makes =
+    subst (λ n. MakesLines lines n openings id game) named
+    (subst (λ o. MakesLines lines (name_of own) o id game) given
+    (subst (λ i. MakesLines lines (name_of own) (openings_of own.source) i game) marked makes))

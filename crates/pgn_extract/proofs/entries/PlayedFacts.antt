@@ -329,9 +329,9 @@ never_met line asked none aim game before P at replay own rest is n low within m
 -- a fault from the start on is that of the game
 pub fails_at_start : {known : Bool} (finder : Finder) (game : GameText) (line : PlayedLine)
     (asked : List Conditions)
-    → IsPlayedWith known line asked (aim_with finder None) game [] line.position
+    → IsPlayedWith known line asked (aim_with finder None None) game [] line.position
     → (Grew : Type 0) (fault : Fault)
     → Fails (λ aim own before P. IsPlayedWith known line asked aim own before P) finder fault × Grew
     → IsFault Main (tag_in fen_tag game.tags) game.elements fault × Grew
 fails_at_start finder game line asked at Grew fault (fails, grew) =
-    (fails None game line.position at, grew)
+    (fails None None game line.position at, grew)

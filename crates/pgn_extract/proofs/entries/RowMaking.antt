@@ -8,13 +8,15 @@ use Rattle.std.proofs.lemmas.List.{map-append, take_more}
 use Rattle.chess.specs.Public.Positions.{State}
 use Rattle.pgn_text.specs.Public.GameTexts.{GameText}
 use Rattle.pgn_text.specs.Public.Games.{Item}
+use Rattle.pgn_game.specs.Public.Openings.{NamedLine}
 use Rattle.pgn_game.specs.Public.Replays.{Replay}
 use Rattle.pgn_extract.specs.Public.Aims.{Aim}
 use Rattle.pgn_extract.specs.Private.Lines.{Where, ShowsPart, ShowsParts}
 use Rattle.pgn_extract.specs.Public.Annotations.{annotation_lists, IsAnnotationCell}
 use Rattle.pgn_extract.specs.Public.Columns.{is_number_of_ply, is_number_column}
 use Rattle.pgn_extract.specs.Public.Columns.{shows_annotations}
-use Rattle.pgn_extract.specs.Public.Rows.{IsCell, AreCells, place_of}
+use Rattle.pgn_extract.specs.Public.Rows.{RowPlace, IsCell, AreCells, place_of}
+use Rattle.pgn_extract.specs.Private.Finding.{IsOfGame}
 use Rattle.pgn_extract.specs.Private.AnnotationLists.{annotation_value, lists_in}
 use Rattle.pgn_extract.specs.Private.RowTexts.{IsPartText, ArePartTexts, column_of, value_text}
 use Rattle.pgn_extract.specs.Private.RowTexts.{part_quote}
@@ -83,20 +85,22 @@ values_cut format lists (first ∷ columns) column replay ply values (own, more,
     )
 
 -- A column of the game: its value is known.
-pub adds_known : (old new : RowMaker) (name : Option (List ℕ)) (id : GameId) (game : GameText)
-    (column : Column) (cell mid : List ℕ) → new.parts.items ≡ old.parts.items
+pub adds_known : (old new : RowMaker) (name : Option (List ℕ)) (openings : Option (List NamedLine))
+    (id : GameId) (game : GameText) (column : Column) (cell mid : List ℕ)
+    → new.parts.items ≡ old.parts.items
     → mid ≡ old.last.items ++ key_text old.row.now.format column
-    → ((replay : Replay) (ply : ℕ) → IsCell column (place_of name id game replay ply) cell)
+    → ((replay : Replay) → IsOfGame game replay → (ply : ℕ)
+    → IsCell column (place_of name openings id game replay ply) cell)
     → (text : List ℕ) → key_text old.row.now.format column ++ text
     ≡ keyed_text old.row.now.format column cell
-    → new.last.items ≡ mid ++ text → AddsCell old new name id game column
-adds_known old new name id game column cell mid parts key is text whole last replay ply values
-    are = (
+    → new.last.items ≡ mid ++ text → AddsCell old new name openings id game column
+adds_known old new name openings id game column cell mid parts key is text whole last replay of
+    ply values are = (
       values,
       cell,
       subst (λ ps. ArePartTexts old.row.now.format (lists_in old.annotations) (columns_of ps) replay
           ply values) parts are,
-      is replay ply,
+      is replay of ply,
       ap (λ ps. filled ps values new.last.items) parts
           ∙ ap (filled old.parts.items values)
           (last ∙ ap (λ t. t ++ text) key
@@ -108,16 +112,16 @@ adds_known old new name id game column cell mid parts key is text whole last rep
 
 -- What is written of a ply for a column is the text of its cell, between quotes where it has any.
 cell_of : (format : Format) (lists : List (List Item)) (column : PartColumn)
-    (name : Option (List ℕ)) (id : GameId) (game : GameText) (replay : Replay) (ply : ℕ)
-    (text : List ℕ)
+    (name : Option (List ℕ)) (openings : Option (List NamedLine)) (id : GameId) (game : GameText)
+    (replay : Replay) (ply : ℕ) (text : List ℕ)
     → (shows_annotations (column_of column) ≡ true → lists ≡ annotation_lists game.elements)
     → IsPartText format lists column replay ply text
-    → (cell : List ℕ) × IsCell (column_of column) (place_of name id game replay ply) cell
+    → (cell : List ℕ) × IsCell (column_of column) (place_of name openings id game replay ply) cell
     × (part_quote format column ++ (text ++ part_quote format column)
     ≡ value_text format (is_number_column (column_of column)) cell)
-cell_of format lists (kind.OfPly own) name id game replay ply text known (is, plain) =
+cell_of format lists (kind.OfPly own) name openings id game replay ply text known (is, plain) =
     (text, is, plain_text format (is_number_of_ply own) text plain)
-cell_of format lists (kind.OfAnnotations own) name id game replay ply text known is = (
+cell_of format lists (kind.OfAnnotations own) name openings id game replay ply text known is = (
   annotation_value own (get_or lists ply []),
   subst (λ (all : List (List Item)). IsAnnotationCell own (get_or all ply [])
       (annotation_value own (get_or lists ply []))) (known refl)
@@ -126,9 +130,9 @@ cell_of format lists (kind.OfAnnotations own) name id game replay ply text known
 )
 
 -- A column of the ply: its value follows.
-module _ (old mid new : RowMaker) (name : Option (List ℕ)) (id : GameId) (game : GameText)
-    (column : PartColumn) (row : mid.row.now ≡ old.row.now) (parts : mid.parts.items
-    ≡ old.parts.items) (key : mid.last.items ≡ old.last.items
+module _ (old mid new : RowMaker) (name : Option (List ℕ)) (openings : Option (List NamedLine))
+    (id : GameId) (game : GameText) (column : PartColumn) (row : mid.row.now ≡ old.row.now)
+    (parts : mid.parts.items ≡ old.parts.items) (key : mid.last.items ≡ old.last.items
     ++ key_text old.row.now.format (column_of column)) (ends : EndsPart mid new column)
     (known : shows_annotations (column_of column) ≡ true
     → lists_in old.annotations ≡ annotation_lists game.elements) where
@@ -171,15 +175,15 @@ module _ (old mid new : RowMaker) (name : Option (List ℕ)) (id : GameId) (game
       ∙ ap (λ t. key_of ++ (quote ++ (value ++ t))) last_is
       ∙ ap (λ t. key_of ++ t) is)
 
-  pub adds_shown : AddsCell old new name id game (column_of column)
-  adds_shown replay ply values are =
+  pub adds_shown : AddsCell old new name openings id game (column_of column)
+  adds_shown replay of ply values are =
       let format = old.row.now.format in
       let lists = lists_in old.annotations in
       let (before, value, all, some, own) =
       values_cut format lists (columns_of old.parts.items) column replay ply values
       (subst (λ cs. ArePartTexts format lists cs replay ply values) columns_are are) in
       let (cell, is, between) =
-      cell_of format lists column name id game replay ply value known own in (
+      cell_of format lists column name openings id game replay ply value known own in (
         before,
         cell,
         some,
@@ -194,82 +198,79 @@ module _ (old mid new : RowMaker) (name : Option (List ℕ)) (id : GameId) (game
       )
 
 -- The cells of some columns and one more.
-cells_push : (columns : List Column) (column : Column) (name : Option (List ℕ)) (id : GameId)
-    (game : GameText) (replay : Replay) (ply : ℕ) (cells : List (List ℕ)) (cell : List ℕ)
-    → AreCells columns (place_of name id game replay ply) cells
-    → IsCell column (place_of name id game replay ply) cell
-    → AreCells (columns ++ column ∷ []) (place_of name id game replay ply) (cells ++ cell ∷ [])
-cells_push [] column name id game replay ply cells cell none is = rw none (cell, [], refl, is, refl)
-cells_push (first ∷ columns) column name id game replay ply cells cell
-    (own, more, are, has, others) is =
+cells_push : (columns : List Column) (column : Column) (place : RowPlace) (cells : List (List ℕ))
+    (cell : List ℕ) → AreCells columns place cells → IsCell column place cell
+    → AreCells (columns ++ column ∷ []) place (cells ++ cell ∷ [])
+cells_push [] column place cells cell none is = rw none (cell, [], refl, is, refl)
+cells_push (first ∷ columns) column place cells cell (own, more, are, has, others) is =
     rw are (
       own,
       more ++ cell ∷ [],
       refl,
       has,
-      cells_push columns column name id game replay ply more cell others is,
+      cells_push columns column place more cell others is,
     )
 
-later_push : (format : Format) (columns : List Column) (column : Column) (name : Option (List ℕ))
-    (id : GameId) (game : GameText) (replay : Replay) (ply : ℕ) (cells : List (List ℕ))
-    (cell : List ℕ) → AreCells columns (place_of name id game replay ply) cells
+later_push : (format : Format) (columns : List Column) (column : Column) (place : RowPlace)
+    (cells : List (List ℕ)) (cell : List ℕ) → AreCells columns place cells
     → later_text format (columns ++ column ∷ []) (cells ++ cell ∷ [])
     ≡ later_text format columns cells ++ (gap format ++ keyed_text format column cell)
-later_push format [] column name id game replay ply cells cell none =
+later_push format [] column place cells cell none =
     rw none (ap (λ t. gap format ++ t) (append-nil (keyed_text format column cell)))
-later_push format (first ∷ columns) column name id game replay ply cells cell
-    (own, more, are, has, others) =
+later_push format (first ∷ columns) column place cells cell (own, more, are, has, others) =
     rw are (ap (λ t. gap format ++ (keyed_text format first own ++ t))
-    (later_push format columns column name id game replay ply more cell others)
+    (later_push format columns column place more cell others)
     ∙ ap (λ t. gap format ++ t)
     (sym (append_assoc (keyed_text format first own) (later_text format columns more)
     (gap format ++ keyed_text format column cell)))
     ∙ sym (append_assoc (gap format) (keyed_text format first own
     ++ later_text format columns more) (gap format ++ keyed_text format column cell)))
 
-text_push : (format : Format) (columns : List Column) (column : Column) (name : Option (List ℕ))
-    (id : GameId) (game : GameText) (replay : Replay) (ply : ℕ) (cells : List (List ℕ))
-    (cell : List ℕ) → AreCells columns (place_of name id game replay ply) cells
+text_push : (format : Format) (columns : List Column) (column : Column) (place : RowPlace)
+    (cells : List (List ℕ)) (cell : List ℕ) → AreCells columns place cells
     → cells_text format (columns ++ column ∷ []) (cells ++ cell ∷ [])
     ≡ cells_text format columns cells
     ++ (gap_after format columns ++ keyed_text format column cell)
-text_push format [] column name id game replay ply cells cell none =
+text_push format [] column place cells cell none =
     rw none (append-nil (keyed_text format column cell))
-text_push format (first ∷ columns) column name id game replay ply cells cell
-    (own, more, are, has, others) =
+text_push format (first ∷ columns) column place cells cell (own, more, are, has, others) =
     rw are (ap (λ t. keyed_text format first own ++ t)
-    (later_push format columns column name id game replay ply more cell others)
+    (later_push format columns column place more cell others)
     ∙ sym (append_assoc (keyed_text format first own) (later_text format columns more)
     (gap format ++ keyed_text format column cell)))
 
 -- one more column
 pub makes_more : (format : Format) (lists : List (List Item)) (parts : List RowPart)
     (last : List ℕ) (mid new : RowMaker)
-    (columns : List Column) (column : Column) (name : Option (List ℕ)) (id : GameId)
-    (game : GameText) → MakesCells format lists columns parts last name id game
+    (columns : List Column) (column : Column) (name : Option (List ℕ))
+    (openings : Option (List NamedLine)) (id : GameId) (game : GameText)
+    → MakesCells format lists columns parts last name openings id game
     → mid.row.now.format ≡ format → lists_in mid.annotations ≡ lists → mid.parts.items ≡ parts
-    → mid.last.items ≡ last ++ gap_after format columns → AddsCell mid new name id game column
-    → MakesCells format lists (columns ++ column ∷ []) new.parts.items new.last.items name id game
-makes_more format lists parts last mid new columns column name id game so_far row kept same grown
-    adds replay ply values are =
+    → mid.last.items ≡ last ++ gap_after format columns
+    → AddsCell mid new name openings id game column
+    → MakesCells format lists (columns ++ column ∷ []) new.parts.items new.last.items name openings
+    id game
+makes_more format lists parts last mid new columns column name openings id game so_far row kept same
+    grown adds replay of ply values are =
     let given : ArePartTexts mid.row.now.format (lists_in mid.annotations)
     (columns_of new.parts.items) replay ply values =
     subst (λ (f : Format). ArePartTexts f (lists_in mid.annotations) (columns_of new.parts.items)
     replay ply values) (sym row)
     (subst (λ (ls : List (List Item)). ArePartTexts format ls (columns_of new.parts.items) replay
     ply values) (sym kept) are) in
-    let (before, cell, some, is, text) = adds replay ply values given in
+    let (before, cell, some, is, text) = adds replay of ply values given in
     let here : ArePartTexts format lists (columns_of parts) replay ply before =
     subst (λ (ps : List RowPart). ArePartTexts format lists (columns_of ps) replay ply before) same
     (subst (λ (ls : List (List Item)). ArePartTexts format ls (columns_of mid.parts.items) replay
     ply before) kept
     (subst (λ (f : Format). ArePartTexts f (lists_in mid.annotations)
     (columns_of mid.parts.items) replay ply before) row some)) in
-    let (cells, have, made) = so_far replay ply before here in
+    let (cells, have, made) = so_far replay of ply before here in
+    let place = place_of name openings id game replay ply in
     let keyed = keyed_text format column cell in
     let between = gap_after format columns in (
       cells ++ cell ∷ [],
-      cells_push columns column name id game replay ply cells cell have is,
+      cells_push columns column place cells cell have is,
       text ∙ ap (λ f. filled mid.parts.items before mid.last.items ++ keyed_text f column cell) row
           ∙ ap (λ (ps : List RowPart). filled ps before mid.last.items ++ keyed) same
           ∙ ap (λ t. filled parts before t ++ keyed) grown
@@ -278,7 +279,7 @@ makes_more format lists parts last mid new columns column name id game so_far ro
           ∙ append_assoc (front format ++ cells_text format columns cells) between keyed
           ∙ append_assoc (front format) (cells_text format columns cells) (between ++ keyed)
           ∙ ap (λ t. front format ++ t)
-          (sym (text_push format columns column name id game replay ply cells cell have)),
+          (sym (text_push format columns column place cells cell have)),
     )
 
 -- what stands before the cell of a column at its place
@@ -293,11 +294,13 @@ gap_is format (column ∷ columns) (suc i) within =
 -- all columns
 pub makes_all : (format : Format) (lists : List (List Item)) (columns : List Column)
     (parts : List RowPart)
-    (last all : List ℕ) (name : Option (List ℕ)) (id : GameId) (game : GameText)
-    → MakesCells format lists columns parts last name id game → all ≡ last ++ back format
-    → MakesRow format lists columns parts all name id game
-makes_all format lists columns parts last all name id game made ends replay ply values are =
-    let (cells, have, text) = made replay ply values are in (
+    (last all : List ℕ) (name : Option (List ℕ)) (openings : Option (List NamedLine)) (id : GameId)
+    (game : GameText)
+    → MakesCells format lists columns parts last name openings id game → all ≡ last ++ back format
+    → MakesRow format lists columns parts all name openings id game
+makes_all format lists columns parts last all name openings id game made ends replay of ply values
+    are =
+    let (cells, have, text) = made replay of ply values are in (
       cells,
       have,
       ap (filled parts values) ends ∙ filled_more parts values last (back format)

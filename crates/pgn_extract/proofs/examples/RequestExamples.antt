@@ -1,20 +1,23 @@
 -- What the definitions of what is asked for say of some options, and what they refuse.
 use Rattle.std.proofs.Common.{option_map}
 use Rattle.std.specs.List.{list_any}
+use Rattle.std.specs.Prelude.{is_none}
 use Rattle.std.specs.Borrow.{Bor}
 use Rattle.pgn_extract.proofs.Common.{◌≡◌, ◌^◌, ◌-◌, Bool, true, false, ℕ, nat_lt, length, List, []}
-use Rattle.pgn_extract.proofs.Common.{◌∷◌, ◌++◌, Option, None, Some, codes, ap, refl, San, Uci}
+use Rattle.pgn_extract.proofs.Common.{◌∷◌, ◌++◌, None, Some, codes, ap, refl, San, Uci}
 use Rattle.pgn_extract.proofs.Common.{sym, ◌∙◌, Aim}
-use Rattle.pgn_extract.proofs.Common.{Conditions, game_id, bad_mark, begin_of, end_of, first_line}
+use Rattle.pgn_extract.proofs.Common.{game_id, bad_mark, begin_of, end_of, first_line}
 use Rattle.pgn_extract.proofs.Common.{is_one_line, option_refusals, refused, text_refusals, Request}
 use Rattle.pgn_extract.proofs.Common.{Standard, AsItStands, Line, Record, Matching, Others, Faulty}
 use Rattle.pgn_extract.specs.Public.GivenMarks.{mark_in}
 use Rattle.pgn_extract.specs.Public.Requests.{asked, asks_names, gives_mark, has_several_files}
-use Rattle.pgn_extract.specs.Public.Requests.{is_stretch, IsInPacks}
-use Rattle.pgn_extract.specs.Public.Columns.{shows_annotations}
+use Rattle.pgn_extract.specs.Public.Requests.{is_stretch, IsInPacks, HasItsLines}
+use Rattle.pgn_extract.specs.Public.Columns.{shows_annotations, shows_opening}
+use Rattle.pgn_extract.specs.declared.app.order.Given.{Given}
 use Rattle.pgn_extract.specs.declared.marks.GameId.{GameId}
 use Rattle.pgn_extract.specs.declared.rows.column.AnnotationColumn.TheVariants.{Comment}
-use Rattle.pgn_extract.specs.declared.rows.column.Column.TheVariants.{OfAnnotations}
+use Rattle.pgn_extract.specs.declared.rows.column.Column.TheVariants.{OfAnnotations, OfGame}
+use Rattle.pgn_extract.specs.declared.rows.column.GameColumn.TheVariants.{OpeningPly}
 use Rattle.pgn_extract.specs.declared.rows.column.Row.{Row}
 use Rattle.pgn_extract.specs.declared.settings.EntryLine.TheVariants.{Marked}
 use Rattle.pgn_extract.specs.declared.settings.Mode.TheVariants as modes
@@ -57,6 +60,7 @@ plain request = record request {
   no_glyphs = false;
   no_variations = false;
   roster = false;
+  fix_results = false;
   width = None;
   openings = None;
   min_ply = 0;
@@ -148,8 +152,6 @@ IsTaken request = first_line (option_refusals request) ≡ None
 each_pair : (request : Request)
     → RefusedWith (record (plain request) { list = true; index = true }) both_modes
     × RefusedWith (record (plain request) { packed = true }) packs_give_lines
-    × IsTaken (record (plain request) { list = true; packed = true; fen = true })
-    × IsTaken (record (plain request) { list = true; packed = true; next = true })
     × RefusedWith (record (plain request) { index = true; packed = true; with_names = true })
     packs_are_plain
     × RefusedWith (record (plain request) { list = true; packed = true; no_names = true })
@@ -204,9 +206,43 @@ each_pair request = (
   refl,
   refl,
   refl,
-  refl,
-  refl,
 )
+
+-- packs show positions and moves
+packs_show_positions : (request : Request) → request.sets.items ≡ [] → request.drops.items ≡ []
+    → IsTaken (record (plain request) { list = true; packed = true; fen = true })
+    × IsTaken (record (plain request) { list = true; packed = true; next = true })
+packs_show_positions request no_sets no_drops =
+    (rw (no_sets, no_drops) refl, rw (no_sets, no_drops) refl)
+
+abbrev no_tags_written : List ℕ
+no_tags_written = codes
+    "pgn-extract: --set, --drop and --fix-results go with none of --list, --index, --rows, --moves, --uci, --pack, --as-is and --faulty\n"
+
+-- tags are edited where games are written in the standard's form
+edits_of_games : (request : Request) (text : Bor (List ℕ))
+    → IsTaken (record (plain request) { fix_results = true })
+    × IsTaken (record (plain request) { fix_results = true; others = true })
+    × IsTaken (record (plain request) { fix_results = true; openings = Some text })
+    × RefusedWith (record (plain request) { fix_results = true; list = true }) no_tags_written
+    × RefusedWith (record (plain request) { fix_results = true; index = true }) no_tags_written
+    × RefusedWith (record (plain request) { fix_results = true; rows = Some text }) no_tags_written
+    × RefusedWith (record (plain request) { fix_results = true; moves = true }) no_tags_written
+    × RefusedWith (record (plain request) { fix_results = true; uci = true }) no_tags_written
+    × RefusedWith (record (plain request) { fix_results = true; pack = true }) no_tags_written
+    × RefusedWith (record (plain request) { fix_results = true; as_is = true }) no_tags_written
+    × RefusedWith (record (plain request) { fix_results = true; faulty = true }) no_tags_written
+edits_of_games request text =
+    (refl, refl, refl, refl, refl, refl, refl, refl, refl, refl, refl)
+
+edits_that_set : (request : Request) (text : Bor (List ℕ)) → request.sets.items ≡ text ∷ []
+    → RefusedWith (record (plain request) { list = true }) no_tags_written
+edits_that_set request text one = rw one refl
+
+edits_that_drop : (request : Request) (text : Bor (List ℕ)) → request.sets.items ≡ []
+    → request.drops.items ≡ text ∷ []
+    → RefusedWith (record (plain request) { list = true }) no_tags_written
+edits_that_drop request text none one = rw (none, one) refl
 
 -- rows have theirs
 abbrev in_rows : Request → Bor (List ℕ) → Request
@@ -215,7 +251,6 @@ in_rows request columns = record (plain request) { rows = Some columns }
 each_of_rows : (request : Request) (columns : Bor (List ℕ))
     → RefusedWith (record (in_rows request columns) { list = true }) rows_alone
     × RefusedWith (record (in_rows request columns) { index = true }) rows_alone
-    × IsTaken (record (in_rows request columns) { packed = true })
     × RefusedWith (record (in_rows request columns) { fen = true }) rows_alone
     × RefusedWith (record (in_rows request columns) { next = true }) rows_alone
     × RefusedWith (record (in_rows request columns) { others = true }) rows_alone
@@ -231,7 +266,6 @@ each_of_rows : (request : Request) (columns : Bor (List ℕ))
     × RefusedWith (record (in_rows request columns) { csv = true; tsv = true }) several_formats
     × RefusedWith (record (in_rows request columns) { csv = true; jsonl = true }) several_formats
     × RefusedWith (record (in_rows request columns) { tsv = true; jsonl = true }) several_formats
-    × IsTaken (record (in_rows request columns) { tsv = true })
 each_of_rows request columns = (
   refl,
   refl,
@@ -250,9 +284,13 @@ each_of_rows request columns = (
   refl,
   refl,
   refl,
-  refl,
-  refl,
 )
+
+rows_alone_are_taken : (request : Request) (columns : Bor (List ℕ)) → request.sets.items ≡ []
+    → request.drops.items ≡ [] → IsTaken (record (in_rows request columns) { packed = true })
+    × IsTaken (record (in_rows request columns) { tsv = true })
+rows_alone_are_taken request columns no_sets no_drops =
+    (rw (no_sets, no_drops) refl, rw (no_sets, no_drops) refl)
 
 -- of two pairs the first of the table has its line
 the_first_pair : (request : Request)
@@ -294,7 +332,6 @@ tagged request path = record (plain request) { tags_first = true; criteria = Som
 
 tags_come_first : (request : Request) (path : Bor (List ℕ))
     → (first_line (option_refusals (tagged request path)) ≡ None)
-    × (first_line (option_refusals (record (tagged request path) { list = true })) ≡ None)
     × RefusedWith (record (tagged request path) { index = true }) tags_are_not_first
     × RefusedWith (record (tagged request path) { list = true; packed = true }) tags_are_not_first
     × RefusedWith (record (tagged request path) { others = true }) tags_are_not_first
@@ -307,7 +344,12 @@ tags_come_first : (request : Request) (path : Bor (List ℕ))
       no_names = true;
     })
     tags_are_not_first
-tags_come_first request path = (refl, refl, refl, refl, refl, refl, refl, refl, refl)
+tags_come_first request path = (refl, refl, refl, refl, refl, refl, refl, refl)
+
+tags_first_in_lists : (request : Request) (path : Bor (List ℕ)) → request.sets.items ≡ []
+    → request.drops.items ≡ []
+    → first_line (option_refusals (record (tagged request path) { list = true })) ≡ None
+tags_first_in_lists request path no_sets no_drops = rw (no_sets, no_drops) refl
 
 tags_of_what : (request : Request) → request.conditions.items ≡ []
     → RefusedWith (record (plain request) { tags_first = true; criteria = None }) no_tags_to_meet
@@ -399,9 +441,13 @@ lines = (refl, refl, refl)
 
 -- ---- what is asked for
 
--- what is asked for alone, without a row, openings, criteria and marks
+-- nothing was read for a run
+abbrev no_given : Given
+no_given = record { row = None; openings = None; criteria = None; chosen = None; edits = None }
+
+-- what is asked for alone
 abbrev asked_alone : Request → Aim
-asked_alone request = asked false request None None None None
+asked_alone request = asked false request no_given
 
 nothing_asked : (request : Request) → let aim = asked_alone (plain request) in
     (aim.mode ≡ modes.Export) × (aim.select ≡ Matching) × (aim.form ≡ Standard) × (aim.min_ply ≡ 0)
@@ -436,8 +482,8 @@ each_asked : (request : Request)
     ≡ Marked (record { fen = true; next = false }))
     × ((asked_alone (record (plain request) { next = true })).line
     ≡ Marked (record { fen = false; next = true }))
-    × ((asked true (plain request) None None None None).explain ≡ true)
-    × ((asked false (plain request) None None None (Some [])).chosen ≡ Some [])
+    × ((asked true (plain request) no_given).explain ≡ true)
+    × ((asked false (plain request) (record no_given { chosen = Some [] })).chosen ≡ Some [])
 each_asked request = (
   refl,
   refl,
@@ -458,11 +504,11 @@ each_asked request = (
   refl,
 )
 
-criteria_are_asked : (noted : Bool) (request : Request)
-    (criteria : Option (List Conditions)) (chosen : Option (List GameId))
-    → let aim = asked noted request None None criteria chosen in
-    (aim.criteria ≡ criteria) × (aim.chosen ≡ chosen) × (aim.name ≡ None)
-criteria_are_asked noted request criteria chosen = (refl, refl, refl)
+what_was_read_is_asked : (noted : Bool) (request : Request) (given : Given)
+    → let aim = asked noted request given in
+    (aim.criteria ≡ given.criteria) × (aim.chosen ≡ given.chosen) × (aim.edits ≡ given.edits)
+    × (aim.openings ≡ given.openings) × (aim.name ≡ None)
+what_was_read_is_asked noted request given = (refl, refl, refl, refl, refl)
 
 each_style : (request : Request)
     → ((asked_alone (record (plain request) { no_comments = true })).style.comments
@@ -471,8 +517,7 @@ each_style : (request : Request)
     ≡ true)
     × ((asked_alone (record (plain request) { no_glyphs = true })).style.glyphs ≡
     false)
-    × ((asked false (record (plain request) { no_variations = true }) None None None
-    None).style.variations
+    × ((asked_alone (record (plain request) { no_variations = true })).style.variations
     ≡ false)
     × ((asked_alone (record (plain request) { roster = true })).style.roster_only ≡
     true)
@@ -506,4 +551,12 @@ no_comment_in_packs : (request : Request) (row : Row) → request.packed ≡ tru
 no_comment_in_packs request row packed shows holds =
     let none : list_any shows_annotations (OfAnnotations Comment ∷ []) ≡ false =
     ap (list_any shows_annotations) (sym shows) ∙ holds packed in
+    cc
+
+-- no row shows an opening where no lines of openings are given
+no_opening_without_lines : (request : Request) (row : Row) → is_none request.openings ≡ true
+    → row.columns.items ≡ OfGame OpeningPly ∷ [] → HasItsLines request (Some row) → ⊥
+no_opening_without_lines request row without shows holds =
+    let none : list_any shows_opening (OfGame OpeningPly ∷ []) ≡ false =
+    ap (list_any shows_opening) (sym shows) ∙ holds without in
     cc

@@ -9,7 +9,6 @@ use Rattle.chess.specs.Public.Positions.{State}
 use Rattle.pgn_game.specs.Public.Replays.{Replay}
 use Rattle.pgn_game.specs.declared.exports.notation.Notation.{Notation}
 use Rattle.pgn_game.specs.declared.exports.notation.Notation.TheVariants.{San, Uci}
-use Rattle.pgn_criteria.specs.Public.Meeting.{Heading}
 use Rattle.pgn_text.specs.Public.Bytes.{begins}
 use Rattle.pgn_text.specs.Public.Games.{Item, MoveText, GlyphNumber, CommentText, VariationOpen}
 use Rattle.pgn_text.specs.Public.Games.{VariationClose}
@@ -21,15 +20,15 @@ use Rattle.pgn_extract.specs.Public.Csv as csv
 use Rattle.pgn_extract.specs.Public.GivenMarks.{game_id}
 use Rattle.pgn_extract.specs.Public.Json as json
 use Rattle.pgn_extract.specs.Public.PositionCells.{IsMenText, IsCheckText, counted_letter}
-use Rattle.pgn_extract.specs.Public.Rows.{IsLineCell, IsMoveCell, IsPlyCell, IsTagCell, game_cell}
-use Rattle.pgn_extract.specs.Public.Rows.{row_text}
+use Rattle.pgn_extract.specs.Public.Rows.{RowPlace, IsGameCell, IsLineCell, IsMoveCell, IsPlyCell}
+use Rattle.pgn_extract.specs.Public.Rows.{IsOpeningCell, IsTagCell, opening_cell, row_text}
 use Rattle.pgn_extract.specs.Public.Tsv as tsv
 use Rattle.pgn_extract.specs.declared.rows.column.AnnotationColumn.TheVariants.{Nags, Comment}
 use Rattle.pgn_extract.specs.declared.rows.column.AnnotationColumn.TheVariants.{Clock, Eval}
 use Rattle.pgn_extract.specs.declared.rows.column.Column.TheVariants.{OfGame, OfPly, OfAnnotations}
 use Rattle.pgn_extract.specs.declared.rows.column.Format.TheVariants.{Csv, Tsv, Jsonl}
 use Rattle.pgn_extract.specs.declared.rows.column.GameColumn.TheVariants.{File, Game, Offset, Id}
-use Rattle.pgn_extract.specs.declared.rows.column.GameColumn.TheVariants.{Result}
+use Rattle.pgn_extract.specs.declared.rows.column.GameColumn.TheVariants.{Result, OpeningPly}
 use Rattle.pgn_extract.specs.declared.rows.column.LineColumn.TheVariants.{Plies, Last, Moves}
 use Rattle.pgn_extract.specs.declared.rows.column.PlyColumn.TheVariants.{Ply, OfPosition, Next}
 use Rattle.pgn_extract.specs.declared.rows.column.PlyColumn.TheVariants.{NextUci, OfLine}
@@ -80,11 +79,12 @@ names : column_name (OfGame File) ∷ column_name (OfGame Game) ∷ column_name 
     ∷ column_name (OfPly (OfPosition Men)) ∷ column_name (OfPly (OfPosition Check))
     ∷ column_name (OfPly (OfPosition Material)) ∷ column_name (OfPly NextUci)
     ∷ column_name (OfAnnotations Nags) ∷ column_name (OfAnnotations Comment)
-    ∷ column_name (OfAnnotations Clock) ∷ column_name (OfAnnotations Eval) ∷ []
+    ∷ column_name (OfAnnotations Clock) ∷ column_name (OfAnnotations Eval)
+    ∷ column_name (OfGame OpeningPly) ∷ []
     ≡ codes "@file" ∷ codes "@game" ∷ codes "@offset" ∷ codes "@id" ∷ codes "@result"
     ∷ codes "@ply" ∷ codes "@fen" ∷ codes "@turn" ∷ codes "@number" ∷ codes "@next"
     ∷ codes "@placement" ∷ codes "@check" ∷ codes "@material" ∷ codes "@next-uci"
-    ∷ codes "@nags" ∷ codes "@comment" ∷ codes "@clk" ∷ codes "@eval" ∷ []
+    ∷ codes "@nags" ∷ codes "@comment" ∷ codes "@clk" ∷ codes "@eval" ∷ codes "@opening-ply" ∷ []
 names = refl
 
 numbers : is_number_column (OfGame File) ∷ is_number_column (OfGame Game)
@@ -95,20 +95,47 @@ numbers : is_number_column (OfGame File) ∷ is_number_column (OfGame Game)
     ∷ is_number_column (OfPly (OfPosition Men)) ∷ is_number_column (OfPly (OfPosition Check))
     ∷ is_number_column (OfPly (OfPosition Material)) ∷ is_number_column (OfPly NextUci)
     ∷ is_number_column (OfAnnotations Nags) ∷ is_number_column (OfAnnotations Comment)
-    ∷ is_number_column (OfAnnotations Clock) ∷ is_number_column (OfAnnotations Eval) ∷ []
+    ∷ is_number_column (OfAnnotations Clock) ∷ is_number_column (OfAnnotations Eval)
+    ∷ is_number_column (OfGame OpeningPly) ∷ []
     ≡ false ∷ true ∷ true ∷ false ∷ false ∷ true ∷ false ∷ false ∷ true ∷ false ∷ false ∷ false
-    ∷ false ∷ false ∷ false ∷ false ∷ false ∷ false ∷ []
+    ∷ false ∷ false ∷ false ∷ false ∷ false ∷ false ∷ false ∷ []
 numbers = refl
 
 -- what columns show of the second game, which begins at the byte 22
-game_cells : (tags : List ℕ → Option (List ℕ))
-    → let heading : Heading = record { named = tags; result = codes "1-0" } in
-    game_cell File (Some (codes "a")) (game_id 2 22) heading
-    ∷ game_cell File None (game_id 2 22) heading ∷ game_cell Game None (game_id 2 22) heading
-    ∷ game_cell Offset None (game_id 2 22) heading ∷ game_cell Id None (game_id 2 22) heading
-    ∷ game_cell Result None (game_id 2 22) heading ∷ []
-    ≡ codes "a" ∷ [] ∷ decimal 2 ∷ decimal 22 ∷ (decimal 2 ++ 64 ∷ decimal 22) ∷ codes "1-0" ∷ []
-game_cells tags = refl
+abbrev second_game : (List ℕ → Option (List ℕ)) → Option (List ℕ) → Replay → RowPlace
+second_game tags name replay = record {
+  name = name;
+  openings = None;
+  id = game_id 2 22;
+  heading = record { named = tags; result = codes "1-0" };
+  items = [];
+  replay = replay;
+  ply = 0;
+}
+
+game_cells : (tags : List ℕ → Option (List ℕ)) (replay : Replay)
+    → let named = second_game tags (Some (codes "a")) replay in
+    let other = second_game tags None replay in
+    IsGameCell File named (codes "a") × IsGameCell File other []
+    × IsGameCell Game other (decimal 2) × IsGameCell Offset other (decimal 22)
+    × IsGameCell Id other (decimal 2 ++ 64 ∷ decimal 22)
+    × IsGameCell Result other (codes "1-0") × IsGameCell OpeningPly other []
+game_cells tags replay = (refl, refl, refl, refl, refl, refl, (None, refl, refl))
+
+-- the ply of an opening, and not the place of its line
+opening_cells : opening_cell None ∷ opening_cell (Some (record { ply = 7; line = 2 })) ∷ []
+    ≡ [] ∷ decimal 7 ∷ []
+opening_cells = refl
+
+none_without_lines : (positions : List State) → IsOpeningCell None positions (codes "0") → ⊥
+none_without_lines positions (opening, none, is) =
+    let empty : opening_cell opening ≡ [] = ap opening_cell none in cc
+
+-- without a line there is no opening
+none_by_no_line : (positions : List State) → IsOpeningCell (Some []) positions (codes "0") → ⊥
+none_by_no_line positions (None, none, is) = cc
+none_by_no_line positions (Some opening, found, is) =
+    let (P, here, (Q, ends, same)) = found.here in cc
 
 no_value_of_no_tag : IsTagCell None (codes "x") → ⊥
 no_value_of_no_tag is = cc

@@ -67,7 +67,7 @@ all_lines_are_written : (aim : Aim) (style : Style)
 all_lines_are_written aim style = refl
 
 no_empty_export : (aim : Aim) (id : GameId) (game : GameText) → IsTextOf Standard aim id game [] → ⊥
-no_empty_export aim id game is = none is.head is.movetext is.spells
+no_empty_export aim id game (own, edited, is) = none is.head is.movetext is.spells
   where
     none : (head movetext : List ℕ) → [] ≡ head ++ 10 ∷ (movetext ++ 10 ∷ []) → ⊥
     none [] movetext spells = cc
@@ -500,8 +500,8 @@ no_other_entries_of_a_record : (aim : Aim) (packed : PackedGame) (text : List �
     (game : GameText) (replay : Replay) → IsGameText game → IsReplayOf Main game replay
     → IsPacked packed.name packed.number packed.offset game replay packed
     → ((entries : List Entry)
-    → AreListed (named packed.name aim) (game_id packed.number packed.offset) game replay entries
-    → ⊥) → IsRecordListing aim packed text → ⊥
+    → AreListed (named packed.name (of_all aim)) (game_id packed.number packed.offset) game replay
+    entries → ⊥) → IsRecordListing aim packed text → ⊥
 no_other_entries_of_a_record aim packed text game replay sound is_replay is_packed none is =
     let lines = is game replay sound is_replay is_packed in none lines.0 lines.1
 

@@ -22,7 +22,7 @@ use Rattle.pgn_extract.specs.declared.rows.column.Column.TheVariants.{Tag, OfGam
 use Rattle.pgn_extract.specs.declared.rows.column.Column.TheVariants.{OfAnnotations}
 use Rattle.pgn_extract.specs.declared.rows.column.GameColumn.{GameColumn}
 use Rattle.pgn_extract.specs.declared.rows.column.GameColumn.TheVariants.{File, Game, Offset, Id}
-use Rattle.pgn_extract.specs.declared.rows.column.GameColumn.TheVariants.{Result}
+use Rattle.pgn_extract.specs.declared.rows.column.GameColumn.TheVariants.{Result, OpeningPly}
 use Rattle.pgn_extract.specs.declared.rows.column.LineColumn.TheVariants.{Plies, Last, Moves}
 use Rattle.pgn_extract.specs.declared.rows.column.PlyColumn.{PlyColumn}
 use Rattle.pgn_extract.specs.declared.rows.column.PlyColumn.TheVariants.{Ply, OfPosition, Next}
@@ -39,6 +39,7 @@ game_name_is_low Game = refl
 game_name_is_low Offset = refl
 game_name_is_low Id = refl
 game_name_is_low Result = refl
+game_name_is_low OpeningPly = refl
 
 ply_name_is_low : (own : PlyColumn) → list_all is_low (ply_column_name own) ≡ true
 ply_name_is_low Ply = refl

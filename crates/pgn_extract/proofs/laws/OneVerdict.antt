@@ -15,7 +15,6 @@ use Rattle.pgn_extract.proofs.Common.{AreVerdicts, without_note, IsUnreadableVer
 use Rattle.pgn_extract.proofs.Common.{IsEntry, id_of, is_chosen, Mode}
 use Rattle.pgn_game.proofs.OneReplay.{one_replay, one_fault, no_fault}
 use Rattle.pgn_game.proofs.GameLineFacts.{one_game_line}
-use Rattle.pgn_game.proofs.OneExport.{one_export}
 use Rattle.pgn_game.proofs.SomeRecord.{one_spelling}
 use Rattle.pgn_extract.proofs.ChoiceFacts.{by_both, by_choice}
 use Rattle.pgn_extract.proofs.Chosen.{one_chosen}
@@ -23,12 +22,14 @@ use Rattle.pgn_extract.specs.Public.Listing.{IsShownOf}
 use Rattle.pgn_extract.specs.Public.Rows.{place_of}
 use Rattle.pgn_extract.proofs.ShownTexts.{one_shown}
 use Rattle.pgn_extract.proofs.Counting.{one_counted}
+use Rattle.pgn_extract.proofs.SomeEdited.{one_edited_export}
 use Rattle.pgn_extract.specs.declared.settings.Mode.TheVariants as modes
 
 -- the text of a game
 one_text : (form : Form) (aim : Aim) (id : GameId) (game : GameText) (x y : List ℕ)
     → IsTextOf form aim id game x → IsTextOf form aim id game y → x ≡ y
-one_text Standard aim id game x y first second = one_export aim.style game x y first second
+one_text Standard aim id game x y first second =
+    one_edited_export aim.edits aim.style game x y first second
 one_text AsItStands aim id game x y first second = first ∙ sym second
 one_text (Line notation) aim id game x y (own, is, first) (other, also, second) =
     first ∙ ap (line_with aim.name id)
@@ -52,7 +53,8 @@ one_lines : (aim : Aim) (id : GameId) (game : GameText) (replay : Replay) (x y :
 one_lines aim id game replay x y (xs, these, first) (ys, those, second) =
     first ∙ ap (listing aim.name)
     (one_chosen id (IsEntry aim (heading_of game) replay) (IsShownOf aim id game replay)
-    (λ ply. one_shown aim.line (place_of aim.name id game replay ply)) (plies_of 0 replay.positions)
+    (λ ply. one_shown aim.line (place_of aim.name aim.openings id game replay ply))
+    (plies_of 0 replay.positions)
     xs ys these those) ∙ sym second
 
 -- what goes to the output of it

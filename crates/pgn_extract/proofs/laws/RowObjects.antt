@@ -21,7 +21,7 @@ use Rattle.pgn_extract.specs.declared.rows.column.Column.TheVariants.{Tag, OfGam
 use Rattle.pgn_extract.specs.declared.rows.column.Column.TheVariants.{OfAnnotations}
 use Rattle.pgn_extract.specs.declared.rows.column.Format.TheVariants.{Jsonl}
 use Rattle.pgn_extract.specs.declared.rows.column.GameColumn.TheVariants.{File, Game, Offset, Id}
-use Rattle.pgn_extract.specs.declared.rows.column.GameColumn.TheVariants.{Result}
+use Rattle.pgn_extract.specs.declared.rows.column.GameColumn.TheVariants.{Result, OpeningPly}
 use Rattle.pgn_extract.specs.declared.rows.column.LineColumn.TheVariants.{Plies, Last, Moves}
 use Rattle.pgn_extract.specs.declared.rows.column.PlyColumn.TheVariants.{Ply, OfPosition, Next}
 use Rattle.pgn_extract.specs.declared.rows.column.PlyColumn.TheVariants.{NextUci, OfLine}
@@ -69,6 +69,7 @@ cell_is_sound (OfGame Game) place cell has is = is_int_of place.id.number cell h
 cell_is_sound (OfGame Offset) place cell has is = is_int_of place.id.offset cell has.offset is
 cell_is_sound (OfGame Id) place cell has is = refl
 cell_is_sound (OfGame Result) place cell has is = refl
+cell_is_sound (OfGame OpeningPly) place cell has is = refl
 cell_is_sound (OfPly Ply) place cell has is = is_int_of place.ply cell has.ply is
 cell_is_sound (OfPly (OfPosition Fen)) place cell has is = refl
 cell_is_sound (OfPly (OfPosition Turn)) place cell has is = refl

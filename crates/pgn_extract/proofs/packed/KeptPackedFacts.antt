@@ -4,8 +4,11 @@ use Rattle.pgn_extract.proofs.Common.{GameText, tag_in, positions_from, IsCodedL
 use Rattle.pgn_extract.proofs.Common.{main_words, IsMainLine, RawRecord, PackedGame, AreCodes}
 use Rattle.pgn_extract.proofs.Common.{Replay, fen_tag, IsStart, line_legal, line_positions}
 use Rattle.pgn_extract.proofs.Common.{one_start, IsOfRecord, HasNoText}
+use Rattle.pgn_extract.proofs.Common.{IsOfGame, Main}
+use Rattle.pgn_game.specs.Public.CodeLines.{AreLegalMoves, IsLegalLine}
 use Rattle.pgn_game.proofs.OneReplay.{line_head}
 use Rattle.pgn_extract.specs.Private.KeptPacked.{IsStartOf, IsKeptOf}
+use Rattle.pgn_extract.proofs.OneMain.{one_main}
 
 module _ {raw : RawRecord} {game : GameText} {replay : Replay} {packed : PackedGame}
     (own : IsOfRecord raw game replay packed) (start : State)
@@ -34,6 +37,22 @@ module _ {raw : RawRecord} {game : GameText} {replay : Replay} {packed : PackedG
     are = subst (λ (P : State). AreCodes P replay.played packed.plies) kept_start own.kept.plies;
     spell = ap (λ (r : RawRecord). r.plies) (sym own.shows);
   }
+
+  -- and each replay of the game has it
+  pub each_line : (other : Replay) → IsOfGame game other
+      → IsLegalLine start other × IsCodedLine start raw.plies other.played
+  each_line other is =
+      let words = main_words game.elements 0 in
+      let same = one_main game replay other (Main, own.is_replay) is in (
+        record {
+          legal = subst (AreLegalMoves start) same.1
+              (line_legal start words replay.positions replay.played line_there);
+          positions = sym same.0
+              ∙ line_positions start words replay.positions replay.played line_there
+              ∙ ap (positions_from start) same.1;
+        },
+        subst (IsCodedLine start raw.plies) same.1 coded_line,
+      )
 
   -- so a replay of the bytes is that of the game
   same_replay : (kept : Replay) → IsCodedReplay start raw.plies kept → replay ≡ kept

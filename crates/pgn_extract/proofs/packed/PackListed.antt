@@ -72,11 +72,11 @@ game_rows aim list name id game good own text (sound replay packed is packs one)
     let here : IsRecordListing aim packed lines =
     subst (λ (m : Mode). AreRecordLines m aim packed lines) list of in
     let found = here game replay good is own_mark in
-    let marked : AreListed (named name aim) id game replay found.0 =
-    subst (λ (i : GameId). AreListed (named name aim) i game replay found.0)
+    let marked : AreListed (named name (of_all aim)) id game replay found.0 =
+    subst (λ (i : GameId). AreListed (named name (of_all aim)) i game replay found.0)
     (ap₂ game_id packs.number packs.offset)
     (subst (λ (title : Option (List ℕ)).
-    AreListed (named title aim) (game_id packed.number packed.offset) game replay found.0)
+    AreListed (named title (of_all aim)) (game_id packed.number packed.offset) game replay found.0)
     packs.name found.1) in (
       found.0,
       sound_rows replay is marked,

@@ -17,6 +17,7 @@ use Rattle.chess.specs.Public.Placements.{opposite}
 use Rattle.pgn_game.specs.Public.PlyCodes.{FitsCode, IsCode, code_bytes}
 use Rattle.pgn_game.proofs.Cells.{no_cell}
 use Rattle.pgn_game.proofs.PlyCodeFacts.{code_again}
+use Rattle.pgn_criteria.specs.Public.Prefilters.{IsPlayedBy}
 use Rattle.pgn_criteria.specs.Public.Walks.{stepped}
 use Rattle.pgn_criteria.proofs.WalkFacts.{step_shows_next_position}
 use Rattle.pgn_extract.specs.Private.Packed.{StartsWith, StartsThere, StandsInRecord}
@@ -24,7 +25,7 @@ use Rattle.pgn_extract.specs.Private.WalkedLines.{IsWalkedTo, IsMarkedWith, AreM
 use Rattle.pgn_extract.specs.Private.Lines.{is_bare}
 use Rattle.pgn_extract.specs.Private.Lines.{ShowsValue}
 use Rattle.pgn_extract.specs.declared.rows.column.PlyColumn.{PlyColumn}
-use Rattle.pgn_extract.proofs.Common.{false≢true}
+use Rattle.pgn_extract.proofs.Common.{false≢true, line_legal, line_positions}
 use Rattle.pgn_extract.proofs.Finds.{at_seam, seam_within, none_yet, not_wanted}
 use Rattle.pgn_extract.proofs.OneMain.{one_main, stands_main}
 use Rattle.pgn_extract.proofs.PackedFacts.{begins, first_is, kept_start, line_begins}
@@ -38,13 +39,6 @@ codes_again [] fits = refl
 codes_again (c ∷ cs) fits =
     ap (λ (d : PlyCode). d ∷ codes_in (flat_map code_bytes cs)) (code_again c fits.0)
     ∙ ap (λ (ds : List PlyCode). c ∷ ds) (codes_again cs fits.1)
-
--- how many codes bytes spell
-pub codes_count : (bytes : List ℕ) → length (codes_in bytes) ≡ length bytes / 3
-codes_count [] = refl
-codes_count (a ∷ []) = refl
-codes_count (a ∷ b ∷ []) = refl
-codes_count (a ∷ b ∷ d ∷ rest) = let more = codes_count rest in omega (arith, more)
 
 -- fewer are left after the next ply that is met
 pub next_shorter : (set : ℕ) (codes : List PlyCode) (turn side : Side) (left : List PlyCode)
@@ -122,6 +116,23 @@ module _ {raw : RawRecord} {game : GameText} {replay : Replay} {packed : PackedG
   told_codes =
       ap (λ (r : RawRecord). codes_in r.plies) (sym own.shows)
       ∙ codes_again packed.plies own.fits.plies
+
+  -- the main line of the game is played by the moves of which these are the codes
+  pub played_by : (P : State) → slice_get replay.positions 0 ≡ Some P
+      → IsPlayedBy P (codes_in raw.plies) replay
+  played_by P here =
+      let start = own.is_replay.start in
+      let words = main_words game.elements 0 in
+      let line = own.is_replay.line in
+      let same : P ≡ start = same_Some P start (sym here ∙ first_is own) in
+      subst (λ (Q : State). IsPlayedBy Q (codes_in raw.plies) replay) (sym same) (record {
+        line = record {
+          legal = line_legal start words replay.positions replay.played line;
+          positions = line_positions start words replay.positions replay.played line;
+        };
+        told = subst (λ (Q : State). AreCodes Q replay.played (codes_in raw.plies)) (kept_start own)
+            (subst (AreCodes own.kept.start replay.played) (sym told_codes) own.kept.plies);
+      })
 
   pub walked_none : (seen : Sight)
       → (P : State) × (slice_get replay.positions 0 ≡ Some P) × IsSightOf P seen

@@ -19,7 +19,10 @@ use Rattle.pgn_extract.specs.Private.ColumnLists.{HasRead}
 use Rattle.pgn_extract.specs.Public.Columns.{IsColumnFault, IsRefusedList, IsWrongAfter}
 use Rattle.pgn_extract.specs.declared.rows.list.ColumnsError.TheVariants as err
 use Rattle.pgn_extract.specs.Public.Columns.{column_name, IsColumnOf, AreDistinct, HaveNames}
-use Rattle.pgn_extract.specs.Public.Columns.{AreColumns, shows_annotations}
+use Rattle.pgn_extract.specs.Public.Columns.{AreColumns, game_column_name, is_of_opening}
+use Rattle.pgn_extract.specs.declared.rows.column.GameColumn.{GameColumn}
+use Rattle.pgn_extract.specs.declared.rows.column.GameColumn.TheVariants.{File, Game, Offset, Id}
+use Rattle.pgn_extract.specs.declared.rows.column.GameColumn.TheVariants.{Result, OpeningPly}
 use Rattle.pgn_extract.proofs.Common.{cases_Bool}
 
 no_element : (name : List ℕ) → Contains [] name → ⊥
@@ -32,22 +35,41 @@ has_its_name name (col.OfGame own) is = sym is
 has_its_name name (col.OfPly own) is = sym is
 has_its_name name (col.OfAnnotations own) is = sym is
 
--- where none is found that shows annotations, none does
-pub none_found : (columns : List Column) → find shows_annotations columns ≡ None
-    → list_any shows_annotations columns ≡ false
-none_found [] none = refl
-none_found (column ∷ columns) none = elim (cases_Bool (shows_annotations column)) [
+-- where none is found that shows this, none does
+pub none_found : (shows : Column → Bool) (columns : List Column) → find shows columns ≡ None
+    → list_any shows columns ≡ false
+none_found shows [] none = refl
+none_found shows (column ∷ columns) none = elim (cases_Bool (shows column)) [
   | inl is ↦ absurd (cc (rw is at none))
-  | inr is ↦ rw is (none_found columns (rw is at none))
+  | inr is ↦ rw is (none_found shows columns (rw is at none))
 ]
 
 -- so it is where a column is looked for
-pub unpacked : (found : Option (Bor Column)) (columns : List Column) (So : Type 0)
-    → (list_any shows_annotations columns ≡ false → So)
-    → option_map (λ (column : Bor Column). column.now) found ≡ find shows_annotations columns
+pub left_out : (shows : Column → Bool) (found : Option (Bor Column)) (columns : List Column)
+    (So : Type 0) → (list_any shows columns ≡ false → So)
+    → option_map (λ (column : Bor Column). column.now) found ≡ find shows columns
     → MatchOption found So (λ column. Unit {0})
-unpacked None columns So gives is = gives (none_found columns (sym is))
-unpacked (Some column) columns So gives is = tt
+left_out shows None columns So gives is = gives (none_found shows columns (sym is))
+left_out shows (Some column) columns So gives is = tt
+
+-- a name that neither the column of an opening nor another one of the game has, none has
+pub no_other : (found : Option GameColumn) (name : List ℕ)
+    → (name ≡ game_column_name OpeningPly → ⊥)
+    → MatchOption found
+    ((own : GameColumn) → is_of_opening own ≡ false → name ≡ game_column_name own → ⊥)
+    (λ own. name ≡ game_column_name own)
+    → MatchOption found ((own : GameColumn) → name ≡ game_column_name own → ⊥)
+    (λ own. name ≡ game_column_name own)
+no_other (Some own) name other is = is
+no_other None name other none = by
+  where
+    by : (own : GameColumn) → name ≡ game_column_name own → ⊥
+    by File is = none File refl is
+    by Game is = none Game refl is
+    by Offset is = none Offset refl is
+    by Id is = none Id refl is
+    by Result is = none Result refl is
+    by OpeningPly is = other is
 
 -- one more name at the end
 pub names_more : (names : List (List ℕ)) (columns : List Column) (name : List ℕ) (column : Column)

@@ -98,8 +98,9 @@ AddsPlies aim id plies old new =
 -- the same of a game with this mark, whatever it says
 abbrev pub AddsLines : Aim → List ℕ → ℕ → List ℕ → List ℕ → Type 0
 AddsLines aim marked plies old new =
-    (name : Option (List ℕ)) (id : GameId) → marked ≡ named_mark name id
-    → AddsPlies (record aim { name = name }) id plies old new
+    (name : Option (List ℕ)) (openings : Option (List NamedLine)) (id : GameId)
+    → marked ≡ named_mark name id
+    → AddsPlies (record aim { name = name; openings = openings }) id plies old new
 
 -- the game, read by itself: its place is the first
 abbrev pub by_itself : GameText → GameText
@@ -141,6 +142,7 @@ pub record TakesAll (aim : Aim) : Type 0 where
 pub record ExportsAll (aim : Aim) : Type 0 where
   pub mode : aim.mode ≡ modes.Export
   pub form : aim.form ≡ Standard
+  pub edits : aim.edits ≡ None
   pub all : TakesAll aim
 
 -- what the mode reports of the game by its replay is added; the game isn't counted yet

@@ -5,6 +5,7 @@ use Rattle.std.specs.Prelude.{length, Option, IsTrue}
 use Rattle.chess.specs.Public.Positions.{State}
 use Rattle.pgn_text.specs.Public.GameTexts.{GameText, tag_in}
 use Rattle.pgn_game.specs.Public.Faults.{Fault, IsFault}
+use Rattle.pgn_game.specs.Public.Openings.{NamedLine}
 use Rattle.pgn_game.specs.Public.Replays.{Replay, IsReplay, IsSoundGame}
 use Rattle.pgn_game.specs.Public.Starts.{fen_tag}
 use Rattle.pgn_game.specs.declared.replays.replayer.Lines.TheVariants.{Main}
@@ -110,10 +111,11 @@ abbrev pub made_line : LineMaker → EntryLine
 made_line (maker.Fields fields) = Marked fields
 made_line (maker.Rows rows) = InColumns rows.row.now
 
--- it makes those of this game under this name
-abbrev pub MakesLines : LineMaker → Option (List ℕ) → GameId → GameText → Type 0
-MakesLines (maker.Fields fields) name id game = Unit {0}
-MakesLines (maker.Rows rows) name id game = MakesRows rows name id game
+-- it makes those of this game under this name and by these lines of openings
+abbrev pub MakesLines : LineMaker → Option (List ℕ) → Option (List NamedLine) → GameId → GameText
+    → Type 0
+MakesLines (maker.Fields fields) name openings id game = Unit {0}
+MakesLines (maker.Rows rows) name openings id game = MakesRows rows name openings id game
 
 -- a line that shows these columns is enough for it
 abbrev pub IsEnoughFor : (PlyColumn → Type 0) → LineMaker → Type 0
@@ -129,7 +131,7 @@ keeps_line (maker.Rows rows) = need_line rows.parts.items
 -- it makes what the aim asks for
 pub record Makes (lines : LineMaker) (aim : Aim) (id : GameId) (game : GameText) : Type 0 where
   pub line : aim.line ≡ made_line lines
-  pub of_game : MakesLines lines aim.name id game
+  pub of_game : MakesLines lines aim.name aim.openings id game
 
 -- this is shown there
 abbrev pub ShowsLine : Shown → GameId → Aim → GameText → List State → State → Type 0
@@ -197,32 +199,35 @@ pub record Finds (aim : Aim) (id : GameId) (game : GameText) (Got : List Entry �
       → (n : ℕ) → length asked ≤ n → n < length replay.positions
       → IsEntry aim (heading_of game) replay n → ⊥
 
--- what a finder looks for, under whatever name
-abbrev pub aim_with : Finder → Option (List ℕ) → Aim
-aim_with finder name =
+-- what a finder looks for, under whatever name and by whatever lines of openings
+abbrev pub aim_with : Finder → Option (List ℕ) → Option (List NamedLine) → Aim
+aim_with finder name openings =
     record (aim_of finder.settings.now) {
       first = finder.first;
       line = made_line finder.lines;
       name = name;
+      openings = openings;
     }
 
 -- at the position that is reached no entry is left out
 abbrev pub Asks : {S : Type 0} → (S → List Entry → S → Type 0) → Finder
     → (Aim → GameText → List State → State → Type 0) → S → S → Bool → Bool → Type 0
 Asks {S} Gets finder At old new on still =
-    (name : Option (List ℕ)) (id : GameId) (game : GameText) (before : List State) (P : State)
-    → At (aim_with finder name) game before P → MakesLines finder.lines name id game
+    (name : Option (List ℕ)) (openings : Option (List NamedLine)) (id : GameId) (game : GameText)
+    (before : List State) (P : State)
+    → At (aim_with finder name openings) game before P
+    → MakesLines finder.lines name openings id game
     → (start : S)
-    → Finds (aim_with finder name) id game (λ got. Gets start got old) before on
-    → Finds (aim_with finder name) id game (λ got. Gets start got new)
+    → Finds (aim_with finder name openings) id game (λ got. Gets start got old) before on
+    → Finds (aim_with finder name openings) id game (λ got. Gets start got new)
     (before ++ P ∷ []) still
 
 -- each game at whose start the line stands has this fault
 abbrev pub Fails : (Aim → GameText → List State → State → Type 0) → Finder → Fault → Type 0
 Fails At finder fault =
-    (name : Option (List ℕ)) (game : GameText) (P : State)
-    → At (aim_with finder name) game [] P
-    → HasFault fault (aim_with finder name) game [] P
+    (name : Option (List ℕ)) (openings : Option (List NamedLine)) (game : GameText) (P : State)
+    → At (aim_with finder name openings) game [] P
+    → HasFault fault (aim_with finder name openings) game [] P
 
 -- the main line of the game is sound, and its entries are handed on
 abbrev pub HandsOn : Aim → GameId → GameText → (List Entry → Type 0) → Type 0
@@ -249,6 +254,6 @@ pub record IsFinderOf (asked : Settings) (id : GameId) (game : GameText) (known 
   pub settings : finder.settings.now ≡ asked
   pub first : finder.first ≡ asked.first
   pub line : asked.line ≡ made_line finder.lines
-  pub makes : MakesLines finder.lines asked.name id game
+  pub makes : MakesLines finder.lines asked.name asked.openings id game
   pub mark : finder.mark.items ≡ named_mark asked.name id
   pub sound : finder.is_sound ≡ known

@@ -1,6 +1,6 @@
 -- The lines of a packed game: in the mode of the index its mark, else those of the entries of the
 -- text that it was packed from.
-use Rattle.std.specs.Prelude.{◌≡◌, ◌<◌, ◌++◌, ℕ, List, length, Some, ◌==◌, ◌/◌, ◌%◌, false}
+use Rattle.std.specs.Prelude.{◌≡◌, ◌<◌, ◌++◌, ℕ, List, length, Some, None, ◌==◌, ◌/◌, ◌%◌, false}
 use Rattle.std.specs.List.{slice_get}
 use Rattle.chess.specs.Public.Positions.{State}
 use Rattle.chess.specs.Public.Start.{initial}
@@ -59,9 +59,9 @@ EachOfRecord raw So = (game : GameText) (replay : Replay) (packed : PackedGame)
 abbrev pub HasNoText : RawRecord → Type 0
 HasNoText raw = EachOfRecord raw (λ game replay packed. ⊥)
 
--- the aim, with the name that the record has
+-- the aim, with the name that the record has, by no lines of openings
 abbrev pub record_aim : Aim → RawRecord → Aim
-record_aim aim raw = record aim { name = raw.name }
+record_aim aim raw = record aim { name = raw.name; openings = None }
 
 -- what the settings ask for, with the lines that are made; and with the mark and the ply alone
 abbrev pub aim_making : Settings → LineMaker → Aim

@@ -5,6 +5,7 @@ use Rattle.std.specs.Prelude.{Option, if◌then◌else◌}
 use Rattle.std.specs.List.{list_any}
 use Rattle.pgn_text.specs.Public.GameTexts.{GameText}
 use Rattle.pgn_text.specs.Public.Games.{Item}
+use Rattle.pgn_game.specs.Public.Openings.{NamedLine}
 use Rattle.pgn_game.specs.Public.Replays.{Replay}
 use Rattle.pgn_extract.specs.Public.Columns.{column_name, is_number_column, is_number_of_ply}
 use Rattle.pgn_extract.specs.Public.Csv as csv
@@ -12,6 +13,7 @@ use Rattle.pgn_extract.specs.Public.Json as json
 use Rattle.pgn_extract.specs.Public.Rows.{IsPlyCell, IsCell, AreCells, place_of}
 use Rattle.pgn_extract.specs.Public.Tsv as tsv
 use Rattle.pgn_extract.specs.Private.AnnotationLists.{annotation_value, lists_in}
+use Rattle.pgn_extract.specs.Private.Finding.{IsOfGame}
 use Rattle.pgn_extract.specs.declared.marks.GameId.{GameId}
 use Rattle.pgn_extract.specs.declared.entries.row_maker.PartColumn.{PartColumn}
 use Rattle.pgn_extract.specs.declared.entries.row_maker.PartColumn.TheVariants as kind
@@ -168,32 +170,34 @@ filled (part ∷ parts) [] last = last
 filled (part ∷ parts) (value ∷ values) last =
     part.before.items ++ (value ++ filled parts values last)
 
--- whatever the plies show, the parts and what stands after them make the cells of these columns
+-- whatever the plies of the game show, the parts and what stands after them make the cells of these
+-- columns
 abbrev pub MakesCells : Format → List (List Item) → List Column → List RowPart → List ℕ
-    → Option (List ℕ) → GameId → GameText → Type 0
-MakesCells format lists columns parts last name id game =
-    (replay : Replay) (ply : ℕ) (values : List (List ℕ))
+    → Option (List ℕ) → Option (List NamedLine) → GameId → GameText → Type 0
+MakesCells format lists columns parts last name openings id game =
+    (replay : Replay) → IsOfGame game replay → (ply : ℕ) (values : List (List ℕ))
     → ArePartTexts format lists (columns_of parts) replay ply values
     → (cells : List (List ℕ))
-    × AreCells columns (place_of name id game replay ply) cells
+    × AreCells columns (place_of name openings id game replay ply) cells
     × (filled parts values last ≡ front format ++ cells_text format columns cells)
 
 -- the same of all that stands before the end of a row
 abbrev pub MakesRow : Format → List (List Item) → List Column → List RowPart → List ℕ
-    → Option (List ℕ) → GameId → GameText → Type 0
-MakesRow format lists columns parts last name id game =
-    (replay : Replay) (ply : ℕ) (values : List (List ℕ))
+    → Option (List ℕ) → Option (List NamedLine) → GameId → GameText → Type 0
+MakesRow format lists columns parts last name openings id game =
+    (replay : Replay) → IsOfGame game replay → (ply : ℕ) (values : List (List ℕ))
     → ArePartTexts format lists (columns_of parts) replay ply values
     → (cells : List (List ℕ))
-    × AreCells columns (place_of name id game replay ply) cells
+    × AreCells columns (place_of name openings id game replay ply) cells
     × (filled parts values last
     ≡ front format ++ (cells_text format columns cells ++ back format))
 
--- rows of this game are made, under this name
-abbrev pub MakesRows : RowMaker → Option (List ℕ) → GameId → GameText → Type 0
-MakesRows maker name id game =
+-- rows of this game are made, under this name and by these lines of openings
+abbrev pub MakesRows : RowMaker → Option (List ℕ) → Option (List NamedLine) → GameId → GameText
+    → Type 0
+MakesRows maker name openings id game =
     MakesRow maker.row.now.format (lists_in maker.annotations) maker.row.now.columns.items
-    maker.parts.items maker.last.items name id game
+    maker.parts.items maker.last.items name openings id game
 
 -- the quotes around the value of a column of the ply
 abbrev pub quote_text : Format → Bool → List ℕ
@@ -213,16 +217,17 @@ pub record EndsPart (old new : RowMaker) (column : PartColumn) : Type 0 where
   pub parts : new.parts.items ≡ old.parts.items ++ part ∷ []
   pub after : new.last.items ≡ part_quote old.row.now.format column
 
--- the cell of a column follows, whatever the ply shows
-abbrev pub AddsCell : RowMaker → RowMaker → Option (List ℕ) → GameId → GameText → Column → Type 0
-AddsCell old new name id game column =
-    (replay : Replay) (ply : ℕ) (values : List (List ℕ))
+-- the cell of a column follows, whatever the ply of the game shows
+abbrev pub AddsCell : RowMaker → RowMaker → Option (List ℕ) → Option (List NamedLine) → GameId
+    → GameText → Column → Type 0
+AddsCell old new name openings id game column =
+    (replay : Replay) → IsOfGame game replay → (ply : ℕ) (values : List (List ℕ))
     → ArePartTexts old.row.now.format (lists_in old.annotations) (columns_of new.parts.items) replay
     ply values
     → (before : List (List ℕ)) × (cell : List ℕ)
     × ArePartTexts old.row.now.format (lists_in old.annotations) (columns_of old.parts.items) replay
     ply before
-    × IsCell column (place_of name id game replay ply) cell
+    × IsCell column (place_of name openings id game replay ply) cell
     × (filled new.parts.items values new.last.items
     ≡ filled old.parts.items before old.last.items
     ++ keyed_text old.row.now.format column cell)

@@ -1,5 +1,6 @@
 -- What a run is to report, wherever in the text it begins.
 use Rattle.std.specs.Prelude.{◌≡◌, ◌<◌, ◌≤◌, ℕ, Bool, true, List, Option, Some, None}
+use Rattle.pgn_game.specs.Public.Edits.{EditedTag}
 use Rattle.pgn_game.specs.Public.Openings.{NamedLine}
 use Rattle.pgn_game.specs.Public.Replays.{Replay}
 use Rattle.pgn_game.specs.declared.exports.style.Style.{Style}
@@ -29,6 +30,7 @@ pub record Aim : Type 0 where
   pub line : EntryLine
   pub select : Select
   pub form : Form
+  pub edits : Option (List EditedTag)
   pub style : Style
   pub explain : Bool
   pub tags_first : Bool
@@ -47,6 +49,7 @@ aim_of settings = record {
   line = settings.line;
   select = settings.select;
   form = settings.form;
+  edits = settings.edits;
   style = settings.style;
   explain = settings.explain;
   tags_first = settings.tags_first;

@@ -7,7 +7,7 @@ use Rattle.pgn_game.specs.declared.exports.notation.Notation.TheVariants.{San, U
 use Rattle.pgn_text.specs.Public.Bytes.{is_name_byte}
 use Rattle.pgn_extract.specs.declared.rows.column.GameColumn.{GameColumn}
 use Rattle.pgn_extract.specs.declared.rows.column.GameColumn.TheVariants.{File, Game, Offset, Id}
-use Rattle.pgn_extract.specs.declared.rows.column.GameColumn.TheVariants.{Result}
+use Rattle.pgn_extract.specs.declared.rows.column.GameColumn.TheVariants.{Result, OpeningPly}
 use Rattle.pgn_extract.specs.declared.rows.column.LineColumn.{LineColumn}
 use Rattle.pgn_extract.specs.declared.rows.column.LineColumn.TheVariants.{Plies, Last, Moves}
 use Rattle.pgn_extract.specs.declared.rows.column.AnnotationColumn.{AnnotationColumn}
@@ -31,6 +31,7 @@ game_column_name Game = codes "@game"
 game_column_name Offset = codes "@offset"
 game_column_name Id = codes "@id"
 game_column_name Result = codes "@result"
+game_column_name OpeningPly = codes "@opening-ply"
 
 abbrev pub position_column_name : PositionColumn → List ℕ
 position_column_name Fen = codes "@fen"
@@ -74,6 +75,7 @@ is_number_of_game Game = true
 is_number_of_game Offset = true
 is_number_of_game Id = false
 is_number_of_game Result = false
+is_number_of_game OpeningPly = false
 
 abbrev pub is_number_of_position : PositionColumn → Bool
 is_number_of_position Fen = false
@@ -107,6 +109,21 @@ shows_annotations (column.Tag name) = false
 shows_annotations (column.OfGame own) = false
 shows_annotations (column.OfPly own) = false
 shows_annotations (column.OfAnnotations own) = true
+
+-- the column shows something of openings, which are those of lines that are given
+abbrev pub is_of_opening : GameColumn → Bool
+is_of_opening File = false
+is_of_opening Game = false
+is_of_opening Offset = false
+is_of_opening Id = false
+is_of_opening Result = false
+is_of_opening OpeningPly = true
+
+abbrev pub shows_opening : Column → Bool
+shows_opening (column.Tag name) = false
+shows_opening (column.OfGame own) = is_of_opening own
+shows_opening (column.OfPly own) = false
+shows_opening (column.OfAnnotations own) = false
 
 -- the name of a tag: bytes of names, at least one
 abbrev pub IsTagName : List ℕ → Type 0

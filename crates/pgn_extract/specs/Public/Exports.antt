@@ -5,7 +5,8 @@ use Rattle.std.specs.Prelude.{◌≡◌, ℕ, ◌+◌, ◌<◌, List, [], ◌∷
 use Rattle.pgn_text.specs.Public.GameTexts.{GameText, tag_in}
 use Rattle.pgn_text.specs.Public.Marks.{PieceKind, ReadableGame, UnreadableRest, TooLongBlock}
 use Rattle.pgn_text.specs.Public.Marks.{MarkedPiece}
-use Rattle.pgn_game.specs.Public.Exports.{IsExport, lines_with}
+use Rattle.pgn_game.specs.Public.Edits.{IsEditedExport}
+use Rattle.pgn_game.specs.Public.Exports.{lines_with}
 use Rattle.pgn_game.specs.Public.Faults.{Fault}
 use Rattle.pgn_game.specs.Public.GameLines.{IsGameLine}
 use Rattle.pgn_game.specs.Public.PackedGames.{IsRecordOf}
@@ -57,10 +58,10 @@ IsSelected Faulty entry = ⊥
 abbrev pub line_with : Option (List ℕ) → GameId → List ℕ → List ℕ
 line_with name id own = (titled (codes ":") name ++ mark id) ++ 32 ∷ own ++ 10 ∷ []
 
--- the text of a game that is selected: its export, or the game as it stands, or its line, or its
--- record
+-- the text of a game that is selected: its export with the edits, or the game as it stands, or its
+-- line, or its record
 abbrev pub IsTextOf : Form → Aim → GameId → GameText → List ℕ → Type 0
-IsTextOf Standard aim id game text = IsExport aim.style game text
+IsTextOf Standard aim id game text = IsEditedExport aim.edits aim.style game text
 IsTextOf AsItStands aim id game text = text ≡ as_it_stands game.text
 IsTextOf (Line notation) aim id game text =
     (own : List ℕ) × IsGameLine notation (tag_in fen_tag game.tags) game.elements own

@@ -17,7 +17,7 @@ use Rattle.pgn_game.specs.Public.Starts.{fen_tag}
 use Rattle.pgn_criteria.specs.Public.Meeting.{heading_of}
 use Rattle.pgn_extract.specs.Public.Aims.{Aim, GameId, IsEntry}
 use Rattle.pgn_extract.specs.Public.Choices.{is_chosen}
-use Rattle.pgn_extract.specs.Public.Columns.{shows_annotations}
+use Rattle.pgn_extract.specs.Public.Columns.{shows_annotations, shows_opening}
 use Rattle.pgn_extract.specs.Public.Index.{mark, titled}
 use Rattle.pgn_extract.specs.Public.Rows.{RowPlace, place_of, IsRow}
 use Rattle.pgn_extract.specs.declared.settings.EntryLine.{EntryLine}
@@ -86,6 +86,11 @@ abbrev pub has_annotations : EntryLine → Bool
 has_annotations (Marked fields) = false
 has_annotations (InColumns row) = list_any shows_annotations row.columns.items
 
+-- and something of openings
+abbrev pub has_opening : EntryLine → Bool
+has_opening (Marked fields) = false
+has_opening (InColumns row) = list_any shows_opening row.columns.items
+
 -- what the line of an entry shows of its place
 abbrev pub IsShownBy : EntryLine → RowPlace → Shown → Type 0
 IsShownBy (Marked fields) place shown =
@@ -96,7 +101,7 @@ IsShownBy (InColumns row) place shown =
 -- what is shown of a ply of the main line of a game
 abbrev pub IsShownOf : Aim → GameId → GameText → Replay → ℕ → Shown → Type 0
 IsShownOf aim id game replay ply shown =
-    IsShownBy aim.line (place_of aim.name id game replay ply) shown
+    IsShownBy aim.line (place_of aim.name aim.openings id game replay ply) shown
 
 -- the game is the one that these parts make, read by itself
 abbrev pub IsGameOf : List Part → GameText → Type 0

@@ -3,16 +3,16 @@ use Rattle.std.specs.Prelude.{Bool, false, true, not, ◌&&◌, ◌||◌, if◌t
 use Rattle.std.specs.Prelude.{◌==◌, ℕ, ◌-◌, ◌^◌, nat_lt, length, List, [], ◌∷◌, ◌++◌, Option, Some}
 use Rattle.std.specs.Prelude.{None, codes, option_map, unwrap_or, ◌≡◌, IfSome}
 use Rattle.std.specs.List.{list_all}
-use Rattle.pgn_game.specs.Public.Openings.{NamedLine}
 use Rattle.pgn_game.specs.declared.exports.notation.Notation.TheVariants.{San, Uci}
 use Rattle.pgn_game.specs.declared.exports.style.Style.{Style}
-use Rattle.pgn_criteria.specs.Public.Conditions.{Conditions}
 use Rattle.pgn_extract.specs.Public.Aims.{Aim, GameId}
+use Rattle.pgn_extract.specs.Public.AskedEdits.{has_edits}
 use Rattle.pgn_extract.specs.Public.Columns.{AreColumns}
 use Rattle.pgn_extract.specs.Public.GivenMarks.{game_id, mark_in}
-use Rattle.pgn_extract.specs.Public.Listing.{has_annotations}
+use Rattle.pgn_extract.specs.Public.Listing.{has_annotations, has_opening}
 use Rattle.pgn_extract.specs.Public.Rows.{header_text}
 use Rattle.pgn_extract.specs.declared.app.command.Request.{Request}
+use Rattle.pgn_extract.specs.declared.app.order.Given.{Given}
 use Rattle.pgn_extract.specs.declared.rows.column.Format.{Format}
 use Rattle.pgn_extract.specs.declared.rows.column.Format.TheVariants.{Csv, Tsv, Jsonl}
 use Rattle.pgn_extract.specs.declared.rows.column.Row.{Row}
@@ -78,22 +78,27 @@ asked_line request (Some row) = InColumns row
 abbrev pub IsInPacks : Request → Option Row → Type 0
 IsInPacks request row = request.packed ≡ true → has_annotations (asked_line request row) ≡ false
 
--- all that a run is to do, with notes or without, with this row, these lines of openings, these
--- criteria, and of the pieces with these marks; its lines have no name yet
-abbrev pub asked : Bool → Request → Option Row → Option (List NamedLine) → Option (List Conditions)
-    → Option (List GameId) → Aim
-asked noted request row openings criteria chosen = record {
+-- where no lines of openings are given, the line of an entry shows nothing of openings
+abbrev pub HasItsLines : Request → Option Row → Type 0
+HasItsLines request row =
+    is_none request.openings ≡ true → has_opening (asked_line request row) ≡ false
+
+-- all that a run is to do, with notes or without, with what was read for it; its lines have no name
+-- yet
+abbrev pub asked : Bool → Request → Given → Aim
+asked noted request given = record {
   name = None;
-  chosen = chosen;
-  openings = openings;
+  chosen = given.chosen;
+  openings = given.openings;
   mode = asked_mode request;
-  criteria = criteria;
+  criteria = given.criteria;
   min_ply = request.min_ply;
   max_ply = request.max_ply;
   first = request.first;
-  line = asked_line request row;
+  line = asked_line request given.row;
   select = asked_select request;
   form = asked_form request;
+  edits = given.edits;
   style = asked_style request;
   explain = noted;
   tags_first = request.tags_first;
@@ -198,7 +203,22 @@ file_refusals request =
     }
     ∷ []
 
--- the refusals of tags that come first, and those of files
+-- something else is asked for than games in the standard's form
+abbrev pub asks_no_form : Request → Bool
+asks_no_form request = (request.list || request.index || is_some request.rows)
+    || (request.moves || request.uci || request.pack || request.as_is) || request.faulty
+
+-- the refusals of edits where no tags are written, and those of files
+abbrev pub edit_refusals : Request → List Refusal
+edit_refusals request =
+    record {
+      applies = asks_no_form request && has_edits request;
+      line = codes
+          "pgn-extract: --set, --drop and --fix-results go with none of --list, --index, --rows, --moves, --uci, --pack, --as-is and --faulty\n";
+    }
+    ∷ file_refusals request
+
+-- the refusals of tags that come first, those of edits, and those of files
 abbrev pub search_refusals : Request → List Refusal
 search_refusals request =
     record {
@@ -210,7 +230,7 @@ search_refusals request =
       line = codes
           "pgn-extract: --tags-first goes with none of --index, --packed, --others, --faulty, --pack and --openings\n";
     }
-    ∷ file_refusals request
+    ∷ edit_refusals request
 
 -- something is asked for that is no row
 abbrev pub asks_beside_rows : Request → Bool

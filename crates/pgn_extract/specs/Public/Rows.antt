@@ -8,10 +8,12 @@ use Rattle.chess.specs.declared.moves.Move.{Move}
 use Rattle.pgn_text.specs.Public.GameTexts.{GameText}
 use Rattle.pgn_text.specs.Public.Games.{Item}
 use Rattle.pgn_game.specs.Public.GameLines.{IsMoveText, AreMoveTexts, uci_text}
+use Rattle.pgn_game.specs.Public.Openings.{NamedLine, IsOpeningIn, ends_of}
 use Rattle.pgn_game.specs.Public.Replays.{Replay}
 use Rattle.pgn_game.specs.Public.Starts.{IsValueOf}
 use Rattle.pgn_game.specs.declared.exports.notation.Notation.{Notation}
 use Rattle.pgn_game.specs.declared.exports.notation.Notation.TheVariants.{San}
+use Rattle.pgn_game.specs.declared.openings.Opening.{Opening}
 use Rattle.pgn_criteria.specs.Public.Meeting.{Heading, heading_of}
 use Rattle.pgn_extract.specs.Public.Columns.{column_name, is_number_column}
 use Rattle.pgn_extract.specs.Public.Csv as csv
@@ -28,7 +30,7 @@ use Rattle.pgn_extract.specs.declared.rows.column.Format.{Format}
 use Rattle.pgn_extract.specs.declared.rows.column.Format.TheVariants.{Csv, Tsv, Jsonl}
 use Rattle.pgn_extract.specs.declared.rows.column.GameColumn.{GameColumn}
 use Rattle.pgn_extract.specs.declared.rows.column.GameColumn.TheVariants.{File, Game, Offset, Id}
-use Rattle.pgn_extract.specs.declared.rows.column.GameColumn.TheVariants.{Result}
+use Rattle.pgn_extract.specs.declared.rows.column.GameColumn.TheVariants.{Result, OpeningPly}
 use Rattle.pgn_extract.specs.declared.rows.column.LineColumn.{LineColumn}
 use Rattle.pgn_extract.specs.declared.rows.column.LineColumn.TheVariants.{Plies, Last, Moves}
 use Rattle.pgn_extract.specs.declared.rows.column.PlyColumn.{PlyColumn}
@@ -39,19 +41,22 @@ use Rattle.pgn_extract.specs.declared.rows.column.PositionColumn.TheVariants.{Fe
 use Rattle.pgn_extract.specs.declared.rows.column.PositionColumn.TheVariants.{Men, Check, Material}
 use Rattle.pgn_extract.specs.declared.rows.column.Row.{Row}
 
--- what a row is made of: the name of the file where lines have one, the mark of the game, its
--- heading and its elements, and a ply of its replay
+-- what a row is made of: the name of the file where lines have one, the lines of openings where
+-- they are given, the mark of the game, its heading and its elements, and a ply of its replay
 pub record RowPlace : Type 0 where
   pub name : Option (List ℕ)
+  pub openings : Option (List NamedLine)
   pub id : GameId
   pub heading : Heading
   pub items : List Item
   pub replay : Replay
   pub ply : ℕ
 
-abbrev pub place_of : Option (List ℕ) → GameId → GameText → Replay → ℕ → RowPlace
-place_of name id game replay ply = record {
+abbrev pub place_of : Option (List ℕ) → Option (List NamedLine) → GameId → GameText → Replay → ℕ
+    → RowPlace
+place_of name openings id game replay ply = record {
   name = name;
+  openings = openings;
   id = id;
   heading = heading_of game;
   items = game.elements;
@@ -69,13 +74,30 @@ abbrev pub name_cell : Option (List ℕ) → List ℕ
 name_cell None = []
 name_cell (Some name) = name
 
+-- that is the opening of a game with these positions by the lines that are given, or it has none;
+-- without lines it has none
+abbrev pub IsOpeningBy : Option (List NamedLine) → List State → Option Opening → Type 0
+IsOpeningBy None positions opening = opening ≡ None
+IsOpeningBy (Some lines) positions opening = IsOpeningIn (ends_of lines) positions opening
+
+-- the ply at which the line of an opening ends, and nothing where there is none
+abbrev pub opening_cell : Option Opening → List ℕ
+opening_cell None = []
+opening_cell (Some opening) = decimal opening.ply
+
+abbrev pub IsOpeningCell : Option (List NamedLine) → List State → List ℕ → Type 0
+IsOpeningCell openings positions cell =
+    (opening : Option Opening) × IsOpeningBy openings positions opening
+    × (cell ≡ opening_cell opening)
+
 -- what a column shows of the game
-abbrev pub game_cell : GameColumn → Option (List ℕ) → GameId → Heading → List ℕ
-game_cell File name id heading = name_cell name
-game_cell Game name id heading = decimal id.number
-game_cell Offset name id heading = decimal id.offset
-game_cell Id name id heading = mark id
-game_cell Result name id heading = heading.result
+abbrev pub IsGameCell : GameColumn → RowPlace → List ℕ → Type 0
+IsGameCell File place cell = cell ≡ name_cell place.name
+IsGameCell Game place cell = cell ≡ decimal place.id.number
+IsGameCell Offset place cell = cell ≡ decimal place.id.offset
+IsGameCell Id place cell = cell ≡ mark place.id
+IsGameCell Result place cell = cell ≡ place.heading.result
+IsGameCell OpeningPly place cell = IsOpeningCell place.openings place.replay.positions cell
 
 -- the position after so many plies has the fact
 abbrev pub IsAt : Replay → ℕ → (State → Type 0) → Type 0
@@ -134,7 +156,7 @@ IsPlyCell (OfLine own) replay ply cell = IsLineCell own replay ply cell
 -- the cell of a column
 abbrev pub IsCell : Column → RowPlace → List ℕ → Type 0
 IsCell (Tag name) place cell = IsTagCell (place.heading.named name.items) cell
-IsCell (OfGame own) place cell = cell ≡ game_cell own place.name place.id place.heading
+IsCell (OfGame own) place cell = IsGameCell own place cell
 IsCell (OfPly own) place cell = IsPlyCell own place.replay place.ply cell
 IsCell (OfAnnotations own) place cell =
     IsAnnotationCell own (annotations_at place.items place.ply) cell

@@ -113,7 +113,8 @@ IsRecordListing aim packed text =
     (game : GameText) (replay : Replay) → IsGameText game → IsReplayOf Main game replay
     → IsPacked packed.name packed.number packed.offset game replay packed
     → (entries : List Entry)
-    × AreListed (named packed.name aim) (game_id packed.number packed.offset) game replay entries
+    × AreListed (named packed.name (of_all aim)) (game_id packed.number packed.offset) game replay
+    entries
     × (text ≡ listing packed.name entries)
 
 -- the lines of a record in a mode: in that of the index its mark, else its listing

@@ -37,6 +37,12 @@ pub struct Request<'a> {
     pub no_variations: bool,
     /// `--roster` was given.
     pub roster: bool,
+    /// The texts after each `--set`, in their order.
+    pub sets: Vec<&'a str>,
+    /// The texts after each `--drop`, in their order.
+    pub drops: Vec<&'a str>,
+    /// `--fix-results` was given.
+    pub fix_results: bool,
     /// The number after `-w`.
     pub width: Option<u16>,
     /// The path after `--openings`.
@@ -185,7 +191,7 @@ const MODES: &[Choice] = &[
          tags, and @file @game @offset @id @ply @fen @placement\n\
          @turn @number @check @material @next @next-uci @last\n\
          @last-uci @nags @comment @clk @eval @result @plies\n\
-         @moves @uci, with commas between",
+         @moves @uci @opening-ply, with commas between",
     ),
     choice!("csv", "With --rows, values with commas between [default]"),
     choice!("tsv", "With --rows, values with tabs between"),
@@ -297,6 +303,26 @@ const STYLES: &[Choice] = &[
     ),
 ];
 
+/// How their tags are edited.
+const EDITS: &[Choice] = &[
+    choice!(
+        "set",
+        Takes::Texts("TAG=VALUE"),
+        "Write the tag TAG with this value in each game; any\n\
+         number of times",
+    ),
+    choice!(
+        "drop",
+        Takes::Texts("TAG"),
+        "Leave the tag TAG out; one of the roster is written as\n\
+         unknown; any number of times",
+    ),
+    choice!(
+        "fix-results",
+        "Write the result that ends a game as its Result tag"
+    ),
+];
+
 /// What goes to standard error.
 const REPORTS: &[Choice] = &[
     choice!(
@@ -347,11 +373,12 @@ const INPUTS: &[Choice] = &[
 ];
 
 /// All of them under their headings, in the order of help.
-const GROUPS: [(&str, &[Choice]); 6] = [
+const GROUPS: [(&str, &[Choice]); 7] = [
     ("Output, if not the games themselves", MODES),
     ("Positions looked for", SEARCHES),
     ("Games that are written", CHOICES),
     ("Games as they are written", STYLES),
+    ("Tags as they are written", EDITS),
     ("Reports, on standard error", REPORTS),
     ("Input", INPUTS),
 ];
@@ -429,6 +456,8 @@ fn make_command<'a>(alloc: Global) -> Result<Command<'a>, AllocError> {
 pub fn read_arguments<'a>(alloc: Global, arguments: &'a [String]) -> Result<Request<'a>, Error> {
     let matches = make_command(alloc)?.try_get_matches_from(arguments)?;
     let conditions = Vec::from_slice(alloc, matches.get_strs("where").unwrap_or(&[]))?;
+    let sets = Vec::from_slice(alloc, matches.get_strs("set").unwrap_or(&[]))?;
+    let drops = Vec::from_slice(alloc, matches.get_strs("drop").unwrap_or(&[]))?;
     let files = Vec::from_slice(alloc, matches.get_strs("FILE").unwrap_or(&[]))?;
     Ok(Request {
         index: matches.get_flag("index"),
@@ -447,6 +476,9 @@ pub fn read_arguments<'a>(alloc: Global, arguments: &'a [String]) -> Result<Requ
         no_glyphs: matches.get_flag("no-glyphs"),
         no_variations: matches.get_flag("no-variations"),
         roster: matches.get_flag("roster"),
+        sets,
+        drops,
+        fix_results: matches.get_flag("fix-results"),
         width: matches.get_one("width"),
         openings: matches.get_str("openings"),
         criteria: matches.get_str("criteria"),

@@ -17,10 +17,7 @@ const OPTIONS: [(&str, &str); 22] = [
     ("--seven", "use --roster"),
     ("-W", "use --moves, --uci, or --list --fen"),
     ("--json", "use --moves or --list --fen, on lines"),
-    (
-        "--fixresulttags",
-        "results are checked, not mended: leave it out",
-    ),
+    ("--fixresulttags", "use --fix-results"),
     ("-t", "use --criteria FILE, or --where LINE"),
     ("-T", "use --where with a line tag"),
     ("-x", "use --criteria FILE with a line fen"),

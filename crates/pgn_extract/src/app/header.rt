@@ -1,9 +1,10 @@
 //! The columns of rows as the arguments list them, and the line of their names.
 ghost use Rattle.std.specs.Prelude.{◌≡◌, ◌↔◌, false, true, option_map, IfOk, OnOk, IsErrOf, Some};
-ghost use Rattle.std.specs.Prelude.{MatchOption};
+ghost use Rattle.std.specs.Prelude.{MatchOption, None};
 ghost use Rattle.std.specs.List.{find};
-ghost use Rattle.pgn_extract.specs.Public.Columns.{shows_annotations};
-ghost use Rattle.pgn_extract.specs.Public.Requests.{IsAskedRow, IsInPacks, asked_header};
+ghost use Rattle.pgn_extract.specs.Public.Columns.{shows_annotations, shows_opening};
+ghost use Rattle.pgn_extract.specs.Public.Requests.{IsAskedRow, IsInPacks, HasItsLines};
+ghost use Rattle.pgn_extract.specs.Public.Requests.{asked_header};
 ghost use Rattle.pgn_extract.specs.Public.Runs.{Adds, passage};
 
 use crate::app::command::Request;
@@ -22,7 +23,7 @@ use std::io::Write;
 use strsim::levenshtein;
 
 /// The names of the columns that are no tags.
-const OWN_NAMES: [&str; 23] = [
+const OWN_NAMES: [&str; 24] = [
     "@file",
     "@game",
     "@offset",
@@ -37,6 +38,7 @@ const OWN_NAMES: [&str; 23] = [
     "@next",
     "@next-uci",
     "@result",
+    "@opening-ply",
     "@last",
     "@last-uci",
     "@plies",
@@ -47,6 +49,9 @@ const OWN_NAMES: [&str; 23] = [
     "@clk",
     "@eval",
 ];
+
+/// Why a column is refused where packs are searched.
+const IN_NO_PACK: &str = "stands in no pack";
 
 /// Why the columns are refused: a line of the program, or one that names a column.
 #[derive(Drop)]
@@ -137,10 +142,53 @@ fn unpacked_column<'r>(request: &Request<'_>, row: &'r Row) -> Option<&'r Column
     of_annotations(&row.columns)
 }
 
-/// The row that is asked for, if one is. One of packs shows no annotations.
+/// The first of the columns that shows something of openings, if one does.
+fn of_openings(columns: &[Column]) -> Option<&Column>
+    ensures { option_map (λ column. column.now) result ≡ find shows_opening columns.now }
+{
+    columns.iter().find(|column| column.shows_opening())
+}
+
+/// The first column of a row that shows something of openings, where no lines of them are given.
+fn unlined_column<'r>(request: &Request<'_>, row: &'r Row) -> Option<&'r Column>
+    ensures { MatchOption result (HasItsLines request.now (Some row.now)) (λ column. Unit {0}) }
+{
+    if request.openings.is_some() {
+        return None;
+    }
+    of_openings(&row.columns)
+}
+
+/// The refusal of one of the columns of a row beside the other options, if one does not go with
+/// them.
+fn refused_row(
+    alloc: Global,
+    request: &Request<'_>,
+    row: &Row,
+) -> Result<Option<String>, AllocError>
+    ensures packed { IfOk result (λ line. line ≡ None → IsInPacks request.now (Some row.now)) }
+    ensures lines { IfOk result (λ line. line ≡ None → HasItsLines request.now (Some row.now)) }
+{
+    if let Some(column) = unpacked_column(request, row) {
+        return Ok(Some(named_column(alloc, column.name(), IN_NO_PACK)?));
+    }
+    let Some(column) = unlined_column(request, row) else {
+        return Ok(None);
+    };
+    let fault = if request.packed {
+        IN_NO_PACK
+    } else {
+        "goes with --openings"
+    };
+    Ok(Some(named_column(alloc, column.name(), fault)?))
+}
+
+/// The row that is asked for, if one is. One of packs shows no annotations, and one shows openings
+/// only by lines that are given.
 pub fn read_row(alloc: Global, order: &Order<'_>) -> Result<Option<Row>, RefusedColumns>
     ensures asked { IfOk result (λ row. IsAskedRow order.now.request row) }
     ensures packed { IfOk result (λ row. IsInPacks order.now.request row) }
+    ensures lines { IfOk result (λ row. HasItsLines order.now.request row) }
 {
     let Some(text) = order.request.rows else {
         return Ok(None);
@@ -152,11 +200,8 @@ pub fn read_row(alloc: Global, order: &Order<'_>) -> Result<Option<Row>, Refused
         },
         Err(error) => return Err(refused_columns(alloc, &error)?),
     };
-    match unpacked_column(&order.request, &row) {
-        Some(column) => {
-            let line = named_column(alloc, column.name(), "stands in no pack")?;
-            Err(RefusedColumns::Named(line))
-        }
+    match refused_row(alloc, &order.request, &row)? {
+        Some(line) => Err(RefusedColumns::Named(line)),
         None => Ok(Some(row)),
     }
 }

@@ -43,6 +43,10 @@ pub const NO_LINES_OF_MOVES: &str =
 pub const NO_PACK: &str =
     "pgn-extract: --pack goes with none of --list, --index, --moves, --uci, --faulty, --as-is, -C, -N, -V, --keep-commands, --roster and -w\n";
 
+/// Tags are edited in games that are written in the standard's form alone.
+pub const NO_TAGS_WRITTEN: &str =
+    "pgn-extract: --set, --drop and --fix-results go with none of --list, --index, --rows, --moves, --uci, --pack, --as-is and --faulty\n";
+
 /// Without criteria no game is ruled out by its tags.
 pub const NO_TAGS_TO_MEET: &str = "pgn-extract: --tags-first goes with --criteria or --where\n";
 

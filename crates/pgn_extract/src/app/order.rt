@@ -5,7 +5,8 @@ ghost use Rattle.pgn_extract.specs.Public.GivenMarks.{IsGameMark};
 ghost use Rattle.pgn_extract.specs.Private.Lines.{is_bare};
 ghost use Rattle.pgn_extract.specs.Public.Requests.{asked, asked_form, asked_mode, asked_select};
 ghost use Rattle.pgn_extract.specs.Public.Requests.{asked_style, asks_names};
-ghost use Rattle.pgn_extract.specs.Public.Requests.{bad_mark, begin_of, end_of, file_refusals};
+ghost use Rattle.pgn_extract.specs.Public.Requests.{bad_mark, begin_of, edit_refusals, end_of};
+ghost use Rattle.pgn_extract.specs.Public.Requests.{file_refusals};
 ghost use Rattle.pgn_extract.specs.Public.Requests.{first_line, gives_criteria, gives_mark};
 ghost use Rattle.pgn_extract.specs.Public.Requests.{has_style, needs_each_game, option_refusals};
 ghost use Rattle.pgn_extract.specs.Public.Requests.{other_refusals, row_refusals, search_refusals};
@@ -13,13 +14,14 @@ ghost use Rattle.pgn_extract.specs.Public.Requests.{asked_format, asked_line, re
 
 use crate::app::command::{DEFAULT_WIDTH, Request};
 use crate::app::conditions::are_lines;
+use crate::app::edits::is_edited;
 use crate::app::mark::{FIRST, read_mark};
 use crate::app::messages;
 use crate::marks::{GameId, Marks};
 use crate::rows::column::{Format, Row};
 use crate::settings::{EntryLine, Fields, Form, Mode, Select, Settings};
 use pgn_criteria::Criteria;
-use pgn_game::{Notation, Openings, Style};
+use pgn_game::{Notation, Openings, Style, TagEdits};
 
 /// What the arguments ask for.
 #[derive(Drop)]
@@ -140,7 +142,7 @@ fn refused_others(request: &Request<'_>) -> Option<&'static str>
 }
 
 /// The line that refuses tags that come first: without criteria, or where each game is looked at;
-/// or the options of files.
+/// or edits of tags, or the options of files.
 fn refused_searches(request: &Request<'_>) -> Option<&'static str>
     ensures { option_map (λ line. line.now) result ≡ first_line (search_refusals request.now) }
 {
@@ -149,6 +151,18 @@ fn refused_searches(request: &Request<'_>) -> Option<&'static str>
     }
     if request.tags_first & needs_each_game(request) {
         return Some(messages::TAGS_ARE_NOT_FIRST);
+    }
+    refused_edits(request)
+}
+
+/// The line that refuses edits of tags where no tags are written; or the options of files.
+fn refused_edits(request: &Request<'_>) -> Option<&'static str>
+    ensures { option_map (λ line. line.now) result ≡ first_line (edit_refusals request.now) }
+{
+    let has_mode = request.list | request.index | request.rows.is_some();
+    let has_form = request.moves | request.uci | request.pack | request.as_is;
+    if is_edited(request) & (has_mode | has_form | request.faulty) {
+        return Some(messages::NO_TAGS_WRITTEN);
     }
     refused_files(request)
 }
@@ -286,32 +300,41 @@ fn line_of(request: &Request<'_>, row: Option<Row>) -> EntryLine
     }
 }
 
+/// What was read for a run: what the options name, where they do.
+#[derive(Drop)]
+pub struct Given {
+    /// The row of each entry.
+    pub row: Option<Row>,
+    /// The lines of openings.
+    pub openings: Option<Openings>,
+    /// The criteria.
+    pub criteria: Option<Criteria>,
+    /// The marks of the pieces that are reported.
+    pub chosen: Option<Marks>,
+    /// The edits of tags.
+    pub edits: Option<TagEdits>,
+}
+
 /// What a run is to write, with no name yet.
-pub fn settings_of(
-    order: &Order<'_>,
-    row: Option<Row>,
-    openings: Option<Openings>,
-    criteria: Option<Criteria>,
-    chosen: Option<Marks>,
-) -> Settings
-    ensures asked { aim_of result
-        ≡ asked order.now.noted order.now.request row openings criteria chosen }
+pub fn settings_of(order: &Order<'_>, given: Given) -> Settings
+    ensures asked { aim_of result ≡ asked order.now.noted order.now.request given }
     ensures number { result.number ≡ order.now.mark.number }
     ensures offset { result.offset ≡ order.now.mark.offset }
 {
     let request = &order.request;
     Settings {
         name: None,
-        chosen,
-        openings,
+        chosen: given.chosen,
+        openings: given.openings,
         mode: mode_of(request),
-        criteria,
+        criteria: given.criteria,
         min_ply: request.min_ply,
         max_ply: request.max_ply,
         first: request.first,
-        line: line_of(request, row),
+        line: line_of(request, given.row),
         select: select_of(request),
         form: form_of(request),
+        edits: given.edits,
         style: style_of(request),
         explain: order.noted,
         tags_first: request.tags_first,

@@ -23,7 +23,8 @@ use crate::output::texts::push_named_mark;
 use crate::settings::{Form, Mode, Select, Settings};
 use pgn_game::pack::{GameOrigin, push_record};
 use pgn_game::{
-    GameFault, Lines, Notation, Style, check_lines, check_variations, export_played, push_line,
+    GameFault, Lines, Notation, Style, check_lines, check_variations, export_edited, export_played,
+    push_line,
 };
 use pgn_text::RawGame;
 use std::alloc::{AllocError, Global};
@@ -98,11 +99,12 @@ pub fn takes_all(settings: &Settings) -> bool
     settings.criteria.is_none() && settings.min_ply == 0 && settings.select == Select::Matching
 }
 
-/// Whether each sound game is exported in the standard's form, whatever its moves.
+/// Whether each sound game is exported in the standard's form, unedited and whatever its moves.
 pub fn exports_all(settings: &Settings) -> bool
     ensures { IsTrue result → ExportsAll (aim_of settings.now) }
 {
-    settings.mode == Mode::Export && settings.form == Form::Standard && takes_all(settings)
+    let is_plain = settings.form == Form::Standard && settings.edits.is_none();
+    settings.mode == Mode::Export && is_plain && takes_all(settings)
 }
 
 /// The first fault of the lines that are written of a game whose main line has this fault.
@@ -229,7 +231,7 @@ fn put_as_is<'a>(
 /// answered, and some bytes of the text may be appended.
 fn put_text<'a>(
     text: &mut Vec<u8>,
-    context: GameContext<'_>,
+    context: GameContext<'a>,
     game: &RawGame<'a>,
 ) -> Result<(), GameFault<'a>>
     ensures { MatchResult result
@@ -241,7 +243,10 @@ fn put_text<'a>(
 {
     let settings = context.settings;
     match settings.form {
-        Form::Standard => export_played(context.alloc, game, &settings.style, text),
+        Form::Standard => match &settings.edits {
+            Some(edits) => export_edited(context.alloc, game, edits, &settings.style, text),
+            None => export_played(context.alloc, game, &settings.style, text),
+        },
         Form::AsItStands => put_as_is(context.alloc, text, settings, game),
         Form::Line(notation) => push_game_line(text, context, notation, game),
         Form::Record => push_game_record(text, context, game),
@@ -262,7 +267,7 @@ fn is_as_it_stands(settings: &Settings) -> bool
 /// or answers the first fault of the lines that are written.
 fn put_chosen<'a>(
     text: &mut Vec<u8>,
-    context: GameContext<'_>,
+    context: GameContext<'a>,
     game: &RawGame<'a>,
     has: bool,
 ) -> Result<(), GameFault<'a>>

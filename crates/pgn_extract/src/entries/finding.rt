@@ -2,6 +2,7 @@
 ghost use Rattle.std.specs.Prelude.{◌≡◌, ℕ, List, false, Option, OnOk, IfErr, IfOk, IfSome};
 ghost use Rattle.chess.specs.Public.Positions.{State};
 ghost use Rattle.pgn_text.specs.Public.GameTexts.{GameText};
+ghost use Rattle.pgn_game.specs.Public.Openings.{NamedLine};
 ghost use Rattle.pgn_extract.specs.Public.Aims.{GameId};
 ghost use Rattle.pgn_extract.specs.Private.Lines.{Where, HasFault, IsNeverMet, Asks, aim_with};
 ghost use Rattle.pgn_extract.specs.Private.Lines.{HandsOn, Fails, NoneBefore, MakesLines};
@@ -61,12 +62,12 @@ impl<'s> Finder<'s> {
         requires valid { L.Valid line.old }
         requires shows { IsEnoughFor L.Shows self.now.lines }
         requires open { is_open ≡ false → Where (L.At line.old) IsNeverMet }
-        ensures found { OnOk result ((name : Option (List ℕ)) (id : GameId) (game : GameText)
-            (before : List State) (P : State)
-            → L.At line.old (aim_with self.now name) game before P
-            → NoneBefore (aim_with self.now name) game before
-            → MakesLines self.now.lines name id game
-            → HandsOn (aim_with self.now name) id game
+        ensures found { OnOk result ((name : Option (List ℕ)) (openings : Option (List NamedLine))
+            (id : GameId) (game : GameText) (before : List State) (P : State)
+            → L.At line.old (aim_with self.now name openings) game before P
+            → NoneBefore (aim_with self.now name openings) game before
+            → MakesLines self.now.lines name openings id game
+            → HandsOn (aim_with self.now name openings) id game
             (λ got. S.Gets self.now.mark.items sink.old got sink.new)) }
         ensures fault { IfErr result (λ fault. IfSome (L.fault_of fault)
             (λ own. Fails (L.At line.old) self.now own

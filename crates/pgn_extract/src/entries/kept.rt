@@ -8,6 +8,7 @@ ghost use Rattle.pgn_game.specs.Public.CodeLines.{IsLegalLine};
 ghost use Rattle.pgn_game.specs.Public.Faults.{IsFault};
 ghost use Rattle.pgn_game.specs.Public.Replays.{fault_of};
 ghost use Rattle.pgn_criteria.specs.Public.Meeting.{Heading, heading_of};
+ghost use Rattle.pgn_game.specs.Public.Openings.{NamedLine};
 ghost use Rattle.pgn_game.specs.Public.Starts.{fen_tag};
 ghost use Rattle.pgn_game.specs.declared.replays.replayer.Lines.TheVariants.{Main};
 ghost use Rattle.pgn_extract.specs.Public.Aims.{Aim, GameId, aim_of};
@@ -185,9 +186,10 @@ pub(crate) fn find_kept<'a>(
     game: &RawGame<'a>,
     text: &mut Vec<u8>,
 ) -> Result<(), GameFault<'a>>
-    ensures found { OnOk result ((name : Option (List ℕ)) (id : GameId)
-        → MakesLines finder.now.lines name id game.now
-        → HandsOn (aim_with finder.now name) id game.now
+    ensures found { OnOk result ((name : Option (List ℕ))
+        (openings : Option (List NamedLine)) (id : GameId)
+        → MakesLines finder.now.lines name openings id game.now
+        → HandsOn (aim_with finder.now name openings) id game.now
         (λ got. text.new.items ≡ text.old.items ++ marked_lines finder.now.mark.items got)) }
     ensures fault { IfErr result (λ fault.
         IfSome (fault_of fault) (StopsAtFault game.now text.old.items text.new.items)) }

@@ -1,7 +1,7 @@
 //! How the lines of the entries of a game are made.
 ghost use Rattle.std.specs.Prelude.{◌≡◌, true, IfOk};
 ghost use Rattle.pgn_extract.specs.Private.Lines.{MakesLines, made_line, keeps_line};
-ghost use Rattle.pgn_extract.specs.Private.RowGames.{IsGameIn, name_of, is_text};
+ghost use Rattle.pgn_extract.specs.Private.RowGames.{IsGameIn, name_of, openings_of, is_text};
 ghost use Rattle.pgn_extract.specs.Public.Listing.{has_annotations};
 ghost use Rattle.pgn_text.specs.Public.GameTexts.{GameText};
 
@@ -37,7 +37,8 @@ impl<'s> LineMaker<'s> {
         requires { has_annotations line.now ≡ true → is_text game.source ≡ true }
         ensures { IfOk result (λ lines. (line.now ≡ made_line lines)
             × ((text : GameText) → IsGameIn game.entry.source text
-            → MakesLines lines (name_of game.entry) game.entry.id text)) }
+            → MakesLines lines (name_of game.entry) (openings_of game.entry.source) game.entry.id
+            text)) }
     {
         match line {
             EntryLine::Marked(fields) => Ok(LineMaker::Fields(*fields)),

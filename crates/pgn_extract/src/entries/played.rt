@@ -7,6 +7,7 @@ ghost use Rattle.chess.specs.Public.San.{IsOnlyNamed};
 ghost use Rattle.chess.specs.declared.moves.Move.{Move};
 ghost use Rattle.pgn_text.specs.Public.GameTexts.{tag_in};
 ghost use Rattle.pgn_game.specs.Public.Faults.{IsFault};
+ghost use Rattle.pgn_game.specs.Public.Openings.{NamedLine};
 ghost use Rattle.pgn_game.specs.Public.Starts.{fen_tag};
 ghost use Rattle.pgn_game.specs.declared.replays.replayer.Lines.TheVariants.{Main};
 ghost use Rattle.pgn_extract.specs.Public.Aims.{GameId, aim_of};
@@ -252,9 +253,10 @@ pub(crate) fn find_played<'a, Q: Question, S: Sink>(
     requires asks { AsksFor (aim_of finder.now.settings.now) game.now (Q.asked question) }
     requires sound { finder.now.is_sound ≡ true
         → IsSoundGame Main (tag_in fen_tag game.now.tags) game.now.elements }
-    ensures found { OnOk result ((name : Option (List ℕ)) (id : GameId)
-        → MakesLines finder.now.lines name id game.now
-        → HandsOn (aim_with finder.now name) id game.now
+    ensures found { OnOk result ((name : Option (List ℕ))
+        (openings : Option (List NamedLine)) (id : GameId)
+        → MakesLines finder.now.lines name openings id game.now
+        → HandsOn (aim_with finder.now name openings) id game.now
         (λ got. S.Gets finder.now.mark.items sink.old got sink.new)) }
     ensures fault { IfErr result (λ fault. IfSome (fault_of fault)
         (λ own. IsFault Main (tag_in fen_tag game.now.tags) game.now.elements own

@@ -1,20 +1,25 @@
 //! The game that rows are of, where it stands: in a text or in a pack.
-ghost use Rattle.std.specs.Prelude.{◌≡◌, true, Some, option_map, IfSome};
+ghost use Rattle.std.specs.Prelude.{◌≡◌, true, Some, None, option_map, IfOk, IfSome};
+ghost use Rattle.pgn_extract.specs.Private.Finding.{IsOfGame};
 ghost use Rattle.pgn_extract.specs.Private.Packed.{EachOfRecord, raw_id};
-ghost use Rattle.pgn_extract.specs.Private.RowGames.{IsGameIn, name_of, is_text};
+ghost use Rattle.pgn_extract.specs.Private.RowGames.{IsGameIn, name_of, openings_of, is_text};
+ghost use Rattle.pgn_extract.specs.Public.Rows.{IsOpeningBy};
+ghost use Rattle.pgn_game.specs.Public.Replays.{Replay};
 ghost use Rattle.pgn_text.specs.Public.GameTexts.{GameText, tag_in};
 ghost use Rattle.pgn_text.specs.Public.Strings.{IsContents};
 
 use crate::entries::GameContext;
 use crate::marks::GameId;
 use pgn_game::pack::RawRecord;
+use pgn_game::{GameFault, Opening, Openings};
 use pgn_text::{RawGame, is_contents};
+use std::alloc::{AllocError, Global};
 
-/// Where the tags and the result of a game are read.
+/// Where the tags, the result and the opening of a game are read.
 #[derive(Clone, Copy)]
 pub(crate) enum GameSource<'g, 'a> {
-    /// In its text.
-    Text(&'g RawGame<'a>),
+    /// In its text, with the lines of openings, where they are given.
+    Text(&'g RawGame<'a>, Option<&'g Openings>),
     /// In its record.
     Record(&'g RawRecord<'a>),
 }
@@ -26,8 +31,18 @@ pub(crate) struct RowGame<'g, 'a> {
     pub(crate) name: Option<&'g [u8]>,
     /// Which game it is.
     pub(crate) id: GameId,
-    /// Where its tags and its result are read.
+    /// Where its tags, its result and its opening are read.
     pub(crate) source: GameSource<'g, 'a>,
+}
+
+/// The lines of openings that are given.
+fn given_openings(context: GameContext<'_>) -> Option<&Openings>
+    ensures { option_map (λ openings. openings.now) result ≡ context.entry.settings.now.openings }
+{
+    match &context.settings.openings {
+        Some(openings) => Some(openings),
+        None => None,
+    }
 }
 
 impl<'g, 'a> RowGame<'g, 'a> {
@@ -35,6 +50,7 @@ impl<'g, 'a> RowGame<'g, 'a> {
     pub(crate) fn in_text(context: GameContext<'g>, game: &'g RawGame<'a>) -> Self
         ensures name { name_of result ≡ context.entry.settings.now.name }
         ensures id { result.id ≡ context.entry.own }
+        ensures openings { openings_of result.source ≡ context.entry.settings.now.openings }
         ensures source { IsGameIn result.source game.now }
         ensures text { is_text result.source ≡ true }
     {
@@ -44,7 +60,7 @@ impl<'g, 'a> RowGame<'g, 'a> {
                 None => None,
             },
             id: context.own,
-            source: GameSource::Text(game),
+            source: GameSource::Text(game, given_openings(context)),
         }
     }
 
@@ -52,6 +68,7 @@ impl<'g, 'a> RowGame<'g, 'a> {
     pub(crate) fn in_pack(record: &'g RawRecord<'a>) -> Self
         ensures name { name_of result ≡ record.now.name }
         ensures id { result.id ≡ raw_id record.now }
+        ensures openings { openings_of result.source ≡ None }
         ensures source { EachOfRecord record.now (λ game replay packed.
             IsGameIn result.source game) }
     {
@@ -75,6 +92,24 @@ fn if_contents(text: &[u8]) -> Option<&[u8]>
     if is_contents(text) { Some(text) } else { None }
 }
 
+/// The opening of a game by these lines; none where its main line is faulty.
+fn opening_by(
+    alloc: Global,
+    game: &RawGame<'_>,
+    openings: &Openings,
+) -> Result<Option<Opening>, AllocError>
+    ensures { IfOk result (λ opening. (replay : Replay) → IsOfGame game.now replay
+        → IsOpeningBy (Some openings.now) replay.positions opening) }
+{
+    match openings.opening_of(alloc, game) {
+        Ok(line) => Ok(line.opening),
+        Err(GameFault::OutOfMemory) => Err(AllocError),
+        Err(GameFault::BadPosition) => Ok(None),
+        Err(GameFault::Illegal { .. }) => Ok(None),
+        Err(GameFault::Ambiguous { .. }) => Ok(None),
+    }
+}
+
 impl<'g, 'a> GameSource<'g, 'a> {
     /// The contents of the tag with this name, if the game has one.
     pub(crate) fn tag(self, name: &[u8]) -> Option<&'a [u8]>
@@ -83,7 +118,7 @@ impl<'g, 'a> GameSource<'g, 'a> {
         ensures contents { IfSome result (λ contents. IsContents contents.now) }
     {
         match self {
-            GameSource::Text(game) => game.tags().get(name).copied(),
+            GameSource::Text(game, _) => game.tags().get(name).copied(),
             GameSource::Record(raw) => if_contents(raw.tag(name)?),
         }
     }
@@ -93,8 +128,22 @@ impl<'g, 'a> GameSource<'g, 'a> {
         ensures { (game : GameText) → IsGameIn self.entry game → result.now ≡ game.result }
     {
         match self {
-            GameSource::Text(game) => game.result(),
+            GameSource::Text(game, _) => game.result(),
             GameSource::Record(raw) => raw.result(),
+        }
+    }
+
+    /// The opening of the game by the lines that are given; none without lines, or where its main
+    /// line is faulty.
+    pub(crate) fn opening(self, alloc: Global) -> Result<Option<Opening>, AllocError>
+        ensures { IfOk result (λ opening. (game : GameText) → IsGameIn self.entry game
+            → (replay : Replay) → IsOfGame game replay
+            → IsOpeningBy (openings_of self.entry) replay.positions opening) }
+    {
+        match self {
+            GameSource::Text(game, Some(openings)) => opening_by(alloc, game, openings),
+            GameSource::Text(_, None) => Ok(None),
+            GameSource::Record(_) => Ok(None),
         }
     }
 }

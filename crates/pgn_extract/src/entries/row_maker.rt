@@ -10,10 +10,12 @@ ghost use Rattle.pgn_extract.specs.Private.RowTexts.{EachColumn, need_line, part
 ghost use Rattle.pgn_extract.specs.Private.RowTexts.{IsShownWith};
 ghost use Rattle.pgn_extract.specs.Public.Annotations.{annotation_lists};
 ghost use Rattle.pgn_extract.specs.Public.Columns.{is_number_of_ply, shows_annotations};
-ghost use Rattle.pgn_extract.specs.Public.Rows.{game_cell, IsTagCell};
-ghost use Rattle.pgn_criteria.specs.Public.Meeting.{heading_of};
+ghost use Rattle.pgn_extract.specs.Public.Rows.{IsGameCell, IsOpeningCell, IsTagCell};
+ghost use Rattle.pgn_extract.specs.Public.Rows.{place_of};
+ghost use Rattle.pgn_extract.specs.Private.Finding.{IsOfGame};
+ghost use Rattle.pgn_game.specs.Public.Replays.{Replay};
 ghost use Rattle.pgn_text.specs.Public.GameTexts.{GameText, tag_in};
-ghost use Rattle.pgn_extract.specs.Private.RowGames.{IsGameIn, name_of, is_text};
+ghost use Rattle.pgn_extract.specs.Private.RowGames.{IsGameIn, name_of, openings_of, is_text};
 ghost use Rattle.pgn_text.specs.Public.Strings.{IsContents};
 ghost use Rattle.pgn_game.specs.Public.Starts.{IsValueOf};
 
@@ -89,14 +91,34 @@ fn put_tag(own: &mut Vec<u8>, game: RowGame<'_, '_>, name: &[u8]) -> Result<(), 
     put_given(own, game.source.tag(name))
 }
 
+/// Makes the text of the ply at which the line of the game's opening ends; empty where it has none.
+fn put_opening_ply(
+    own: &mut Vec<u8>,
+    alloc: Global,
+    game: RowGame<'_, '_>,
+) -> Result<(), AllocError>
+    ensures { OnOk result ((text : GameText) → IsGameIn game.entry.source text
+        → (replay : Replay) → IsOfGame text replay
+        → IsOpeningCell (openings_of game.entry.source) replay.positions own.new.items) }
+{
+    own.clear();
+    match game.source.opening(alloc)? {
+        Some(opening) => push_number(own, opening.ply),
+        None => Ok(()),
+    }
+}
+
 /// Makes what a column shows of the game.
 fn put_game_value(
     own: &mut Vec<u8>,
+    alloc: Global,
     game: RowGame<'_, '_>,
     column: GameColumn,
 ) -> Result<(), AllocError>
     ensures { OnOk result ((text : GameText) → IsGameIn game.entry.source text
-        → own.new.items ≡ game_cell column (name_of game.entry) game.entry.id (heading_of text)) }
+        → (replay : Replay) → IsOfGame text replay → (ply : ℕ)
+        → IsGameCell column (place_of (name_of game.entry) (openings_of game.entry.source)
+        game.entry.id text replay ply) own.new.items) }
 {
     own.clear();
     match column {
@@ -108,6 +130,7 @@ fn put_game_value(
         GameColumn::Offset => push_number(own, game.id.offset as usize),
         GameColumn::Id => push_mark(own, game.id),
         GameColumn::Result => own.extend_from_slice(game.source.result()),
+        GameColumn::OpeningPly => put_opening_ply(own, alloc, game),
     }
 }
 
@@ -158,7 +181,7 @@ fn annotations_for<'a>(
         → lists_in kept ≡ annotation_lists text.elements) }
 {
     match game.source {
-        GameSource::Text(game) if row.shows_annotations() => Annotations::of_game(alloc, game),
+        GameSource::Text(game, _) if row.shows_annotations() => Annotations::of_game(alloc, game),
         _ => Ok(Annotations::none(alloc)),
     }
 }
@@ -189,7 +212,8 @@ impl<'s> RowMaker<'s> {
         ensures row { OnOk result (self.new.row.now ≡ self.old.row.now) }
         ensures annotations { OnOk result (self.new.annotations ≡ self.old.annotations) }
         ensures cell { OnOk result ((text : GameText) → IsGameIn game.entry.source text
-            → AddsCell self.old self.new (name_of game.entry) game.entry.id text column.now) }
+            → AddsCell self.old self.new (name_of game.entry) (openings_of game.entry.source)
+            game.entry.id text column.now) }
     {
         let format = self.row.format;
         push_key(&mut self.last, format, column)?;
@@ -199,7 +223,7 @@ impl<'s> RowMaker<'s> {
                 push_value(&mut self.last, format, false, own)
             }
             Column::OfGame(shown) => {
-                put_game_value(own, game, *shown)?;
+                put_game_value(own, self.alloc, game, *shown)?;
                 push_value(&mut self.last, format, shown.is_number(), own)
             }
             Column::OfPly(shown) => self.end_part(PartColumn::OfPly(*shown)),
@@ -217,7 +241,8 @@ impl<'s> RowMaker<'s> {
             → is_text game.source ≡ true }
         ensures { IfOk result (λ maker. (maker.row.now ≡ row.now)
             × ((text : GameText) → IsGameIn game.entry.source text
-            → MakesRows maker (name_of game.entry) game.entry.id text)) }
+            → MakesRows maker (name_of game.entry) (openings_of game.entry.source) game.entry.id
+            text)) }
     {
         let mut maker = RowMaker {
             alloc,

@@ -41,23 +41,34 @@ fn replay_from(
     }
 }
 
-/// Replays the line of the record from the position that the contents of its FEN tag spell.
-fn replay_given(
+/// The position that the contents of the record's FEN tag spell.
+fn start_given(
     alloc: Global,
     raw: &RawRecord<'_>,
     contents: &[u8],
-) -> Result<Replayed, PackedFault>
+) -> Result<GamePosition, PackedFault>
     requires { EachOfRecord raw.now (λ game replay packed. tag_in fen_tag game.tags
         ≡ Some contents.now) }
-    ensures ok { IfOk result (IsKeptOf raw.now) }
+    ensures ok { IfOk result (IsStartOf raw.now) }
     ensures err { IfErr result (λ fault. fault ≡ PackedFault.NoGame → HasNoText raw.now) }
 {
     if !is_contents(contents) {
         return Err(PackedFault::NoGame);
     }
     match given_position(alloc, contents) {
-        Ok(start) => replay_from(alloc, raw, start),
+        Ok(start) => Ok(start),
         Err(fault) => Err(start_fault(fault)),
+    }
+}
+
+/// The position from which the game of the record starts.
+pub(crate) fn start_of(alloc: Global, raw: &RawRecord<'_>) -> Result<GamePosition, PackedFault>
+    ensures ok { IfOk result (IsStartOf raw.now) }
+    ensures err { IfErr result (λ fault. fault ≡ PackedFault.NoGame → HasNoText raw.now) }
+{
+    match raw.tag(b"FEN") {
+        Some(contents) => start_given(alloc, raw, contents),
+        None => Ok(GamePosition::start()),
     }
 }
 
@@ -66,9 +77,9 @@ fn replay_record(alloc: Global, raw: &RawRecord<'_>) -> Result<Replayed, PackedF
     ensures ok { IfOk result (IsKeptOf raw.now) }
     ensures err { IfErr result (λ fault. fault ≡ PackedFault.NoGame → HasNoText raw.now) }
 {
-    match raw.tag(b"FEN") {
-        Some(contents) => replay_given(alloc, raw, contents),
-        None => replay_from(alloc, raw, GamePosition::start()),
+    match start_of(alloc, raw) {
+        Ok(start) => replay_from(alloc, raw, start),
+        Err(fault) => Err(fault),
     }
 }
 

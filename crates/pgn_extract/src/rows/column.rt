@@ -5,6 +5,7 @@ ghost use Rattle.pgn_extract.specs.Public.Columns.{position_column_name, is_numb
 ghost use Rattle.pgn_extract.specs.Public.Columns.{is_number_of_ply, is_number_of_position};
 ghost use Rattle.pgn_extract.specs.Public.Columns.{line_column_name, is_number_of_line};
 ghost use Rattle.pgn_extract.specs.Public.Columns.{annotation_column_name, shows_annotations};
+ghost use Rattle.pgn_extract.specs.Public.Columns.{is_of_opening, shows_opening};
 ghost use Rattle.pgn_extract.specs.Private.RowTexts.{needs_line};
 ghost use Rattle.std.specs.List.{list_any};
 
@@ -34,6 +35,8 @@ pub enum GameColumn {
     Id,
     /// The result that ends its text.
     Result,
+    /// The ply at which the line of its opening ends; empty where it has no opening.
+    OpeningPly,
 }
 
 /// What a column shows of a position.
@@ -126,6 +129,7 @@ impl GameColumn {
             GameColumn::Offset => b"@offset",
             GameColumn::Id => b"@id",
             GameColumn::Result => b"@result",
+            GameColumn::OpeningPly => b"@opening-ply",
         }
     }
 
@@ -135,7 +139,22 @@ impl GameColumn {
     {
         match self {
             GameColumn::Game | GameColumn::Offset => true,
-            GameColumn::File | GameColumn::Id | GameColumn::Result => false,
+            GameColumn::File | GameColumn::Id | GameColumn::Result | GameColumn::OpeningPly =>
+                false,
+        }
+    }
+
+    /// Whether it shows something of openings.
+    fn shows_opening(self) -> bool
+        ensures { result ≡ is_of_opening self }
+    {
+        match self {
+            GameColumn::OpeningPly => true,
+            GameColumn::File
+            | GameColumn::Game
+            | GameColumn::Offset
+            | GameColumn::Id
+            | GameColumn::Result => false,
         }
     }
 }
@@ -249,6 +268,16 @@ impl AnnotationColumn {
 }
 
 impl Column {
+    /// Whether it shows something of openings.
+    pub(crate) fn shows_opening(&self) -> bool
+        ensures { result ≡ shows_opening self.now }
+    {
+        match self {
+            Column::OfGame(own) => own.shows_opening(),
+            Column::Tag(_) | Column::OfPly(_) | Column::OfAnnotations(_) => false,
+        }
+    }
+
     /// Whether it shows annotations.
     pub(crate) fn shows_annotations(&self) -> bool
         ensures { result ≡ shows_annotations self.now }

@@ -1,6 +1,6 @@
 //! A list of columns: names with commas between.
 ghost use Rattle.std.specs.Prelude.{◌≡◌, ◌↔◌, ◌∷◌, [], List, ℕ, IsTrue, MatchOption, MatchResult};
-ghost use Rattle.std.specs.Prelude.{bytes_eq};
+ghost use Rattle.std.specs.Prelude.{bytes_eq, false};
 ghost use Rattle.std.specs.List.{list_all, list_any};
 ghost use Rattle.chess.specs.Public.Fen.{parted_at};
 ghost use Rattle.chess.specs.Shared.Runs.{run_of, after_run};
@@ -9,7 +9,7 @@ ghost use Rattle.pgn_extract.specs.Public.Columns.{IsTagName, IsColumnOf, IsColu
 ghost use Rattle.pgn_extract.specs.Public.Columns.{IsNoOwnName, AreColumns, IsRefusedList};
 ghost use Rattle.pgn_extract.specs.Public.Columns.{column_name, game_column_name, ply_column_name};
 ghost use Rattle.pgn_extract.specs.Public.Columns.{position_column_name, line_column_name};
-ghost use Rattle.pgn_extract.specs.Public.Columns.{annotation_column_name};
+ghost use Rattle.pgn_extract.specs.Public.Columns.{annotation_column_name, is_of_opening};
 ghost use Rattle.pgn_extract.specs.declared.rows.column.AnnotationColumn.{AnnotationColumn};
 ghost use Rattle.pgn_extract.specs.declared.rows.column.GameColumn.{GameColumn};
 ghost use Rattle.pgn_extract.specs.declared.rows.column.LineColumn.{LineColumn};
@@ -51,10 +51,17 @@ impl<'a> From<AllocError> for ColumnsError<'a> {
 /// The most columns of a row.
 pub const MOST_COLUMNS: usize = 64;
 
-/// The column of the game with this name.
-fn game_column(name: &[u8]) -> Option<GameColumn>
+/// Whether this is the name of the column of the ply of an opening.
+fn is_opening_ply(name: &[u8]) -> bool
+    ensures { IsTrue result ↔ (name.now ≡ game_column_name GameColumn.OpeningPly) }
+{
+    name == b"@opening-ply".as_slice()
+}
+
+/// The column of the game with this name, but for that of an opening.
+fn plain_game_column(name: &[u8]) -> Option<GameColumn>
     ensures { MatchOption result
-        ((own : GameColumn) → name.now ≡ game_column_name own → ⊥)
+        ((own : GameColumn) → is_of_opening own ≡ false → name.now ≡ game_column_name own → ⊥)
         (λ own. name.now ≡ game_column_name own) }
 {
     match name {
@@ -65,6 +72,18 @@ fn game_column(name: &[u8]) -> Option<GameColumn>
         b"@result" => Some(GameColumn::Result),
         _ => None,
     }
+}
+
+/// The column of the game with this name.
+fn game_column(name: &[u8]) -> Option<GameColumn>
+    ensures { MatchOption result
+        ((own : GameColumn) → name.now ≡ game_column_name own → ⊥)
+        (λ own. name.now ≡ game_column_name own) }
+{
+    if is_opening_ply(name) {
+        return Some(GameColumn::OpeningPly);
+    }
+    plain_game_column(name)
 }
 
 /// The column of the position with this name.
@@ -166,7 +185,7 @@ fn are_name_bytes(text: &[u8]) -> bool
 }
 
 /// Whether the text is a tag's name.
-fn is_tag_name(text: &[u8]) -> bool
+pub(crate) fn is_tag_name(text: &[u8]) -> bool
     ensures { IsTrue result ↔ IsTagName text.now }
 {
     !text.is_empty() && are_name_bytes(text)

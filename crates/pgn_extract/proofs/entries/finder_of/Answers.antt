@@ -13,8 +13,8 @@ returns c =
       settings = refl;
       first = refl;
       line = c.in_ok-of_game.ensures.0;
-      makes = makes_named c.in_ok-of_game.field-0 c.in_text.result settings.name id game
-          c.in_text.ensures.name c.in_text.ensures.id
+      makes = makes_named c.in_ok-of_game.field-0 c.in_text.result settings.name settings.openings
+          id game c.in_text.ensures.name c.in_text.ensures.openings c.in_text.ensures.id
           (c.in_ok-of_game.ensures.1 game c.in_text.ensures.source);
       mark = c.in_ok-push_named_mark.ensures ∙ ap (λ t. t ++ named) c.in_ok-mark.ensures.items;
       sound = refl;

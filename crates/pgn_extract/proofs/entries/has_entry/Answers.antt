@@ -27,6 +27,7 @@ returns c =
     tells_some (record (aim_of c.args.settings.now) {
       line = Marked (record { fen = false; next = false });
       name = None;
+      openings = None;
     }) any_id
     c.args.game.now c.find_played.new.sink
-    (c.in_ok-find_played.ensures.found None any_id tt)
+    (c.in_ok-find_played.ensures.found None None any_id tt)

@@ -1,7 +1,8 @@
 use Rattle.std.specs.Prelude.{◌==◌, ◌%◌}
 use Rattle.pgn_extract.proofs.Common.{◌≡◌, ◌≤◌, ◌-◌, ◌/◌, ℕ, Bool, true, false, List, length, ap}
 use Rattle.pgn_extract.proofs.Common.{subst, arith, Side, has_marks, NoneMeets, IsNextMet, codes_in}
-use Rattle.pgn_extract.proofs.packed.WalkedLines.{none_in, stands_first, stands_next, codes_count}
+use Rattle.pgn_criteria.proofs.CodedLines.{codes_count}
+use Rattle.pgn_extract.proofs.packed.WalkedLines.{none_in, stands_first, stands_next}
 use Rattle.pgn_extract.proofs.packed.WalkedLines.{next_shorter}
 use Rattle.pgn_extract.proofs.packed.first_marked.Goals as goal
 

@@ -13,15 +13,15 @@ returns-in-Ok-true-clause-ok c =
 
 pub returns-in-Ok-false-clause-ok : goal.returns-in-Ok-false-clause-ok
 returns-in-Ok-false-clause-ok c =
-    subst (λ text. OnOk c.push_kept_record.result (ListsRecord (aim_of c.args.context.settings.now)
-    c.args.context.record.now text c.push_kept_record.new.text.items))
-    (c.in-Ok-false.ensures.unseen c.in-Ok-false.field-0-test) c.push_kept_record.ensures.ok
+    subst (λ text. OnOk c.push_played.result (ListsRecord (aim_of c.args.context.settings.now)
+    c.args.context.record.now text c.push_played.new.text.items))
+    (c.in-Ok-false.ensures.unseen c.in-Ok-false.field-0-test) c.push_played.ensures.ok
 
 pub returns-in-Ok-false-clause-err : goal.returns-in-Ok-false-clause-err
 returns-in-Ok-false-clause-err c =
-    subst (λ text. IfErr c.push_kept_record.result (λ fault. fault ≡ NoGame
-    → (c.push_kept_record.new.text.items ≡ text) × HasNoText c.args.context.record.now))
-    (c.in-Ok-false.ensures.unseen c.in-Ok-false.field-0-test) c.push_kept_record.ensures.err
+    subst (λ text. IfErr c.push_played.result (λ fault. fault ≡ NoGame
+    → (c.push_played.new.text.items ≡ text) × HasNoText c.args.context.record.now))
+    (c.in-Ok-false.ensures.unseen c.in-Ok-false.field-0-test) c.push_played.ensures.err
 
 pub returns-in-Ok-false-may_have_entry-clause-ok
     : goal.returns-in-Ok-false-may_have_entry-clause-ok

@@ -7,8 +7,8 @@ pub find-requires-clause-shows : goal.find-requires-clause-shows
 find-requires-clause-shows c = enough_kept c.args.finder.now.lines
 
 pub returns-clause-found : goal.returns-clause-found
-returns-clause-found c name id of =
-    let aim = aim_with c.args.finder.now name in
+returns-clause-found c name openings id of =
+    let aim = aim_with c.args.finder.now name openings in
     let game = c.args.game.now in
     let at = c.in_ok-line.ensures.1 aim refl in
-    c.in_ok-find.ensures.found name id game [] at.0 at.1 (none_yet aim game) of
+    c.in_ok-find.ensures.found name openings id game [] at.0 at.1 (none_yet aim game) of

@@ -8,4 +8,5 @@ returns c =
     let marked : c.deref.result.now ≡ named_mark name own =
     c.deref.ensures.value ∙ c.in_ok-push_named_mark.ensures
     ∙ ap (λ t. t ++ named_mark name own) c.in_ok-mark.ensures.items in
-    on_ok_weaker c.push_lines.result (λ adds. adds name own marked) c.push_lines.ensures
+    on_ok_weaker c.push_lines.result
+    (λ adds. adds name c.args.context.settings.now.openings own marked) c.push_lines.ensures

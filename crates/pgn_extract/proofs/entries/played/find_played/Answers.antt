@@ -17,9 +17,9 @@ returns-clause-found g c =
     let line = c.in_ok-line.line in
     let asked = g.Q.Question.asked c.args.question in
     on_ok_weaker c.find.result
-    (λ found name id of.
-    let aim = aim_with c.args.finder.now name in
-    found name id c.args.game.now [] line.position
+    (λ found name openings id of.
+    let aim = aim_with c.args.finder.now name openings in
+    found name openings id c.args.game.now [] line.position
     (begins_with c.args.finder.now.is_sound c.args.game.now line asked aim c.requires.sound
     c.in_ok-line.ensures c.requires.asks)
     (none_yet aim c.args.game.now) of)
@@ -29,7 +29,7 @@ pub returns-clause-fault : goal.returns-clause-fault
 returns-clause-fault g c =
     let line = c.in_ok-line.line in
     let asked = g.Q.Question.asked c.args.question in
-    let aim = aim_with c.args.finder.now None in
+    let aim = aim_with c.args.finder.now None None in
     MatchResult-weaker c.find.result c.find.ensures.fault (λ done none. tt)
     (λ fault met.
     IfSome_then _ met

@@ -7,7 +7,7 @@ use Rattle.pgn_extract.proofs.Common.{take-length, if◌then◌else◌}
 use Rattle.pgn_text.specs.Public.Games.{Item}
 use Rattle.pgn_extract.specs.Public.Columns.{shows_annotations}
 use Rattle.pgn_extract.specs.Private.AnnotationLists.{lists_in}
-use Rattle.pgn_extract.specs.Private.RowGames.{IsGameIn, name_of}
+use Rattle.pgn_extract.specs.Private.RowGames.{IsGameIn, name_of, openings_of}
 use Rattle.pgn_extract.specs.Private.RowTexts.{MakesCells, MakesRow, gap}
 use Rattle.pgn_extract.specs.declared.entries.row_maker.RowMaker.{RowMaker}
 use Rattle.pgn_extract.specs.declared.rows.column.Column.{Column}
@@ -57,23 +57,27 @@ loop-column-preserved c =
     part_taken all i column within
     (c.column-item.is ∙ ap (λ (ks : List Column). get_or ks i column) slice) in
     let name = name_of c.args.game in
+    let openings = openings_of c.args.game.source in
     let id = c.args.game.id in
     let new = c.add_column.new.self in
     let lists = lists_in new.annotations in
     let same : new.annotations ≡ old.annotations = c.in_ok-add_column.ensures.annotations in
     let so_far : (text : GameText) → IsGameIn c.args.game.source text
-    → MakesCells row.format lists (take i all) old.parts.items old.last.items name id text =
+    → MakesCells row.format lists (take i all) old.parts.items old.last.items name openings id
+    text =
     λ text own. subst (λ (ls : List (List Item)). MakesCells row.format ls (take i all)
-    old.parts.items old.last.items name id text) (ap lists_in (sym same)) (inv.made text own) in
+    old.parts.items old.last.items name openings id text) (ap lists_in (sym same))
+    (inv.made text own) in
     record {
       row = c.in_ok-add_column.ensures.row ∙ inv.row;
       known = λ shows text own. ap lists_in same ∙ inv.known shows text own;
       first = grind (arith, nat_tests);
       made = λ text own. subst (λ (ks : List Column).
-          MakesCells row.format lists ks new.parts.items new.last.items name id text) (sym next)
+          MakesCells row.format lists ks new.parts.items new.last.items name openings id text)
+          (sym next)
           (makes_more row.format lists old.parts.items old.last.items mid new (take i all) column
-          name id
-          text (so_far text own) (ap (λ (r : Row). r.format) inv.row) (ap lists_in (sym same)) refl
+          name openings id text (so_far text own) (ap (λ (r : Row). r.format) inv.row)
+          (ap lists_in (sym same)) refl
           (c.in_ok-push_gap.ensures
           ∙ ap (λ (t : Bool). old.last.items ++ (if t then [] else gap row.format)) inv.first
           ∙ ap (λ t. old.last.items ++ t) (gap_is row.format all i within))
@@ -94,17 +98,19 @@ returns c =
     let last = c.loop-column.maker.last.items in
     let text = c.extend_from_slice.new.self.items in
     let name = name_of c.args.game in
+    let openings = openings_of c.args.game.source in
     let id = c.args.game.id in
     let ends = c.in_ok-extend_from_slice.ensures.items ∙ ap (λ b. last ++ b) c.back.ensures in
     let lists = lists_in c.loop-column.maker.annotations in
     let made : (game : GameText) → IsGameIn c.args.game.source game
-    → MakesRow row.format lists all parts text name id game =
-    λ game own. makes_all row.format lists all parts last text name id game
-    (subst (λ (ks : List Column). MakesCells row.format lists ks parts last name id game) whole
+    → MakesRow row.format lists all parts text name openings id game =
+    λ game own. makes_all row.format lists all parts last text name openings id game
+    (subst (λ (ks : List Column). MakesCells row.format lists ks parts last name openings id game)
+    whole
     (inv.made game own))
     ends in (
       inv.row,
       λ game own. subst (λ (r : Row).
-          MakesRow r.format lists r.columns.items parts text name id game) (sym inv.row)
+          MakesRow r.format lists r.columns.items parts text name openings id game) (sym inv.row)
           (made game own),
     )

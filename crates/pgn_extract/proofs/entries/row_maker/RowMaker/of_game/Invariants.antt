@@ -5,7 +5,7 @@ use Rattle.pgn_text.specs.Public.GameTexts.{GameText}
 use Rattle.pgn_extract.specs.Public.Annotations.{annotation_lists}
 use Rattle.pgn_extract.specs.Public.Columns.{shows_annotations}
 use Rattle.pgn_extract.specs.Private.AnnotationLists.{lists_in}
-use Rattle.pgn_extract.specs.Private.RowGames.{IsGameIn, name_of}
+use Rattle.pgn_extract.specs.Private.RowGames.{IsGameIn, name_of, openings_of}
 use Rattle.pgn_extract.specs.Private.RowTexts.{MakesCells}
 use Rattle.pgn_extract.proofs.entries.row_maker.RowMaker.of_game.Given as goal
 
@@ -19,5 +19,5 @@ invariant-loop-column l = record {
   made : ((text : GameText) → IsGameIn l.game.source text
       → MakesCells l.row.format (lists_in l.maker.annotations)
       (take l.column-index l.row.columns.items) l.maker.parts.items l.maker.last.items
-      (name_of l.game) l.game.id text);
+      (name_of l.game) (openings_of l.game.source) l.game.id text);
 }

@@ -11,7 +11,7 @@ returns-clause-put g c = (
   λ aim game before P at id makes. (
     λ replay own rest is.
         nothing_shown aim.line (ap is_bare makes.line ∙ c.requires.takes)
-        (place_of aim.name id game replay (length before)),
+        (place_of aim.name aim.openings id game replay (length before)),
     refl,
   ),
 )

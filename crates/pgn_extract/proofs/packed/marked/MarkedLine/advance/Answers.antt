@@ -1,7 +1,8 @@
 use Rattle.pgn_extract.proofs.Common.{◌≤◌, ◌-◌, ◌/◌, ℕ, List, length, arith, Side, IsNextMet}
 use Rattle.pgn_extract.proofs.Common.{codes_in}
 use Rattle.pgn_extract.specs.declared.packed.marked.Marked.{Marked}
-use Rattle.pgn_extract.proofs.packed.WalkedLines.{marks_on, marks_all, codes_count, next_shorter}
+use Rattle.pgn_criteria.proofs.CodedLines.{codes_count}
+use Rattle.pgn_extract.proofs.packed.WalkedLines.{marks_on, marks_all, next_shorter}
 use Rattle.pgn_extract.proofs.packed.marked.MarkedLine.advance.Goals as goal
 
 -- no more codes are left than there are plies

@@ -1,6 +1,6 @@
 use Rattle.pgn_extract.proofs.Common.{Some, sym, subst, State, tag_in, fen_tag, IsStart, IsBadStart}
 use Rattle.pgn_extract.proofs.Common.{start_or_bad}
-use Rattle.pgn_extract.proofs.packed.kept_packed.replay_given.Goals as goal
+use Rattle.pgn_extract.proofs.packed.kept_packed.start_given.Goals as goal
 
 pub returns-then-not-is_contents-clause-err : goal.returns-then-not-is_contents-clause-err
 returns-then-not-is_contents-clause-err c is game replay packed own =
@@ -8,8 +8,8 @@ returns-then-not-is_contents-clause-err c is game replay packed own =
     (own.text.strings fen_tag c.args.contents.now (c.requires game replay packed own)) in
     absurd (cc (yes, c.if-not-is_contents.true))
 
-pub replay_from-requires : goal.replay_from-requires
-replay_from-requires c game replay packed own =
+pub returns-in-Ok-clause-ok : goal.returns-in-Ok-clause-ok
+returns-in-Ok-clause-ok c game replay packed own =
     let P : State = c.in-Ok.start in
     subst (λ fen. IsStart fen P) (sym (c.requires game replay packed own)) c.in-Ok.ensures
 

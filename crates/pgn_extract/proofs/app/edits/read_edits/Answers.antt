@@ -1,0 +1,43 @@
+-- Each text asks for an edit after those of the texts before it, or is refused.
+use Rattle.std.proofs.lemmas.List.{append_assoc}
+use Rattle.pgn_extract.proofs.Common.{◌++◌, ◌∷◌, [], refl, ap, subst, ◌∙◌}
+use Rattle.pgn_extract.proofs.Common.{err_from_is_err_and}
+use Rattle.pgn_extract.proofs.app.EditTexts.{one_more, refused_set}
+use Rattle.pgn_extract.specs.Public.AskedEdits.{IsDropped, IsSet, IsSetFault}
+use Rattle.pgn_game.specs.Public.Edits.{edit_of}
+use Rattle.pgn_extract.proofs.app.edits.read_edits.Goals as goal
+
+pub loop-name-preserved : goal.loop-name-preserved
+loop-name-preserved c =
+    let items = c.deref-name-items.result.now in
+    let i = c.loop-name.name-index in
+    let edit = edit_of c.in_ok-drop_of.field-0 in
+    one_more IsDropped items i _ c.loop-name.edits c.in_ok-edits.edits edit c.loop-name-test.true
+    (c.in_ok-edits.ensures ∙ ap (λ es. es ++ edit ∷ []) c.edits.view_is) c.loop-name.invariant
+    (subst (λ t. IsDropped t edit) c.as_bytes.ensures.value c.in_ok-drop_of.ensures.0)
+
+pub returns-in_err-set_of-clause-refused : goal.returns-in_err-set_of-clause-refused
+returns-in_err-set_of-clause-refused c =
+    let why = c.in_err-set_of.field-0.0 in
+    let given = c.from_residual-in_err-set_of in
+    let p = err_from_is_err_and given.result given.ensures.1 in
+    rw (p.1, p.2) (refused_set c.args.request.now c.deref-text-items.result.now
+    c.loop-text.text-index _ why c.deref-text-items.ensures.value c.loop-text-test.true
+    (subst (λ t. IsSetFault t why) c.as_bytes-in-loop-text.ensures.value c.in_err-set_of.ensures))
+
+pub loop-text-preserved : goal.loop-text-preserved
+loop-text-preserved c =
+    let items = c.deref-text-items.result.now in
+    let i = c.loop-text.text-index in
+    let edit = edit_of c.in_ok-set_of.field-0 in
+    let (drops, sets, dropped, set, is) = c.loop-text.invariant in (
+      drops,
+      sets ++ edit ∷ [],
+      dropped,
+      one_more IsSet items i _ sets (sets ++ edit ∷ []) edit c.loop-text-test.true refl set
+          (subst (λ t. IsSet t edit) c.as_bytes-in-loop-text.ensures.value
+          c.in_ok-set_of.ensures.0),
+      c.in_ok-edits-2.ensures
+          ∙ ap (λ es. es ++ edit ∷ []) (c.edits-in-loop-text.view_is ∙ is)
+          ∙ append_assoc drops sets (edit ∷ []),
+    )
