@@ -4,7 +4,7 @@ import re
 from closure import clauses_found, closure_of, lines_of as lines_of_keys
 
 DOCUMENT = "docs/PROOFS.md"
-HEAD = "| Crate | Files of `specs/Public`, which a reader must believe, with their lines | Together | In `specs/Shared` | In `specs/Private` |\n|---|---|---|---|---|\n"
+HEAD = "| Crate | Files of `specs/Public`, which a reader must believe, with their lines | Together |\n|---|---|---|\n"
 TABLE = re.compile(re.escape(HEAD) + r"(?:\|.*\n)*")
 # The table of contracts begins so; the crates follow, a column each.
 RESTS = "| Contract |"
@@ -18,15 +18,15 @@ def lines_of(path):
 
 
 def table(tree):
-    """The table of files: for each crate those that a reader must believe, with their lines, and the others."""
+    """The table of files: for each crate those that a reader must believe, with their lines."""
     rows, whole = [], 0
     for crate in tree.crates.values():
         counts = [(name, sum(map(lines_of, crate.folder.glob(f"specs/Public/{name}.antt")))) for name in crate.believed]
         if counts:
             together = sum(count for _, count in counts)
             whole += together
-            rows.append(f"| `{crate.name}` | " + ", ".join(f"{name} {count}" for name, count in counts) + f" | {together} | {', '.join(crate.shared)} | {', '.join(crate.private)} |\n")
-    return HEAD + "".join(rows) + f"| together | | {whole} | | |\n"
+            rows.append(f"| `{crate.name}` | " + ", ".join(f"{name} {count}" for name, count in counts) + f" | {together} |\n")
+    return HEAD + "".join(rows) + f"| together | | {whole} |\n"
 
 
 def rests(tree, text):
