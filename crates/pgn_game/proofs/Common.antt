@@ -47,10 +47,11 @@ pub use Rattle.pgn_game.specs.Public.AllLines.{after_turn, is_pass, own_words, s
 pub use Rattle.pgn_game.specs.Public.CodeLines.{AreLegalMoves, positions_from}
 pub use Rattle.pgn_game.specs.Public.Comments.{begins_command, braced, closed, closes}
 pub use Rattle.pgn_game.specs.Public.Comments.{comment_tokens, cut_at_white, has_bracket}
+pub use Rattle.pgn_game.specs.Public.Comments.{is_written, outside, shown_tokens, without_commands}
 pub use Rattle.pgn_game.specs.Public.Comments.{in_command, in_first, in_front, later_word}
 pub use Rattle.pgn_game.specs.Public.Comments.{leaves_open, tied, ties, unbraced, words_in}
 pub use Rattle.pgn_game.specs.Public.Exports.{AreMovetextTokens, AreTokens, IsTurnText, kept}
-pub use Rattle.pgn_game.specs.Public.Exports.{lines_with, number_tokens}
+pub use Rattle.pgn_game.specs.Public.Exports.{lines_with, number_tokens, shows}
 pub use Rattle.pgn_game.specs.Public.Faults.{AmbiguousMove, BadStart, Fault, HasLineFault}
 pub use Rattle.pgn_game.specs.Public.Faults.{HaveFault, IllegalMove, IsFault, IsLineFault}
 pub use Rattle.pgn_game.specs.Public.Faults.{IsMoveFault, IsRefusedTurn, IsRefusedWord, NamesNone}
@@ -89,6 +90,8 @@ pub use Rattle.pgn_game.specs.declared.exports.line_wrapper.LineWrapper.{LineWra
 pub use Rattle.pgn_game.specs.declared.exports.movetext.MovetextWriter.{MovetextWriter}
 pub use Rattle.pgn_game.specs.declared.exports.notation.Notation.{Notation}
 pub use Rattle.pgn_game.specs.declared.exports.notation.Notation.TheVariants.{Uci}
+pub use Rattle.pgn_game.specs.declared.exports.style.Commands.{Commands}
+pub use Rattle.pgn_game.specs.declared.exports.style.Commands.TheVariants.{InWords, Whole, LeftOut}
 pub use Rattle.pgn_game.specs.declared.exports.style.Style.{Style}
 pub use Rattle.pgn_game.specs.declared.pack.error.RecordError.{RecordError}
 pub use Rattle.pgn_game.specs.declared.pack.error.RecordError.TheVariants.{CutShort, NoOrigin}

@@ -15,6 +15,8 @@ use Rattle.pgn_game.proofs.Common.{after_turn, in_first, cut_at_white, words_in,
 use Rattle.pgn_game.proofs.Common.{later_word, closed, braced, ties, in_front, tied, comment_tokens}
 use Rattle.pgn_game.proofs.Common.{number_tokens, IsTurnText, kept, AreTokens, AreMovetextTokens}
 use Rattle.pgn_game.proofs.Common.{joined, Style, LineMove, Played, Passed}
+use Rattle.pgn_game.proofs.Common.{shows, shown_tokens, without_commands, Commands, InWords, Whole}
+use Rattle.pgn_game.proofs.Common.{LeftOut}
 use Rattle.chess.specs.Public.San.{castling_text, capture_text, is_capture, pawn_text}
 use Rattle.chess.specs.Public.San.{IsDisambiguation, alone, by_file, by_rank, by_both, IsPieceText}
 use Rattle.chess.specs.Public.San.{IsBody, IsCheckSign, mate, check, quiet}
@@ -481,6 +483,11 @@ comment_may commands text =
     (all_alone (braced (words_in text))
     (braced_may (words_in text) (full_solid (cut_at_white text) (pieces_solid text))))
 
+shown_may : (commands : Commands) (text : List ℕ) → AllMayStand (shown_tokens commands text)
+shown_may InWords text = comment_may false text
+shown_may Whole text = comment_may true text
+shown_may LeftOut text = comment_may false (without_commands text)
+
 -- ---- all tokens
 
 pub result_may : (result : List ℕ) → IsResult result → MayBegin result
@@ -554,10 +561,10 @@ line_may (ThenGlyph number line) style inside before now apart tokens (more, is,
     (line_may line style inside before now apart more rest))
 line_may (ThenComment text line) style inside before now apart tokens (more, is, rest) =
     subst AllMayStand (sym is)
-    (all_append MayStand (kept style.comments (comment_tokens style.commands text)) more
-    (kept_may style.comments (comment_tokens style.commands text) (λ _.
-    comment_may style.commands text))
-    (line_may line style inside before now (apart || style.comments) more rest))
+    (all_append MayStand (kept (shows style text) (shown_tokens style.commands text)) more
+    (kept_may (shows style text) (shown_tokens style.commands text) (λ _.
+    shown_may style.commands text))
+    (line_may line style inside before now (apart || shows style text) more rest))
 line_may (ThenVariation inner line) style inside before now apart tokens (
   own,
   more,

@@ -1,3 +1,4 @@
+pub mod CommandsLeftOut
 pub mod LaidOnce
 pub mod OneMovetext
 pub mod OneOpening

@@ -1,6 +1,7 @@
 //! What holds of every game, whatever replays it, and of every pack. Each law is the contract of a
 //! function that does nothing.
 
+ghost use Rattle.pgn_game.specs.Public.Comments.{NoCommandIsLeft, OtherTextsAreLeft};
 ghost use Rattle.pgn_game.specs.Public.Exports.{MovetextHasOneList};
 ghost use Rattle.pgn_game.specs.Public.Refusals.{OneLineIsReached, RefusedWordIsTheFault};
 ghost use Rattle.pgn_game.specs.Public.TextLines.{TokensHaveAText, TokensHaveOneText};
@@ -107,6 +108,12 @@ pub fn one_game_line()
 pub fn no_line_misread()
     ensures movetext { NoLineIsMisread }
     ensures export { ExportIsReadAsOne }
+{}
+
+/// Without its commands a comment has no `[%`; and one that has none is left as it is.
+pub fn no_command_left()
+    ensures none { NoCommandIsLeft }
+    ensures others { OtherTextsAreLeft }
 {}
 
 /// Each three bytes spell one code of a ply, and the code has this spelling alone.

@@ -5,7 +5,7 @@ use chess::{Bits, Position, resolve};
 use pgn_criteria::Criteria;
 use pgn_extract::memory::{TwoFiles, Written, list_files, list_text};
 use pgn_extract::{EntryLine, Fields, Form, Mode, RunError, Select, Settings};
-use pgn_game::{GameFault, Lines, Style, export, replay};
+use pgn_game::{Commands, GameFault, Lines, Style, export, replay};
 use pgn_text::{Piece, RawGame, games};
 use std::alloc::{AllocError, Global};
 use std::test::Fail;
@@ -129,7 +129,7 @@ fn a_word_leads_to_a_position(rt: HostRuntime) -> Result<(), Fail> {
 /// Everything is kept.
 const WHOLE: Style = Style {
     comments: true,
-    commands: false,
+    commands: Commands::InWords,
     glyphs: true,
     variations: true,
     roster_only: false,

@@ -4,7 +4,7 @@ ghost use Rattle.std.specs.Prelude.{◌≤◌, ◌^◌, IfOk};
 use crate::trials::Trial;
 use pgn_criteria::Criteria;
 use pgn_extract::{EntryLine, Fields, Form, Mode, Select, Settings};
-use pgn_game::Style;
+use pgn_game::{Commands, Style};
 use std::alloc::Global;
 use std::test::Fail;
 use test_support::{Fails, Page, Pieces, TWO_GAMES};
@@ -18,7 +18,7 @@ const FAULT_BETWEEN: &[u8] = b"1. e4 *\n1. Qxh8 *\n1. d4 *\n";
 /// The main line with its comments and NAGs, in lines of at most 79 bytes.
 const PLAIN: Style = Style {
     comments: true,
-    commands: false,
+    commands: Commands::InWords,
     glyphs: true,
     variations: false,
     roster_only: false,

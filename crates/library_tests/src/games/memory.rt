@@ -1,7 +1,7 @@
 //! What is left after a refusal of memory, in the process that met it. Where no request is refused
 //! the calls go well; `rt try --test --fail-alloc N` refuses the Nth request of each test, and
 //! these hold for each N.
-use pgn_game::{GameFault, Lines, Style, export, replay};
+use pgn_game::{Commands, GameFault, Lines, Style, export, replay};
 use pgn_text::{Blocks, ReadError, Tally, games};
 use std::alloc::Global;
 use std::test::Fail;
@@ -14,7 +14,7 @@ const ELEMENTS: &[u8] =
 /// Everything is kept.
 const WHOLE: Style = Style {
     comments: true,
-    commands: false,
+    commands: Commands::InWords,
     glyphs: true,
     variations: true,
     roster_only: false,

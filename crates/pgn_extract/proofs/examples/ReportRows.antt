@@ -10,6 +10,7 @@ use Rattle.pgn_extract.proofs.Common.{verdicts_at_least, FaultyGame, IsPieceVerd
 use Rattle.pgn_extract.proofs.Common.{IsUnreadableVerdict, IsVerdictIn, SoundGame, Verdict}
 use Rattle.pgn_extract.proofs.Common.{fault_line_of, output_of, without_note, Request, AsItStands}
 use Rattle.pgn_extract.proofs.Common.{Line, Record, Standard, Faulty, Matching, Others}
+use Rattle.pgn_game.specs.declared.exports.style.Commands.TheVariants.{Whole}
 use Rattle.pgn_extract.specs.Public.GivenMarks.{game_id, is_number, mark_of, mark_around}
 use Rattle.pgn_extract.specs.Public.Requests.{asked_form, asked_mode, asked_select, asked_style}
 use Rattle.pgn_extract.specs.Public.Requests.{file_refusals, has_fields, has_mode, has_moves}
@@ -82,6 +83,7 @@ width_is_79 : (request : Request)
     → asked_style (record request {
       no_comments = true;
       keep_commands = true;
+      strip_commands = false;
       no_glyphs = false;
       no_variations = true;
       roster = true;
@@ -89,7 +91,7 @@ width_is_79 : (request : Request)
     })
     ≡ record {
       comments = false;
-      commands = true;
+      commands = Whole;
       glyphs = true;
       variations = false;
       roster_only = true;
@@ -113,6 +115,7 @@ width_is_style : (request : Request)
     → has_style (record request {
       no_comments = false;
       keep_commands = false;
+      strip_commands = false;
       no_glyphs = false;
       no_variations = false;
       roster = false;
@@ -121,6 +124,7 @@ width_is_style : (request : Request)
     ∷ has_style (record request {
       no_comments = false;
       keep_commands = false;
+      strip_commands = false;
       no_glyphs = false;
       no_variations = false;
       roster = false;

@@ -3,6 +3,7 @@ use Rattle.std.proofs.Common.{option_map}
 use Rattle.std.specs.List.{list_any}
 use Rattle.std.specs.Prelude.{is_none}
 use Rattle.std.specs.Borrow.{Bor}
+use Rattle.pgn_game.specs.declared.exports.style.Commands.TheVariants.{InWords, LeftOut, Whole}
 use Rattle.pgn_extract.proofs.Common.{◌≡◌, ◌^◌, ◌-◌, Bool, true, false, ℕ, nat_lt, length, List, []}
 use Rattle.pgn_extract.proofs.Common.{◌∷◌, ◌++◌, None, Some, codes, ap, refl, San, Uci}
 use Rattle.pgn_extract.proofs.Common.{sym, ◌∙◌, Aim}
@@ -57,6 +58,7 @@ plain request = record request {
   pack = false;
   no_comments = false;
   keep_commands = false;
+  strip_commands = false;
   no_glyphs = false;
   no_variations = false;
   roster = false;
@@ -118,7 +120,7 @@ both_choices = codes "pgn-extract: --others and --faulty exclude each other\n"
 
 abbrev no_pack : List ℕ
 no_pack =
-    codes "pgn-extract: --pack goes with none of --list, --index, --moves, --uci, --faulty, --as-is, -C, -N, -V, --keep-commands, --roster and -w\n"
+    codes "pgn-extract: --pack goes with none of --list, --index, --moves, --uci, --faulty, --as-is, -C, -N, -V, --keep-commands, --strip-commands, --roster and -w\n"
 
 abbrev both_notations : List ℕ
 both_notations = codes "pgn-extract: --moves and --uci exclude each other\n"
@@ -133,6 +135,9 @@ no_tags_to_meet = codes "pgn-extract: --tags-first goes with --criteria or --whe
 abbrev tags_are_not_first : List ℕ
 tags_are_not_first =
     codes "pgn-extract: --tags-first goes with none of --index, --packed, --others, --faulty, --pack and --openings\n"
+
+abbrev both_commands : List ℕ
+both_commands = codes "pgn-extract: --keep-commands and --strip-commands exclude each other\n"
 
 abbrev both_namings : List ℕ
 both_namings = codes "pgn-extract: --with-names and --no-names exclude each other\n"
@@ -169,6 +174,9 @@ each_pair : (request : Request)
     × RefusedWith (record (plain request) { pack = true; as_is = true }) no_pack
     × RefusedWith (record (plain request) { pack = true; no_comments = true }) no_pack
     × RefusedWith (record (plain request) { pack = true; keep_commands = true }) no_pack
+    × RefusedWith (record (plain request) { pack = true; strip_commands = true }) no_pack
+    × RefusedWith (record (plain request) { keep_commands = true; strip_commands = true })
+    both_commands
     × RefusedWith (record (plain request) { pack = true; no_glyphs = true }) no_pack
     × RefusedWith (record (plain request) { pack = true; no_variations = true }) no_pack
     × RefusedWith (record (plain request) { pack = true; roster = true }) no_pack
@@ -179,6 +187,8 @@ each_pair : (request : Request)
     × RefusedWith (record (plain request) { moves = true; as_is = true }) no_lines_of_moves
     × RefusedWith (record (plain request) { with_names = true; no_names = true }) both_namings
 each_pair request = (
+  refl,
+  refl,
   refl,
   refl,
   refl,
@@ -455,7 +465,7 @@ nothing_asked : (request : Request) → let aim = asked_alone (plain request) in
     × (aim.line ≡ Marked (record { fen = false; next = false })) × (aim.explain ≡ false)
     × (aim.style ≡ record {
       comments = true;
-      commands = false;
+      commands = InWords;
       glyphs = true;
       variations = true;
       roster_only = false;
@@ -514,7 +524,9 @@ each_style : (request : Request)
     → ((asked_alone (record (plain request) { no_comments = true })).style.comments
     ≡ false)
     × ((asked_alone (record (plain request) { keep_commands = true })).style.commands
-    ≡ true)
+    ≡ Whole)
+    × ((asked_alone (record (plain request) { strip_commands = true })).style.commands
+    ≡ LeftOut)
     × ((asked_alone (record (plain request) { no_glyphs = true })).style.glyphs ≡
     false)
     × ((asked_alone (record (plain request) { no_variations = true })).style.variations
@@ -522,7 +534,7 @@ each_style : (request : Request)
     × ((asked_alone (record (plain request) { roster = true })).style.roster_only ≡
     true)
     × ((asked_alone (record (plain request) { width = Some 40 })).style.width ≡ 40)
-each_style request = (refl, refl, refl, refl, refl, refl)
+each_style request = (refl, refl, refl, refl, refl, refl, refl)
 
 without_check_signs : (request : Request) → (begin_of (plain request) ≡ Some (game_id 1 0))
     × (end_of (plain request) ≡ Some (2 ^ 64 - 1))

@@ -4,6 +4,8 @@ use Rattle.std.specs.Prelude.{◌==◌, ℕ, ◌-◌, ◌^◌, nat_lt, length, L
 use Rattle.std.specs.Prelude.{None, codes, option_map, unwrap_or, ◌≡◌, IfSome}
 use Rattle.std.specs.List.{list_all}
 use Rattle.pgn_game.specs.declared.exports.notation.Notation.TheVariants.{San, Uci}
+use Rattle.pgn_game.specs.declared.exports.style.Commands.{Commands}
+use Rattle.pgn_game.specs.declared.exports.style.Commands.TheVariants.{InWords, LeftOut, Whole}
 use Rattle.pgn_game.specs.declared.exports.style.Style.{Style}
 use Rattle.pgn_extract.specs.Public.Aims.{Aim, GameId}
 use Rattle.pgn_extract.specs.Public.AskedEdits.{has_edits}
@@ -47,11 +49,16 @@ asked_form request =
     (if request.uci then Line Uci else
     (if request.as_is then AsItStands else Standard)))
 
+-- what becomes of the commands of comments
+abbrev pub asked_commands : Request → Commands
+asked_commands request = if request.strip_commands then LeftOut
+    else (if request.keep_commands then Whole else InWords)
+
 -- what is kept of a game in the standard's form, in lines of 79 bytes where no width is given
 abbrev pub asked_style : Request → Style
 asked_style request = record {
   comments = not request.no_comments;
-  commands = request.keep_commands;
+  commands = asked_commands request;
   glyphs = not request.no_glyphs;
   variations = not request.no_variations;
   roster_only = request.roster;
@@ -157,7 +164,7 @@ has_moves request = request.moves || request.uci
 -- something says how games are written in the standard's form
 abbrev pub has_style : Request → Bool
 has_style request = request.no_comments || request.no_glyphs || request.no_variations
-    || request.keep_commands || request.roster || is_some request.width
+    || (request.keep_commands || request.strip_commands) || request.roster || is_some request.width
 
 -- criteria are given, in a file or in lines
 abbrev pub gives_criteria : Request → Bool
@@ -208,13 +215,17 @@ abbrev pub asks_no_form : Request → Bool
 asks_no_form request = (request.list || request.index || is_some request.rows)
     || (request.moves || request.uci || request.pack || request.as_is) || request.faulty
 
--- the refusals of edits where no tags are written, and those of files
+-- the refusals of edits where no tags are written, those of commands, and those of files
 abbrev pub edit_refusals : Request → List Refusal
 edit_refusals request =
     record {
       applies = asks_no_form request && has_edits request;
       line = codes
           "pgn-extract: --set, --drop and --fix-results go with none of --list, --index, --rows, --moves, --uci, --pack, --as-is and --faulty\n";
+    }
+    ∷ record {
+      applies = request.keep_commands && request.strip_commands;
+      line = codes "pgn-extract: --keep-commands and --strip-commands exclude each other\n";
     }
     ∷ file_refusals request
 
@@ -297,7 +308,7 @@ other_refusals request =
           && (has_mode request || has_moves request || request.faulty || request.as_is
           || has_style request);
       line = codes
-          "pgn-extract: --pack goes with none of --list, --index, --moves, --uci, --faulty, --as-is, -C, -N, -V, --keep-commands, --roster and -w\n";
+          "pgn-extract: --pack goes with none of --list, --index, --moves, --uci, --faulty, --as-is, -C, -N, -V, --keep-commands, --strip-commands, --roster and -w\n";
     }
     ∷ record {
       applies = request.moves && request.uci;

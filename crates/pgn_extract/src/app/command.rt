@@ -31,6 +31,8 @@ pub struct Request<'a> {
     pub no_comments: bool,
     /// `--keep-commands` was given.
     pub keep_commands: bool,
+    /// `--strip-commands` was given.
+    pub strip_commands: bool,
     /// `-N` was given.
     pub no_glyphs: bool,
     /// `-V` was given.
@@ -277,6 +279,11 @@ const STYLES: &[Choice] = &[
          [%clk 0:01:00]",
     ),
     choice!(
+        "strip-commands",
+        "Leave the commands of comments out, and comments that\n\
+         have nothing else",
+    ),
+    choice!(
         'N',
         "no-glyphs",
         Takes::Nothing,
@@ -473,6 +480,7 @@ pub fn read_arguments<'a>(alloc: Global, arguments: &'a [String]) -> Result<Requ
         pack: matches.get_flag("pack"),
         no_comments: matches.get_flag("no-comments"),
         keep_commands: matches.get_flag("keep-commands"),
+        strip_commands: matches.get_flag("strip-commands"),
         no_glyphs: matches.get_flag("no-glyphs"),
         no_variations: matches.get_flag("no-variations"),
         roster: matches.get_flag("roster"),

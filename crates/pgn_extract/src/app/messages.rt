@@ -41,11 +41,15 @@ pub const NO_LINES_OF_MOVES: &str =
 
 /// A pack is of games that are selected, and a record has one form.
 pub const NO_PACK: &str =
-    "pgn-extract: --pack goes with none of --list, --index, --moves, --uci, --faulty, --as-is, -C, -N, -V, --keep-commands, --roster and -w\n";
+    "pgn-extract: --pack goes with none of --list, --index, --moves, --uci, --faulty, --as-is, -C, -N, -V, --keep-commands, --strip-commands, --roster and -w\n";
 
 /// Tags are edited in games that are written in the standard's form alone.
 pub const NO_TAGS_WRITTEN: &str =
     "pgn-extract: --set, --drop and --fix-results go with none of --list, --index, --rows, --moves, --uci, --pack, --as-is and --faulty\n";
+
+/// Commands are kept whole, and left out.
+pub const BOTH_COMMANDS: &str =
+    "pgn-extract: --keep-commands and --strip-commands exclude each other\n";
 
 /// Without criteria no game is ruled out by its tags.
 pub const NO_TAGS_TO_MEET: &str = "pgn-extract: --tags-first goes with --criteria or --where\n";

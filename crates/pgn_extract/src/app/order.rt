@@ -4,7 +4,7 @@ ghost use Rattle.pgn_extract.specs.Public.Aims.{aim_of};
 ghost use Rattle.pgn_extract.specs.Public.GivenMarks.{IsGameMark};
 ghost use Rattle.pgn_extract.specs.Private.Lines.{is_bare};
 ghost use Rattle.pgn_extract.specs.Public.Requests.{asked, asked_form, asked_mode, asked_select};
-ghost use Rattle.pgn_extract.specs.Public.Requests.{asked_style, asks_names};
+ghost use Rattle.pgn_extract.specs.Public.Requests.{asked_commands, asked_style, asks_names};
 ghost use Rattle.pgn_extract.specs.Public.Requests.{bad_mark, begin_of, edit_refusals, end_of};
 ghost use Rattle.pgn_extract.specs.Public.Requests.{file_refusals};
 ghost use Rattle.pgn_extract.specs.Public.Requests.{first_line, gives_criteria, gives_mark};
@@ -21,7 +21,7 @@ use crate::marks::{GameId, Marks};
 use crate::rows::column::{Format, Row};
 use crate::settings::{EntryLine, Fields, Form, Mode, Select, Settings};
 use pgn_criteria::Criteria;
-use pgn_game::{Notation, Openings, Style, TagEdits};
+use pgn_game::{Commands, Notation, Openings, Style, TagEdits};
 
 /// What the arguments ask for.
 #[derive(Drop)]
@@ -155,7 +155,8 @@ fn refused_searches(request: &Request<'_>) -> Option<&'static str>
     refused_edits(request)
 }
 
-/// The line that refuses edits of tags where no tags are written; or the options of files.
+/// The line that refuses edits of tags where no tags are written, or commands that are both kept and
+/// left out; or the options of files.
 fn refused_edits(request: &Request<'_>) -> Option<&'static str>
     ensures { option_map (λ line. line.now) result ≡ first_line (edit_refusals request.now) }
 {
@@ -163,6 +164,9 @@ fn refused_edits(request: &Request<'_>) -> Option<&'static str>
     let has_form = request.moves | request.uci | request.pack | request.as_is;
     if is_edited(request) & (has_mode | has_form | request.faulty) {
         return Some(messages::NO_TAGS_WRITTEN);
+    }
+    if request.keep_commands & request.strip_commands {
+        return Some(messages::BOTH_COMMANDS);
     }
     refused_files(request)
 }
@@ -207,7 +211,8 @@ fn is_styled(request: &Request<'_>) -> bool
     ensures { result ≡ has_style request.now }
 {
     let leaves_out = request.no_comments || request.no_glyphs || request.no_variations;
-    leaves_out || request.keep_commands || request.roster || request.width.is_some()
+    let has_commands = request.keep_commands || request.strip_commands;
+    leaves_out || has_commands || request.roster || request.width.is_some()
 }
 
 /// Whether lines have the names of their files.
@@ -260,13 +265,26 @@ fn form_of(request: &Request<'_>) -> Form
     }
 }
 
+/// What becomes of the commands of comments.
+fn commands_of(request: &Request<'_>) -> Commands
+    ensures { result ≡ asked_commands request.now }
+{
+    if request.strip_commands {
+        Commands::LeftOut
+    } else if request.keep_commands {
+        Commands::Whole
+    } else {
+        Commands::InWords
+    }
+}
+
 /// How games are written.
 fn style_of(request: &Request<'_>) -> Style
     ensures { result ≡ asked_style request.now }
 {
     Style {
         comments: !request.no_comments,
-        commands: request.keep_commands,
+        commands: commands_of(request),
         glyphs: !request.no_glyphs,
         variations: !request.no_variations,
         roster_only: request.roster,

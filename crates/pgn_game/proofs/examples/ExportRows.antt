@@ -9,6 +9,7 @@ use Rattle.pgn_game.proofs.Common.{Single, Escaped, value_of_sign, LineEnd, Then
 use Rattle.pgn_game.proofs.Common.{in_first, cut_at_white, words_in, closed, braced, begins_command}
 use Rattle.pgn_game.proofs.Common.{has_bracket, closes, leaves_open, in_command, ties, in_front}
 use Rattle.pgn_game.proofs.Common.{tied, comment_tokens, number_tokens, IsTurnText, kept, AreTokens}
+use Rattle.pgn_game.proofs.Common.{is_written, shown_tokens, without_commands, InWords, LeftOut, Whole}
 use Rattle.pgn_game.proofs.Common.{unspaced, IsStartText, promotion_letter, uci_text, IsMoveText}
 use Rattle.pgn_game.proofs.Common.{AreMoveTexts, IsBeginning, played_items, after_move}
 use Rattle.pgn_game.proofs.Common.{in_its_place, is_variation, LeadTo, IsPlayedThere, Replay}
@@ -221,6 +222,30 @@ no_command_without_its_end whole = cc
 no_command_without_its_sign : comment_tokens true (codes "[clk 0:01:00]")
     ≡ codes "{[clk 0:01:00]}" ∷ [] → ⊥
 no_command_without_its_sign whole = cc
+
+-- in place of a command stands a space; of two that begin before a closing bracket, the first is
+-- none, and loses its sign
+commands_left_out : without_commands (codes "a[%b c]d [%e f [%g] h [%i")
+    ≡ codes "a d (%e f   h (%i"
+commands_left_out = refl
+
+only_commands_left_out : without_commands (codes "[a] %b]c [ %d") ≡ codes "[a] %b]c [ %d"
+only_commands_left_out = refl
+
+-- a comment that has no word beside its commands is not written without them, and else it is
+which_is_written : is_written LeftOut (codes " [%a b] ") ∷ is_written LeftOut (codes "[%a] b")
+    ∷ is_written LeftOut [] ∷ is_written Whole (codes "[%a b]") ∷ is_written InWords [] ∷ []
+    ≡ false ∷ true ∷ false ∷ true ∷ true ∷ []
+which_is_written = refl
+
+tokens_by_commands : shown_tokens LeftOut (codes "a [%b c]") ∷ shown_tokens Whole (codes "a [%b c]")
+    ∷ shown_tokens InWords (codes "a [%b c]") ∷ []
+    ≡ (codes "{a}" ∷ []) ∷ (codes "{a" ∷ codes "[%b c]}" ∷ [])
+    ∷ (codes "{a" ∷ codes "[%b" ∷ codes "c]}" ∷ []) ∷ []
+tokens_by_commands = refl
+
+no_comment_without_commands : is_written LeftOut (codes "[%a b]") ≡ true → ⊥
+no_comment_without_commands shown = cc
 
 -- Tokens in lines.
 

@@ -7,7 +7,8 @@ use Rattle.pgn_game.proofs.Common.{arith, nat_tests, same_Some, slice_get, State
 use Rattle.pgn_game.proofs.Common.{IsOnlyNamed, Move, IsPaired, Item, MoveText, GlyphNumber}
 use Rattle.pgn_game.proofs.Common.{CommentText, VariationOpen, VariationClose, Line, LineEnd}
 use Rattle.pgn_game.proofs.Common.{ThenMove, ThenGlyph, ThenComment, ThenVariation, spelled}
-use Rattle.pgn_game.proofs.Common.{own_words, SaysTurn, after_turn, IsPlayed, comment_tokens}
+use Rattle.pgn_game.proofs.Common.{own_words, SaysTurn, after_turn, IsPlayed, shows}
+use Rattle.pgn_game.proofs.Common.{shown_tokens}
 use Rattle.pgn_game.proofs.Common.{number_tokens, kept, lines_with, AreMovetextTokens, AreTokens}
 use Rattle.pgn_game.proofs.Common.{Fault, HasLineFault, IsMoveFault, Stops, begun, first_level}
 use Rattle.pgn_game.proofs.Common.{gone_on, is_inside, main_words, IsMainLine, HasPut, Step, Visits}
@@ -185,10 +186,10 @@ module _ (style : Style) where
       let puts = first.1 in
       let there =
       line_written line rest (apart
-      || style.comments) at outer more first.0 new shown (puts.same ∙ same)
-      (puts.stands ∙ ap (λ a. a || old.style.comments) stands
-      ∙ ap (λ (s : Style). apart || s.comments) same) walks first.2 in
-      let remark = kept style.comments (comment_tokens style.commands text) in
+      || shows style text) at outer more first.0 new shown (puts.same ∙ same)
+      (puts.stands ∙ ap (λ a. a || shows old.style text) stands
+      ∙ ap (λ (s : Style). apart || shows s text) same) walks first.2 in
+      let remark = kept (shows style text) (shown_tokens style.commands text) in
       let put : HasPut old.wrapper first.0.wrapper old.out.items first.0.out.items remark =
       rw (← same) puts.put in
       record {
@@ -343,10 +344,10 @@ module _ (style : Style) where
       let first = subst (λ ss. Visits WritesStep old ss new) is visits in
       let puts = first.1 in
       let there =
-      main_written line (apart || style.comments) at more first.0 new hidden (puts.same ∙ same)
-      (puts.stands ∙ ap (λ a. a || old.style.comments) stands
-      ∙ ap (λ (s : Style). apart || s.comments) same) walks first.2 in
-      let remark = kept style.comments (comment_tokens style.commands text) in
+      main_written line (apart || shows style text) at more first.0 new hidden (puts.same ∙ same)
+      (puts.stands ∙ ap (λ a. a || shows old.style text) stands
+      ∙ ap (λ (s : Style). apart || shows s text) same) walks first.2 in
+      let remark = kept (shows style text) (shown_tokens style.commands text) in
       let put : HasPut old.wrapper first.0.wrapper old.out.items first.0.out.items remark =
       rw (← same) puts.put in
       record {
@@ -451,7 +452,7 @@ drawn_line (ThenMove word line) style before now apart tokens (
 drawn_line (ThenGlyph number line) style before now apart tokens (more, is, rest) =
     drawn_line line style before now apart more rest
 drawn_line (ThenComment text line) style before now apart tokens (more, is, rest) =
-    drawn_line line style before now (apart || style.comments) more rest
+    drawn_line line style before now (apart || shows style text) more rest
 drawn_line (ThenVariation inner line) style before now apart tokens (own, more, is, inside, rest) =
     drawn_line line style before now (apart || style.variations) more rest
 
@@ -475,7 +476,7 @@ drawn_turns (ThenMove word line) style shown inside before now apart tokens (
 drawn_turns (ThenGlyph number line) style shown inside before now apart tokens (more, is, rest) =
     drawn_turns line style shown inside before now apart more rest
 drawn_turns (ThenComment text line) style shown inside before now apart tokens (more, is, rest) =
-    drawn_turns line style shown inside before now (apart || style.comments) more rest
+    drawn_turns line style shown inside before now (apart || shows style text) more rest
 drawn_turns (ThenVariation inner line) style shown inside before now apart tokens (
   own,
   more,

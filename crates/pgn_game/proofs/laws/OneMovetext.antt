@@ -3,7 +3,7 @@ use Rattle.std.proofs.Common.{◌||◌}
 use Rattle.pgn_game.proofs.Common.{◌≡◌, ℕ, Bool, true, false, ◌&&◌, List, [], ◌∷◌, ◌++◌, refl, sym}
 use Rattle.pgn_game.proofs.Common.{ap, ◌∙◌, subst, codes, decimal, State, one_san, Line, LineEnd}
 use Rattle.pgn_game.proofs.Common.{ThenMove, ThenGlyph, ThenComment, ThenVariation, is_pass}
-use Rattle.pgn_game.proofs.Common.{after_turn, comment_tokens, number_tokens, IsTurnText, kept}
+use Rattle.pgn_game.proofs.Common.{after_turn, shows, shown_tokens, number_tokens, IsTurnText, kept}
 use Rattle.pgn_game.proofs.Common.{AreTokens, Style, LineMove, Played, Passed}
 use Rattle.pgn_game.specs.Public.Exports.{MovetextHasOneList}
 use Rattle.pgn_game.proofs.OneLine.{one_turn}
@@ -55,9 +55,9 @@ one_list (ThenComment text line) style inside before now apart tokens others (
   is,
   rest,
 ) (more2, is2, rest2) =
-    is ∙ ap (λ ts. kept style.comments (comment_tokens style.commands text)
+    is ∙ ap (λ ts. kept (shows style text) (shown_tokens style.commands text)
     ++ ts) (one_list line style inside before now (apart
-    || style.comments) more more2 rest rest2) ∙ sym is2
+    || shows style text) more more2 rest rest2) ∙ sym is2
 one_list (ThenVariation inner line) style inside before now apart tokens others (
   own,
   more,

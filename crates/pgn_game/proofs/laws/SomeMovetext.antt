@@ -4,7 +4,8 @@ use Rattle.pgn_game.proofs.Common.{◌≡◌, ℕ, Bool, true, false, ◌&&◌, 
 use Rattle.pgn_game.proofs.Common.{ap, ◌∙◌, subst, codes, decimal, AreOnBoard, State, after, Move}
 use Rattle.pgn_game.proofs.Common.{men_stay_on_board, some_san, Line, LineEnd, ThenMove, ThenGlyph}
 use Rattle.pgn_game.proofs.Common.{ThenComment, ThenVariation, spelled, is_pass, SaysTurn}
-use Rattle.pgn_game.proofs.Common.{after_turn, IsPlayed, own_words, comment_tokens, number_tokens}
+use Rattle.pgn_game.proofs.Common.{after_turn, IsPlayed, own_words, shows, shown_tokens}
+use Rattle.pgn_game.proofs.Common.{number_tokens}
 use Rattle.pgn_game.proofs.Common.{IsTurnText, kept, AreTokens, main_words, IsMainLine, AreTurns}
 use Rattle.pgn_game.proofs.Common.{Style, LineMove, Played, Passed}
 use Rattle.pgn_game.specs.Public.Laws.{MovetextHasTokens}
@@ -51,8 +52,8 @@ all_tokens (ThenGlyph number line) style inside before now apart turns on_board 
 all_tokens (ThenComment text line) style inside before now apart turns on_board stands played =
     let there =
     all_tokens line style inside before now (apart
-    || style.comments) turns on_board stands played in
-    (kept style.comments (comment_tokens style.commands text) ++ there.0, (there.0, refl, there.1))
+    || shows style text) turns on_board stands played in
+    (kept (shows style text) (shown_tokens style.commands text) ++ there.0, (there.0, refl, there.1))
 all_tokens (ThenVariation inner line) style inside before now apart turns on_board stands (
   own,
   more,
@@ -94,8 +95,8 @@ main_tokens (ThenGlyph number line) style hidden before now apart positions play
 main_tokens (ThenComment text line) style hidden before now apart positions played stands line_is =
     let there =
     main_tokens line style hidden before now (apart
-    || style.comments) positions played stands line_is in
-    (kept style.comments (comment_tokens style.commands text) ++ there.0, (there.0, refl, there.1))
+    || shows style text) positions played stands line_is in
+    (kept (shows style text) (shown_tokens style.commands text) ++ there.0, (there.0, refl, there.1))
 main_tokens (ThenVariation inner line) style hidden before now apart positions played stands
     line_is =
     let tail =

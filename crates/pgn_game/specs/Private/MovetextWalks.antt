@@ -5,8 +5,9 @@ use Rattle.pgn_text.specs.Public.Games.{MoveText, GlyphNumber, CommentText, Vari
 use Rattle.pgn_text.specs.Public.Games.{VariationClose}
 use Rattle.chess.specs.Public.Positions.{State}
 use Rattle.pgn_text.specs.Public.GameTexts.{GameText}
-use Rattle.pgn_game.specs.Public.Comments.{comment_tokens}
+use Rattle.pgn_game.specs.Public.Comments.{shown_tokens}
 use Rattle.pgn_game.specs.Public.Exports.{AreMovetextTokens, number_tokens, IsTurnText, kept}
+use Rattle.pgn_game.specs.Public.Exports.{shows}
 use Rattle.pgn_game.specs.Public.TextLines.{IsLaid}
 use Rattle.pgn_game.specs.Private.LineWrappers.{HasPut}
 use Rattle.pgn_game.specs.Private.Steps.{Step, Turned, Beside}
@@ -38,7 +39,7 @@ WritesStep old (Beside (MoveText word)) new = new ≡ old
 WritesStep old (Beside (GlyphNumber number)) new =
     Puts old new (kept old.style.glyphs ((36 ∷ decimal number) ∷ [])) old.apart
 WritesStep old (Beside (CommentText text)) new =
-    Puts old new (kept old.style.comments (comment_tokens old.style.commands text)) (old.apart
-    || old.style.comments)
+    Puts old new (kept (shows old.style text) (shown_tokens old.style.commands text))
+    (old.apart || shows old.style text)
 WritesStep old (Beside VariationOpen) new = Puts old new (codes "(" ∷ []) true
 WritesStep old (Beside VariationClose) new = Puts old new (codes ")" ∷ []) true

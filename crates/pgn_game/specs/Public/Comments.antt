@@ -1,10 +1,12 @@
 -- A comment as tokens: its words, the first after an opening brace and the last before a closing
 -- one; and, where its commands are kept whole, the words of each command as one token.
-use Rattle.std.specs.Prelude.{ℕ, Bool, false, not, ◌&&◌, ◌||◌, ◌==◌, if◌then◌else◌, bytes_eq, codes}
+use Rattle.std.specs.Prelude.{◌≡◌, ℕ, Bool, true, false, not, ◌&&◌, ◌||◌, ◌==◌, if◌then◌else◌, bytes_eq, codes}
 use Rattle.std.specs.Prelude.{List, [], ◌∷◌, ◌++◌, map, filter}
 use Rattle.std.specs.List.{list_any}
 use Rattle.pgn_text.specs.Public.Bytes.{is_white, is_empty, begins}
 use Rattle.pgn_game.specs.Public.TextLines.{joined}
+use Rattle.pgn_game.specs.declared.exports.style.Commands.{Commands}
+use Rattle.pgn_game.specs.declared.exports.style.Commands.TheVariants.{InWords, Whole, LeftOut}
 
 -- the text cut at each white byte
 abbrev pub in_first : ℕ → List (List ℕ) → List (List ℕ)
@@ -91,3 +93,42 @@ tied (tie ∷ more) (token ∷ tokens) = in_front tie token (tied more tokens)
 abbrev pub comment_tokens : Bool → List ℕ → List (List ℕ)
 comment_tokens commands text =
     tied (if commands then ties false (words_in text) else []) (braced (words_in text))
+
+-- the text outside its commands, with a space in the place of each; a `[%` that begins none is
+-- written `(%`; `inside` where the text begins in one
+abbrev pub outside : Bool → List ℕ → List ℕ
+outside inside [] = []
+outside true (b ∷ text) = outside (not (b == 93)) text
+outside false (b ∷ text) = if begins_command (b ∷ text)
+    then (if closes text then 32 ∷ outside true text else 40 ∷ outside false text)
+    else b ∷ outside false text
+
+-- the text without its commands
+abbrev pub without_commands : List ℕ → List ℕ
+without_commands text = outside false text
+
+-- a comment is written, but for one that has no word beside its commands where these are left out
+abbrev pub is_written : Commands → List ℕ → Bool
+is_written InWords text = true
+is_written Whole text = true
+is_written LeftOut text = not (is_empty (words_in (without_commands text)))
+
+-- the tokens of a comment that is written
+abbrev pub shown_tokens : Commands → List ℕ → List (List ℕ)
+shown_tokens InWords text = comment_tokens false text
+shown_tokens Whole text = comment_tokens true text
+shown_tokens LeftOut text = comment_tokens false (without_commands text)
+
+-- a `[%` stands in the text
+abbrev pub has_command_sign : List ℕ → Bool
+has_command_sign [] = false
+has_command_sign (b ∷ text) = begins_command (b ∷ text) || has_command_sign text
+
+-- without its commands a text has no `[%`
+abbrev pub NoCommandIsLeft : Type 0
+NoCommandIsLeft = (text : List ℕ) → has_command_sign (without_commands text) ≡ false
+
+-- and a text that has none is left as it is
+abbrev pub OtherTextsAreLeft : Type 0
+OtherTextsAreLeft =
+    (text : List ℕ) → has_command_sign text ≡ false → without_commands text ≡ text

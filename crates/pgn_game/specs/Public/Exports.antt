@@ -1,5 +1,5 @@
 -- The export of a game: its tags, and its movetext in standard texts (PGN 3.1, 8).
-use Rattle.std.specs.Prelude.{◌≡◌, ℕ, Bool, true, false, ◌||◌, codes, decimal, List, [], ◌∷◌, ◌++◌}
+use Rattle.std.specs.Prelude.{◌≡◌, ℕ, Bool, true, false, ◌&&◌, ◌||◌, codes, decimal, List, [], ◌∷◌, ◌++◌}
 use Rattle.std.specs.Prelude.{Option}
 use Rattle.chess.specs.Public.Positions.{State}
 use Rattle.chess.specs.Public.San.{IsSan}
@@ -9,7 +9,7 @@ use Rattle.pgn_text.specs.Public.Games.{Item}
 use Rattle.pgn_text.specs.Public.GameTexts.{GameText, tag_in}
 use Rattle.pgn_game.specs.Public.AllLines.{Line, LineEnd, ThenMove, ThenGlyph, ThenComment}
 use Rattle.pgn_game.specs.Public.AllLines.{ThenVariation, spelled, IsTurn, after_turn}
-use Rattle.pgn_game.specs.Public.Comments.{comment_tokens}
+use Rattle.pgn_game.specs.Public.Comments.{is_written, shown_tokens}
 use Rattle.pgn_game.specs.Public.Replays.{Replay, IsReplay}
 use Rattle.pgn_game.specs.Public.Starts.{fen_tag, IsStart}
 use Rattle.pgn_game.specs.Public.TagLines.{AreTagLines}
@@ -38,6 +38,10 @@ abbrev pub kept : Bool → List (List ℕ) → List (List ℕ)
 kept true tokens = tokens
 kept false tokens = []
 
+-- a comment with this text is written
+abbrev pub shows : Style → List ℕ → Bool
+shows style text = style.comments && is_written style.commands text
+
 -- the tokens of the line with all its variations: `before` and `now` as where it is played, `apart`
 -- where the next move stands apart from the one before it
 abbrev pub AreTokens : Style → Bool → State → State → Bool → Line → List (List ℕ) → Type 0
@@ -52,8 +56,8 @@ AreTokens style inside before now apart (ThenGlyph number rest) tokens =
     × AreTokens style inside before now apart rest more
 AreTokens style inside before now apart (ThenComment text rest) tokens =
     (more : List (List ℕ))
-    × (tokens ≡ kept style.comments (comment_tokens style.commands text) ++ more)
-    × AreTokens style inside before now (apart || style.comments) rest more
+    × (tokens ≡ kept (shows style text) (shown_tokens style.commands text) ++ more)
+    × AreTokens style inside before now (apart || shows style text) rest more
 AreTokens style inside before now apart (ThenVariation inner rest) tokens =
     (own : List (List ℕ)) × (more : List (List ℕ))
     × (tokens ≡ kept style.variations (codes "(" ∷ own ++ codes ")" ∷ []) ++ more)

@@ -4,7 +4,10 @@ ghost use Rattle.std.specs.Prelude.{OnOk, IfOk, IfSome, IsTrue, true, false, Som
 ghost use Rattle.pgn_text.specs.Public.Bytes.{is_white};
 ghost use Rattle.pgn_game.specs.Public.Comments.{words_in, unbraced, later_word, closed};
 ghost use Rattle.pgn_game.specs.Public.Comments.{begins_command, closes, leaves_open, in_command};
-ghost use Rattle.pgn_game.specs.Public.Comments.{comment_tokens};
+ghost use Rattle.pgn_game.specs.Public.Comments.{comment_tokens, is_written, shown_tokens};
+ghost use Rattle.pgn_game.specs.Public.Comments.{without_commands};
+ghost use Rattle.pgn_game.specs.Public.Exports.{kept};
+ghost use Rattle.pgn_game.specs.declared.exports.style.Commands.TheVariants.{LeftOut};
 ghost use Rattle.pgn_game.specs.Public.TextLines.{joined};
 ghost use Rattle.pgn_game.specs.Private.CommentWords.{word_front, after_front, after_white};
 ghost use Rattle.pgn_game.specs.Private.CommentWords.{found_words, closing, found_size, tied_words};
@@ -516,6 +519,55 @@ fn put_whole(wrapper: &mut LineWrapper, out: &mut Vec<u8>, text: &[u8]) -> Resul
     let inside = is_in_command(false, &first);
     let next = put_tied(wrapper, out, b"{", first, inside)?;
     put_later_whole(wrapper, out, next)
+}
+
+/// Adds the text without its commands, with a space in the place of each, and without the sign of
+/// those that have no end.
+fn push_without_commands(out: &mut Vec<u8>, text: &[u8]) -> Result<(), AllocError>
+    ensures { OnOk result (out.new.items ≡ out.old.items ++ without_commands text.now) }
+{
+    let mut rest = text;
+    let mut inside = false;
+    while let [first, after @ ..] = rest {
+        if inside {
+            inside = *first != b']';
+        } else if !begins_command(rest) {
+            out.push(*first)?;
+        } else if closes(after) {
+            out.push(b' ')?;
+            inside = true;
+        } else {
+            out.push(b'(')?;
+        }
+        rest = after;
+    }
+    Ok(())
+}
+
+/// Writes what is left of a comment without its commands, if that has words, and answers whether it
+/// has. It is made in `left`.
+#[inline(never)]
+pub(crate) fn put_left(
+    wrapper: &mut LineWrapper,
+    out: &mut Vec<u8>,
+    left: &mut Vec<u8>,
+    text: &[u8],
+) -> Result<bool, AllocError>
+    ensures shown { IfOk result (λ shown. shown ≡ is_written LeftOut text.now) }
+    ensures text { OnOk result
+        (HasPut wrapper.old wrapper.new out.old.items out.new.items
+        (kept (is_written LeftOut text.now)
+        (shown_tokens LeftOut text.now))) }
+    ensures kept { (some : List ℕ) × (out.new.items ≡ out.old.items ++ some) }
+    ensures width { wrapper.new.width ≡ wrapper.old.width }
+{
+    left.clear();
+    push_without_commands(left, text)?;
+    if first_word(left).is_none() {
+        return Ok(false);
+    }
+    put_comment(wrapper, out, left, false)?;
+    Ok(true)
 }
 
 /// Writes a comment in braces: each of its words is a token, or each command with its words, where

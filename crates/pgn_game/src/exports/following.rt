@@ -91,7 +91,7 @@ pub(crate) fn follow_movetext<'a>(
         (HasLineFault (lines_with style.now.variations) start.now game.now.elements)) }
 {
     let room = Vec::with_capacity(alloc, game.text().len())?;
-    let writer = MovetextWriter::new(room, style);
+    let writer = MovetextWriter::new(alloc, room, style);
     let mut follower = Follower::new(writer, openings, start);
     walk_lines(alloc, game, start, style.variations, &mut follower)?;
     let Follower { inner, place, .. } = follower;

@@ -1,18 +1,19 @@
 //! The movetext of a game, written at each step of a walk over its lines.
 ghost use Rattle.std.specs.Prelude.{◌≡◌, ◌++◌, ◌∷◌, ℕ, List, [], codes, decimal, false, map, true};
-ghost use Rattle.std.specs.Prelude.{IfErr, IfSome, MatchResult, OnOk};
+ghost use Rattle.std.specs.Prelude.{IfErr, IfSome, MatchResult, OnOk, ◌||◌};
 ghost use Rattle.pgn_text.specs.Public.Elements.{item_of};
 ghost use Rattle.pgn_text.specs.Public.GameTexts.{IsPaired};
-ghost use Rattle.pgn_game.specs.Public.Exports.{lines_with, number_tokens, IsMovetext};
+ghost use Rattle.pgn_game.specs.Public.Comments.{is_written, shown_tokens};
+ghost use Rattle.pgn_game.specs.Public.Exports.{kept, lines_with, number_tokens, IsMovetext};
 ghost use Rattle.pgn_game.specs.Public.Faults.{HasLineFault};
 ghost use Rattle.pgn_game.specs.Public.Replays.{fault_of};
 ghost use Rattle.pgn_game.specs.Private.LineWalks.{first_level};
 ghost use Rattle.pgn_game.specs.Private.MovetextWalks.{IsNew, Puts, WritesStep};
 ghost use Rattle.pgn_game.specs.Private.Steps.{Step, Visits, Walks, shown_items};
 
-use crate::exports::comment::put_comment;
+use crate::exports::comment::{put_comment, put_left};
 use crate::exports::line_wrapper::LineWrapper;
-use crate::exports::style::Style;
+use crate::exports::style::{Commands, Style};
 use crate::exports::tokens::{play_turn_san, put_glyph, put_number};
 use crate::replays::line_stack::LineStack;
 use crate::replays::walk::{Level, StepVisitor, walk};
@@ -34,11 +35,13 @@ pub(crate) struct MovetextWriter {
     pub(crate) wrapper: LineWrapper,
     apart: bool,
     style: Style,
+    /// What is left of the last comment whose commands are left out.
+    left: Vec<u8>,
 }
 
 impl MovetextWriter {
     /// Before the first token, which is to follow these bytes.
-    pub(crate) fn new(out: Vec<u8>, style: &Style) -> Self
+    pub(crate) fn new(alloc: Global, out: Vec<u8>, style: &Style) -> Self
         ensures { IsNew style.now out.items result }
     {
         MovetextWriter {
@@ -46,6 +49,7 @@ impl MovetextWriter {
             wrapper: LineWrapper::new(style.width),
             apart: true,
             style: *style,
+            left: Vec::new(alloc),
         }
     }
 
@@ -68,6 +72,27 @@ impl MovetextWriter {
     {
         self.apart = true;
         self.wrapper.put(&mut self.out, text)
+    }
+
+    /// Writes a comment, or what is left of it without its commands; the next move stands apart
+    /// after what is written.
+    fn put_remark(&mut self, text: &[u8]) -> Result<(), AllocError>
+        ensures text { OnOk result (Puts self.old self.new
+            (kept (is_written self.old.style.commands text.now)
+            (shown_tokens self.old.style.commands text.now))
+            (self.old.apart || is_written self.old.style.commands text.now)) }
+        ensures kept { (some : List ℕ) × (self.new.out.items ≡ self.old.out.items ++ some) }
+    {
+        let is_whole = match self.style.commands {
+            Commands::InWords => false,
+            Commands::Whole => true,
+            Commands::LeftOut => {
+                self.apart |= put_left(&mut self.wrapper, &mut self.out, &mut self.left, text)?;
+                return Ok(());
+            }
+        };
+        self.apart = true;
+        put_comment(&mut self.wrapper, &mut self.out, text, is_whole)
     }
 }
 
@@ -105,8 +130,7 @@ impl StepVisitor for MovetextWriter {
                 if !self.style.comments {
                     return Ok(());
                 }
-                self.apart = true;
-                put_comment(&mut self.wrapper, &mut self.out, text, self.style.commands)
+                self.put_remark(text)
             }
             Element::Open => self.put_parenthesis(b"("),
             Element::Close => self.put_parenthesis(b")"),
@@ -155,7 +179,7 @@ pub(crate) fn put_movetext<'a>(
         (HasLineFault (lines_with style.now.variations) start.now game.now.elements)) }
     ensures kept { (some : List ℕ) × (out.new.items ≡ out.old.items ++ some) }
 {
-    let mut writer = MovetextWriter::new(mem::replace(out, Vec::new(alloc)), style);
+    let mut writer = MovetextWriter::new(alloc, mem::replace(out, Vec::new(alloc)), style);
     let walked = walk_lines(alloc, game, start, style.variations, &mut writer);
     let MovetextWriter {
         out: text,

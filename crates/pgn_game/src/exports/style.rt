@@ -1,12 +1,23 @@
 //! How a game is written.
 
+/// What becomes of the commands of a comment, as `[%clk 0:01:00]`.
+#[derive(Clone, Copy, Debug, PartialEq, Eq)]
+pub enum Commands {
+    /// Their words are tokens as all others.
+    InWords,
+    /// Each is one token: no line ends within it.
+    Whole,
+    /// They are left out, and with them a comment that has nothing else.
+    LeftOut,
+}
+
 /// How a game is written: what is kept of it, and how long its lines may be.
 #[derive(Clone, Copy, Debug, PartialEq, Eq)]
 pub struct Style {
     /// Comments are kept.
     pub comments: bool,
-    /// Each command of a comment, as `[%clk 0:01:00]`, is one token: no line ends within it.
-    pub commands: bool,
+    /// What becomes of the commands of a comment.
+    pub commands: Commands,
     /// NAGs are kept.
     pub glyphs: bool,
     /// Variations are kept, with all that stands in them.
