@@ -26,50 +26,54 @@ _pgn_extract() {
 # (written by tools/completions)
 _pgn_extract_options='--list --fen --next --rows --csv --tsv --jsonl --no-header --packed --index
     --moves --uci --pack --criteria --where --openings --min-ply --max-ply --first --tags-first
-    --others --faulty --as-is -C --no-comments --keep-commands -N --no-glyphs -V --no-variations
-    --roster -w --width --set --drop --fix-results --explain --summary --progress --no-progress
-    --from --until --at --with-names --no-names -h --help --version'
+    --others --faulty --as-is -C --no-comments --keep-commands --strip-commands -N --no-glyphs -V
+    --no-variations --roster -w --width --set --drop --fix-results --plycount --explain --summary
+    --progress --no-progress --from --until --at --with-names --no-names -h --help --version'
 # Takes out what the program refuses beside an option.
 _pgn_extract_excluded() {
     case $1 in
     --list) _pgn_extract_without --rows --csv --tsv --jsonl --no-header --index --moves --uci \
-        --pack --others --faulty --as-is --set --drop --fix-results ;;
+        --pack --others --faulty --as-is --set --drop --fix-results --plycount ;;
     --fen) _pgn_extract_without --rows --csv --tsv --jsonl --no-header --index --moves --uci \
-        --pack --others --faulty --as-is --set --drop --fix-results ;;
+        --pack --others --faulty --as-is --set --drop --fix-results --plycount ;;
     --next) _pgn_extract_without --rows --csv --tsv --jsonl --no-header --index --moves --uci \
-        --pack --others --faulty --as-is --set --drop --fix-results ;;
+        --pack --others --faulty --as-is --set --drop --fix-results --plycount ;;
     --rows) _pgn_extract_without --list --fen --next --index --moves --uci --pack --others \
-        --faulty --as-is --set --drop --fix-results ;;
+        --faulty --as-is --set --drop --fix-results --plycount ;;
     --csv) _pgn_extract_without --list --fen --next --tsv --jsonl --index --moves --uci --pack \
-        --others --faulty --as-is --set --drop --fix-results ;;
+        --others --faulty --as-is --set --drop --fix-results --plycount ;;
     --tsv) _pgn_extract_without --list --fen --next --csv --jsonl --index --moves --uci --pack \
-        --others --faulty --as-is --set --drop --fix-results ;;
+        --others --faulty --as-is --set --drop --fix-results --plycount ;;
     --jsonl) _pgn_extract_without --list --fen --next --csv --tsv --index --moves --uci --pack \
-        --others --faulty --as-is --set --drop --fix-results ;;
+        --others --faulty --as-is --set --drop --fix-results --plycount ;;
     --no-header) _pgn_extract_without --list --fen --next --index --moves --uci --pack --others \
-        --faulty --as-is --set --drop --fix-results ;;
+        --faulty --as-is --set --drop --fix-results --plycount ;;
     --packed) _pgn_extract_without --moves --uci --pack --openings --tags-first --others --faulty \
-        --as-is --set --drop --fix-results --from --until --at --with-names --no-names ;;
+        --as-is --set --drop --fix-results --plycount --from --until --at --with-names \
+        --no-names ;;
     --index) _pgn_extract_without --list --fen --next --rows --csv --tsv --jsonl --no-header \
-        --moves --uci --pack --tags-first --others --faulty --as-is --set --drop --fix-results ;;
+        --moves --uci --pack --tags-first --others --faulty --as-is --set --drop --fix-results \
+        --plycount ;;
     --moves) _pgn_extract_without --list --fen --next --rows --csv --tsv --jsonl --no-header \
-        --packed --index --uci --pack --faulty --as-is --set --drop --fix-results ;;
+        --packed --index --uci --pack --faulty --as-is --set --drop --fix-results --plycount ;;
     --uci) _pgn_extract_without --list --fen --next --rows --csv --tsv --jsonl --no-header \
-        --packed --index --moves --pack --faulty --as-is --set --drop --fix-results ;;
+        --packed --index --moves --pack --faulty --as-is --set --drop --fix-results --plycount ;;
     --pack) _pgn_extract_without --list --fen --next --rows --csv --tsv --jsonl --no-header \
         --packed --index --moves --uci --tags-first --faulty --as-is -C --no-comments \
-        --keep-commands -N --no-glyphs -V --no-variations --roster -w --width --set --drop \
-        --fix-results ;;
+        --keep-commands --strip-commands -N --no-glyphs -V --no-variations --roster -w --width \
+        --set --drop --fix-results --plycount ;;
     --openings) _pgn_extract_without --packed --tags-first ;;
     --tags-first) _pgn_extract_without --packed --index --pack --openings --others --faulty ;;
     --others) _pgn_extract_without --list --fen --next --rows --csv --tsv --jsonl --no-header \
         --packed --index --tags-first --faulty ;;
     --faulty) _pgn_extract_without --list --fen --next --rows --csv --tsv --jsonl --no-header \
-        --packed --index --moves --uci --pack --tags-first --others --set --drop --fix-results ;;
+        --packed --index --moves --uci --pack --tags-first --others --set --drop --fix-results \
+        --plycount ;;
     --as-is) _pgn_extract_without --list --fen --next --rows --csv --tsv --jsonl --no-header \
-        --packed --index --moves --uci --pack --set --drop --fix-results ;;
+        --packed --index --moves --uci --pack --set --drop --fix-results --plycount ;;
     -C | --no-comments) _pgn_extract_without --pack ;;
-    --keep-commands) _pgn_extract_without --pack ;;
+    --keep-commands) _pgn_extract_without --pack --strip-commands ;;
+    --strip-commands) _pgn_extract_without --pack --keep-commands ;;
     -N | --no-glyphs) _pgn_extract_without --pack ;;
     -V | --no-variations) _pgn_extract_without --pack ;;
     --roster) _pgn_extract_without --pack ;;
@@ -79,6 +83,8 @@ _pgn_extract_excluded() {
     --drop) _pgn_extract_without --list --fen --next --rows --csv --tsv --jsonl --no-header \
         --packed --index --moves --uci --pack --faulty --as-is ;;
     --fix-results) _pgn_extract_without --list --fen --next --rows --csv --tsv --jsonl --no-header \
+        --packed --index --moves --uci --pack --faulty --as-is ;;
+    --plycount) _pgn_extract_without --list --fen --next --rows --csv --tsv --jsonl --no-header \
         --packed --index --moves --uci --pack --faulty --as-is ;;
     --progress) _pgn_extract_without --no-progress ;;
     --no-progress) _pgn_extract_without --progress ;;

@@ -20,7 +20,7 @@ use Rattle.pgn_text.specs.Shared.StringTexts.{contents_front}
 use Rattle.pgn_game.proofs.EditedTags.{start_stays}
 use Rattle.pgn_game.proofs.OneExport.{one_export}
 use Rattle.pgn_game.specs.Public.Edits.{AreEditable, EditedTag, IsEditable, IsEdited, IsEditedBy}
-use Rattle.pgn_game.specs.Public.Edits.{IsEditedExport, edited_tag}
+use Rattle.pgn_game.specs.Public.Edits.{Edits, IsEditedExport, all_edits, edited_tag}
 use Rattle.pgn_game.specs.Public.Exports.{IsExport}
 use Rattle.pgn_extract.proofs.GameExport.{own_export}
 
@@ -169,7 +169,7 @@ edits_or_not (edit ∷ edits) = elim (editable_or_not edit) [
 -- ---- the export of an edited game
 
 -- there is one where each game with these elements, this result and this start has one
-pub some_edited_export : (edits : Option (List EditedTag)) (style : Style) (game : GameText)
+pub some_edited_export : (edits : Option Edits) (style : Style) (game : GameText)
     → IsGameText game
     → ((own : GameText) → IsGameText own → own.elements ≡ game.elements
     → tag_in fen_tag own.tags ≡ tag_in fen_tag game.tags
@@ -177,36 +177,37 @@ pub some_edited_export : (edits : Option (List EditedTag)) (style : Style) (game
     → (text : List ℕ) × IsEditedExport edits style game text
 some_edited_export None style game good each =
     let own = each game good refl refl in (own.0, (game, refl, own.1))
-some_edited_export (Some edits) style game good each = elim (edits_or_not edits) [
+some_edited_export (Some edits) style game good each = elim (edits_or_not (all_edits edits game)) [
   | inr none ↦
       let own = each game good refl refl in
       (own.0, (game, ((λ able. absurd (none able)), (λ _. refl)), own.1))
   | inl able ↦
-      let other = some_edited edits game good able in
+      let other = some_edited (all_edits edits game) game good able in
       let own = each other.0 other.1 other.2.elements
-      (other.2.tags fen_tag ∙ start_stays edits (tag_in fen_tag game.tags) able) in
+      (other.2.tags fen_tag ∙ start_stays (all_edits edits game) (tag_in fen_tag game.tags) able) in
       (own.0, (other.0, ((λ _. (other.1, other.2)), (λ none. absurd (none able))), own.1))
 ]
 
-one_game_edited : (edits : Option (List EditedTag)) (game one two : GameText)
+one_game_edited : (edits : Option Edits) (game one two : GameText)
     → IsEdited edits game one → IsEdited edits game two → one ≡ two
 one_game_edited None game one two first second = first ∙ sym second
-one_game_edited (Some edits) game one two first second = elim (edits_or_not edits) [
+one_game_edited (Some edits) game one two first second =
+    elim (edits_or_not (all_edits edits game)) [
   | inr none ↦ first.1 none ∙ sym (second.1 none)
   | inl able ↦
       let (good, is) = first.0 able in
       let (fine, also) = second.0 able in
-      one_edited edits game one two good fine is also
+      one_edited (all_edits edits game) game one two good fine is also
 ]
 
-pub one_edited_export : (edits : Option (List EditedTag)) (style : Style) (game : GameText)
+pub one_edited_export : (edits : Option Edits) (style : Style) (game : GameText)
     (x y : List ℕ) → IsEditedExport edits style game x → IsEditedExport edits style game y → x ≡ y
 one_edited_export edits style game x y (one, is, first) (two, also, second) =
     one_export style one x y first
     (subst (λ own. IsExport style own y) (sym (one_game_edited edits game one two is also)) second)
 
 -- the export of a game that is given is that of the game by itself
-pub own_edited_export : (edits : Option (List EditedTag)) (style : Style) (game : GameText)
+pub own_edited_export : (edits : Option Edits) (style : Style) (game : GameText)
     (text : List ℕ) → IsEditedExport edits style game text
     → IsEditedExport edits style (by_itself game) text
 own_edited_export None style game text (own, is, exports) = (

@@ -13,6 +13,7 @@ pub mod LastResult
 pub mod Located
 pub mod PartsAt
 pub mod Places
+pub mod OwnTags
 pub mod PlainWalk
 pub mod Runs
 pub mod ShownGame

@@ -87,6 +87,22 @@ impl<'a> Model for RawGame<'a> {
         }) };
 }
 
+/// The same tags in a map of its own, which need not live as long as they do.
+fn own_tags<'a: 'b, 'b>(
+    alloc: Global,
+    tags: BTreeMap<&'a [u8], &'a [u8]>,
+) -> Result<BTreeMap<&'b [u8], &'b [u8]>, AllocError>
+    requires { IsStrictlySortedBy (slice_cmp nat_cmp) (tag_names (tags_of tags)) }
+    ensures { IfOk result (λ own. tags_of own ≡ tags_of tags.entry) }
+{
+    let mut rest = tags;
+    let mut own = BTreeMap::new(alloc);
+    while let Some((name, contents)) = rest.pop_first() {
+        own.insert(name, contents)?;
+    }
+    Ok(own)
+}
+
 impl<'a> RawGame<'a> {
     /// The place of the game's first byte in the block.
     pub fn at(&self) -> usize
@@ -136,14 +152,15 @@ impl<'a> RawGame<'a> {
         self.result
     }
 
-    /// The game without its elements: what stands before its movetext, and its result.
-    pub fn head(&self, alloc: Global) -> Result<Self, AllocError>
+    /// The game without its elements: what stands before its movetext, and its result. Its tags may
+    /// be given contents that live as long as this borrow.
+    pub fn head<'b>(&'b self, alloc: Global) -> Result<RawGame<'b>, AllocError>
         ensures { IfOk result (λ head. head ≡ record self.now { elements = [] }) }
     {
         Ok(RawGame {
             at: self.at,
             text: self.text,
-            tags: self.tags.clone()?,
+            tags: own_tags(alloc, self.tags.clone()?)?,
             elements: Vec::new(alloc),
             result: self.result,
         })

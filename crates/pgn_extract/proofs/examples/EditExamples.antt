@@ -3,7 +3,7 @@ use Rattle.std.specs.Borrow.{Bor}
 use Rattle.std.specs.Prelude.{bytes_eq, codes, flat_map, ◌≢◌}
 use Rattle.pgn_extract.proofs.Common.{◌≡◌, ◌∷◌, [], ℕ, List, None, Some, true, false, refl, sym}
 use Rattle.pgn_extract.proofs.Common.{inl, inr, ap, ◌∙◌}
-use Rattle.pgn_game.specs.Public.Edits.{EditedTag}
+use Rattle.pgn_game.specs.Public.Edits.{EditedTag, Edits}
 use Rattle.pgn_text.specs.Public.Strings.{IsContents, Single, Escaped}
 use Rattle.pgn_game.specs.Public.TagLines.{escaped}
 use Rattle.pgn_extract.proofs.app.EditTexts.{not_parted}
@@ -64,6 +64,16 @@ fixed = (refl, refl)
 -- none is made unasked
 unasked : (request : Request) → has_edits request ≡ true → AreAskedEdits request None → ⊥
 unasked request has none = let no = sym has ∙ none in cc
+
+-- plies are counted where that is asked for, and not unasked
+counted : (request : Request) → has_edits (record request { fix_results = false; plycount = true })
+    ≡ true
+counted request = refl
+
+uncounted : (request : Request) (edits : Edits) → edits.counts_plies ≡ true
+    → request.plycount ≡ false → AreAskedEdits request (Some edits) → ⊥
+uncounted request edits counts unasked (drops, sets, dropped, set, is, asked) =
+    let no = sym counts ∙ asked ∙ unasked in cc
 
 -- a text without a sign sets nothing, and neither does one without a name or a value of a string
 no_sign : (edit : EditedTag) → IsSet (codes "Source") edit → ⊥

@@ -63,6 +63,7 @@ plain request = record request {
   no_variations = false;
   roster = false;
   fix_results = false;
+  plycount = false;
   width = None;
   openings = None;
   min_ply = 0;
@@ -227,7 +228,7 @@ packs_show_positions request no_sets no_drops =
 
 abbrev no_tags_written : List ℕ
 no_tags_written = codes
-    "pgn-extract: --set, --drop and --fix-results go with none of --list, --index, --rows, --moves, --uci, --pack, --as-is and --faulty\n"
+    "pgn-extract: --set, --drop, --fix-results and --plycount go with none of --list, --index, --rows, --moves, --uci, --pack, --as-is and --faulty\n"
 
 -- tags are edited where games are written in the standard's form
 edits_of_games : (request : Request) (text : Bor (List ℕ))
@@ -242,8 +243,9 @@ edits_of_games : (request : Request) (text : Bor (List ℕ))
     × RefusedWith (record (plain request) { fix_results = true; pack = true }) no_tags_written
     × RefusedWith (record (plain request) { fix_results = true; as_is = true }) no_tags_written
     × RefusedWith (record (plain request) { fix_results = true; faulty = true }) no_tags_written
+    × RefusedWith (record (plain request) { plycount = true; list = true }) no_tags_written
 edits_of_games request text =
-    (refl, refl, refl, refl, refl, refl, refl, refl, refl, refl, refl)
+    (refl, refl, refl, refl, refl, refl, refl, refl, refl, refl, refl, refl)
 
 edits_that_set : (request : Request) (text : Bor (List ℕ)) → request.sets.items ≡ text ∷ []
     → RefusedWith (record (plain request) { list = true }) no_tags_written

@@ -1,6 +1,6 @@
 -- What a run is to report, wherever in the text it begins.
 use Rattle.std.specs.Prelude.{◌≡◌, ◌<◌, ◌≤◌, ℕ, Bool, true, List, Option, Some, None}
-use Rattle.pgn_game.specs.Public.Edits.{EditedTag}
+use Rattle.pgn_game.specs.Public.Edits.{Edits}
 use Rattle.pgn_game.specs.Public.Openings.{NamedLine}
 use Rattle.pgn_game.specs.Public.Replays.{Replay}
 use Rattle.pgn_game.specs.declared.exports.style.Style.{Style}
@@ -30,7 +30,7 @@ pub record Aim : Type 0 where
   pub line : EntryLine
   pub select : Select
   pub form : Form
-  pub edits : Option (List EditedTag)
+  pub edits : Option Edits
   pub style : Style
   pub explain : Bool
   pub tags_first : Bool

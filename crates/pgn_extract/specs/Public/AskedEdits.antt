@@ -4,7 +4,7 @@ use Rattle.std.specs.Prelude.{List, [], ◌∷◌, ◌++◌, Option, Some, None,
 use Rattle.std.specs.Borrow.{Bor}
 use Rattle.std.specs.List.{AllZip, Contains, list_all}
 use Rattle.pgn_text.specs.Public.Strings.{IsContents}
-use Rattle.pgn_game.specs.Public.Edits.{EditedTag}
+use Rattle.pgn_game.specs.Public.Edits.{EditedTag, Edits}
 use Rattle.pgn_game.specs.Public.Starts.{fen_tag}
 use Rattle.pgn_game.specs.Public.TagLines.{escaped}
 use Rattle.pgn_extract.specs.Public.Columns.{IsTagName}
@@ -14,7 +14,7 @@ use Rattle.pgn_extract.specs.declared.app.edits.EditFault.TheVariants as fault
 
 -- edits are asked for
 abbrev pub has_edits : Request → Bool
-has_edits request = request.fix_results
+has_edits request = request.fix_results || request.plycount
     || (nat_lt 0 (length request.sets.items) || nat_lt 0 (length request.drops.items))
 
 -- the tag says where a game starts
@@ -52,13 +52,14 @@ results_fixed true = record { name = codes "Result"; contents = None } ∷ []
 results_fixed false = []
 
 -- these are the edits that are asked for, where some are: first the tags that are left out, then
--- those that have a value, then results
-abbrev pub AreAskedEdits : Request → Option (List EditedTag) → Type 0
+-- those that have a value, then results; and whether plies are counted
+abbrev pub AreAskedEdits : Request → Option Edits → Type 0
 AreAskedEdits request None = has_edits request ≡ false
 AreAskedEdits request (Some edits) = (drops : List EditedTag) × (sets : List EditedTag)
     × AllZip (λ text edit. IsDropped text.now edit) request.drops.items drops
     × AllZip (λ text edit. IsSet text.now edit) request.sets.items sets
-    × (edits ≡ drops ++ sets ++ results_fixed request.fix_results)
+    × (edits.tags ≡ drops ++ sets ++ results_fixed request.fix_results)
+    × (edits.counts_plies ≡ request.plycount)
 
 -- for this reason no tag with the name is left out
 abbrev pub IsDropFault : List ℕ → EditFault → Type 0

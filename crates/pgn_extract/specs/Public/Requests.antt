@@ -221,7 +221,7 @@ edit_refusals request =
     record {
       applies = asks_no_form request && has_edits request;
       line = codes
-          "pgn-extract: --set, --drop and --fix-results go with none of --list, --index, --rows, --moves, --uci, --pack, --as-is and --faulty\n";
+          "pgn-extract: --set, --drop, --fix-results and --plycount go with none of --list, --index, --rows, --moves, --uci, --pack, --as-is and --faulty\n";
     }
     ∷ record {
       applies = request.keep_commands && request.strip_commands;

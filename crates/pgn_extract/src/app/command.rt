@@ -45,6 +45,8 @@ pub struct Request<'a> {
     pub drops: Vec<&'a str>,
     /// `--fix-results` was given.
     pub fix_results: bool,
+    /// `--plycount` was given.
+    pub plycount: bool,
     /// The number after `-w`.
     pub width: Option<u16>,
     /// The path after `--openings`.
@@ -328,6 +330,10 @@ const EDITS: &[Choice] = &[
         "fix-results",
         "Write the result that ends a game as its Result tag"
     ),
+    choice!(
+        "plycount",
+        "Write how many plies a game has as its PlyCount tag"
+    ),
 ];
 
 /// What goes to standard error.
@@ -487,6 +493,7 @@ pub fn read_arguments<'a>(alloc: Global, arguments: &'a [String]) -> Result<Requ
         sets,
         drops,
         fix_results: matches.get_flag("fix-results"),
+        plycount: matches.get_flag("plycount"),
         width: matches.get_one("width"),
         openings: matches.get_str("openings"),
         criteria: matches.get_str("criteria"),

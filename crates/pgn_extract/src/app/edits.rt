@@ -77,7 +77,8 @@ pub fn edit_line(alloc: Global, fault: &EditFault<'_>) -> Result<String, AllocEr
 pub fn is_edited(request: &Request<'_>) -> bool
     ensures { result ≡ has_edits request.now }
 {
-    request.fix_results || !request.sets.is_empty() || !request.drops.is_empty()
+    let has_texts = !request.sets.is_empty() || !request.drops.is_empty();
+    request.fix_results || request.plycount || has_texts
 }
 
 /// Whether the tag says where a game starts.
@@ -148,7 +149,7 @@ pub fn read_edits<'a>(
     if !is_edited(request) {
         return Ok(None);
     }
-    let mut edits = TagEdits::new(alloc);
+    let mut edits = TagEdits::new(alloc, request.plycount);
     for name in &request.drops {
         edits = edits.with(drop_of(alloc, name.as_bytes())?)?;
     }

@@ -45,7 +45,7 @@ pub const NO_PACK: &str =
 
 /// Tags are edited in games that are written in the standard's form alone.
 pub const NO_TAGS_WRITTEN: &str =
-    "pgn-extract: --set, --drop and --fix-results go with none of --list, --index, --rows, --moves, --uci, --pack, --as-is and --faulty\n";
+    "pgn-extract: --set, --drop, --fix-results and --plycount go with none of --list, --index, --rows, --moves, --uci, --pack, --as-is and --faulty\n";
 
 /// Commands are kept whole, and left out.
 pub const BOTH_COMMANDS: &str =

@@ -1,11 +1,13 @@
 -- What the definitions of edits say: the last edit of a name counts, a tag that is left out is not
 -- there, others stay; and what they refuse: an edit of the start, a text that no string has, a game
 -- with its tags as they were.
+use Rattle.std.specs.Fmt.{digits}
 use Rattle.std.specs.Prelude.{codes}
-use Rattle.pgn_game.proofs.Common.{◌≡◌, ◌≢◌, ℕ, List, [], ◌∷◌, Option, Some, None, refl, sym}
+use Rattle.pgn_game.proofs.Common.{◌≡◌, ◌≢◌, ℕ, List, [], ◌∷◌, Option, Some, None, refl, sym, true}
+use Rattle.pgn_game.proofs.Common.{false, ◌∙◌, MoveText, VariationOpen, VariationClose}
 use Rattle.pgn_game.proofs.Common.{GameText, tag_in, fen_tag, IsContents}
-use Rattle.pgn_game.specs.Public.Edits.{AreEditable, EditedTag, IsEditable, IsEdited, IsEditedBy}
-use Rattle.pgn_game.specs.Public.Edits.{edited_tag}
+use Rattle.pgn_game.specs.Public.Edits.{AreEditable, EditedTag, Edits, IsEditable, IsEdited}
+use Rattle.pgn_game.specs.Public.Edits.{IsEditedBy, all_edits, edited_tag}
 
 abbrev source : List ℕ → EditedTag
 source text = record { name = codes "Source"; contents = Some text }
@@ -54,7 +56,33 @@ no_other_result edits game other differ is = differ is.result
 unedited : (game other : GameText) → other ≢ game → IsEdited None game other → ⊥
 unedited game other differ is = differ is
 
-edited : (edits : List EditedTag) (game : GameText) (wanted : List ℕ) → AreEditable edits
-    → edited_tag edits wanted (tag_in wanted game.tags) ≢ tag_in wanted game.tags
+edited : (edits : Edits) (game : GameText) (wanted : List ℕ) → AreEditable (all_edits edits game)
+    → edited_tag (all_edits edits game) wanted (tag_in wanted game.tags) ≢ tag_in wanted game.tags
     → IsEdited (Some edits) game game → ⊥
 edited edits game wanted may differ is = differ (sym ((is.0 may).1.tags wanted))
+
+-- of a game with two moves and one in a variation two plies are counted, whatever is set beside
+two_plies : (game : GameText)
+    → all_edits (record { tags = []; counts_plies = true }) (record game {
+      elements = MoveText (codes "e4") ∷ VariationOpen ∷ MoveText (codes "d4") ∷ VariationClose
+          ∷ MoveText (codes "e5") ∷ [];
+    }) ≡ record { name = codes "PlyCount"; contents = Some (codes "2") } ∷ []
+unfolding digits
+two_plies game = refl
+
+counted_last : (game : GameText) (own : Option (List ℕ))
+    → (edited_tag (all_edits (record {
+      tags = record { name = codes "PlyCount"; contents = Some (codes "7") } ∷ [];
+      counts_plies = true;
+    }) (record game { elements = [] })) (codes "PlyCount") own ≡ Some (codes "0"))
+    × (all_edits (record { tags = none_of (codes "PlyCount") ∷ []; counts_plies = false }) game
+    ≡ none_of (codes "PlyCount") ∷ [])
+unfolding digits
+counted_last game own = (refl, refl)
+
+-- a game without the tag is none whose plies are counted
+no_uncounted : (game other : GameText) → tag_in (codes "PlyCount") other.tags ≡ None
+    → AreEditable (all_edits (record { tags = []; counts_plies = true }) game)
+    → IsEdited (Some (record { tags = []; counts_plies = true })) game other → ⊥
+no_uncounted game other none able is =
+    let there = sym none ∙ (is.0 able).1.tags (codes "PlyCount") in cc

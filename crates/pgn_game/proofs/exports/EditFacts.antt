@@ -2,14 +2,20 @@
 use Rattle.std.specs.Prelude.{bytes_eq, if◌then◌else◌, IfSome, option_map}
 use Rattle.std.proofs.lemmas.Option.{slice_get-get_or, slice_get-map}
 use Rattle.pgn_game.proofs.Common.{◌≡◌, ◌<◌, ℕ, List, [], ◌∷◌, ◌++◌, Option, Some}
+use Rattle.pgn_game.proofs.Common.{Bool, true, false, codes, decimal, arith, nat_tests}
 use Rattle.pgn_game.proofs.Common.{None, map, length, refl, sym, ap, ◌∙◌, subst, slice_get, inl}
 use Rattle.pgn_game.proofs.Common.{inr}
 use Rattle.pgn_game.proofs.Common.{State, GameText, tag_in, fen_tag, IsStart, Style}
 use Rattle.pgn_game.proofs.Common.{Bor, IsContents, get_or, take, ◌+◌, ◌≤◌, take_more, take_all}
+use Rattle.pgn_game.proofs.EditedTags.{start_stays}
 use Rattle.pgn_game.proofs.OneMore.{get_more}
 use Rattle.pgn_game.proofs.exports.ExportFacts.{export_of}
 use Rattle.pgn_text.specs.Public.GameTexts.{IsGameText, IsRetagged}
-use Rattle.pgn_game.specs.Public.Edits.{AreEditable, EditedTag, IsEditable, IsEditedBy}
+use Rattle.pgn_game.specs.Public.Edits.{AreEditable, EditedTag, Edits, IsEditable, IsEditedBy}
+use Rattle.pgn_game.specs.Public.Edits.{all_edits, ply_count}
+use Rattle.pgn_game.specs.Public.MainLines.{main_words}
+use Rattle.pgn_text.specs.Public.Strings.{Single, is_sign}
+use Rattle.pgn_game.proofs.PlainTokens.{AreDigits, decimal_digits}
 use Rattle.pgn_game.specs.Public.Edits.{IsEditedExport}
 use Rattle.pgn_game.specs.Public.Edits.{edit_of, edited_tag}
 use Rattle.pgn_game.specs.Public.Exports.{IsMovetext}
@@ -21,19 +27,64 @@ edits_push : (edits : List TagEdit) (edit : TagEdit)
 edits_push [] edit = refl
 edits_push (first ∷ edits) edit = ap (λ es. edit_of first ∷ es) (edits_push edits edit)
 
-pub edits_more : (edits more : List TagEdit) (edit : TagEdit) → more ≡ edits ++ edit ∷ []
-    → IsEditable (edit_of edit) → AreEditable (map edit_of edits) → AreEditable (map edit_of more)
-edits_more edits more edit pushed own are place named here =
-    elim (get_more (map edit_of edits) (edit_of edit) place named
-    (subst (λ es. slice_get es place ≡ Some named) (ap (map edit_of) pushed
-    ∙ edits_push edits edit) here)) [
-      | inl old ↦ are place named old
-      | inr new ↦ subst IsEditable (sym new.1) own
-    ]
+able_more : (edits : List EditedTag) (edit : EditedTag) → IsEditable edit → AreEditable edits
+    → AreEditable (edits ++ edit ∷ [])
+able_more edits edit own are place named here = elim (get_more edits edit place named here) [
+  | inl old ↦ are place named old
+  | inr new ↦ subst IsEditable (sym new.1) own
+]
 
 pub edits_pushed : (edits more : List TagEdit) (edit : TagEdit) → more ≡ edits ++ edit ∷ []
     → map edit_of more ≡ map edit_of edits ++ edit_of edit ∷ []
 edits_pushed edits more edit pushed = ap (map edit_of) pushed ∙ edits_push edits edit
+
+pub edits_more : (edits more : List TagEdit) (edit : TagEdit) → more ≡ edits ++ edit ∷ []
+    → IsEditable (edit_of edit) → AreEditable (map edit_of edits) → AreEditable (map edit_of more)
+edits_more edits more edit pushed own are = subst AreEditable (sym (edits_pushed edits more edit
+    pushed)) (able_more (map edit_of edits) (edit_of edit) own are)
+
+-- ---- plies that are counted
+
+-- digits are contents of a string
+digits_contents : (digits : List ℕ) → AreDigits digits → IsContents digits
+digits_contents [] are = ([], refl, refl)
+digits_contents (b ∷ digits) are =
+    let (signs, spelled, each) = digits_contents digits are.1 in
+    let above = are.0.0 in
+    let below = are.0.1 in
+    let single : is_sign (Single b) ≡ true = grind (arith, nat_tests) in
+    (Single b ∷ signs, ap (λ bytes. b ∷ bytes) spelled, rw single each)
+
+pub plies_contents : (plies : ℕ) → IsContents (decimal plies)
+plies_contents plies = digits_contents (decimal plies) (decimal_digits plies)
+
+count_able : (plies : ℕ) → IsEditable (ply_count plies)
+count_able plies = record {
+  name = refl;
+  start = λ same. let differ = ap (λ name. bytes_eq name (codes "FEN")) same in cc;
+  contents = plies_contents plies;
+}
+
+pub all_able : (edits : Edits) (game : GameText) → AreEditable edits.tags
+    → AreEditable (all_edits edits game)
+all_able edits game are = by edits.counts_plies
+  where
+    count : EditedTag
+    count = ply_count (length (main_words game.elements 0))
+
+    by : (counts : Bool) → AreEditable (if counts then edits.tags ++ count ∷ [] else edits.tags)
+    by true = able_more edits.tags count (count_able (length (main_words game.elements 0))) are
+    by false = are
+
+pub counted : (edits : Edits) (game : GameText) → edits.counts_plies ≡ true → all_edits edits game
+    ≡ edits.tags ++ ply_count (length (main_words game.elements 0)) ∷ []
+counted edits game is = ap (λ (counts : Bool). if counts
+    then edits.tags ++ ply_count (length (main_words game.elements 0)) ∷ [] else edits.tags) is
+
+pub not_counted : (edits : Edits) (game : GameText) → edits.counts_plies ≡ false
+    → all_edits edits game ≡ edits.tags
+not_counted edits game is = ap (λ (counts : Bool). if counts
+    then edits.tags ++ ply_count (length (main_words game.elements 0)) ∷ [] else edits.tags) is
 
 -- the last edit of a name counts
 last_counts : (edits : List EditedTag) (edit : EditedTag) (wanted : List ℕ)
@@ -66,6 +117,13 @@ edited_more edits more edit game before after pushed is next = rw pushed record 
   result = next.result ∙ is.result;
 }
 
+-- the game starts where it did
+pub edited_start : (edits : List EditedTag) (game head : GameText) → AreEditable edits
+    → IsEditedBy edits (record game { elements = [] }) head
+    → tag_in fen_tag head.tags ≡ tag_in fen_tag game.tags
+edited_start edits game head able is =
+    is.tags fen_tag ∙ start_stays edits (tag_in fen_tag game.tags) able
+
 -- what is given of the contents of an edit is contents of a string
 pub given_contents : (edit : EditedTag) (given : Option (Bor (List ℕ))) → IsEditable edit
     → option_map (λ t. t.now) given ≡ edit.contents → IfSome given (λ t. IsContents t.now)
@@ -73,10 +131,11 @@ given_contents edit None able is = tt
 given_contents edit (Some own) able is = subst (λ c. IfSome c IsContents) (sym is) able.contents
 
 -- the tags of the head that is edited, before the movetext of the game as it stands
-pub export_with : (style : Style) (edits : List EditedTag) (game head : GameText) (start : State)
+pub export_with : (style : Style) (edits : Edits) (game head : GameText) (start : State)
     (lines movetext : List ℕ) → IsGameText game → IsGameText head
     → IsStart (tag_in fen_tag game.tags) start
-    → AreEditable edits → IsEditedBy edits (record game { elements = [] }) head
+    → AreEditable (all_edits edits game)
+    → IsEditedBy (all_edits edits game) (record game { elements = [] }) head
     → tag_in fen_tag head.tags ≡ tag_in fen_tag game.tags
     → AreTagLines style head.tags head.result lines → IsMovetext style start game movetext
     → IsEditedExport (Some edits) style game (lines ++ 10 ∷ (movetext ++ 10 ∷ []))

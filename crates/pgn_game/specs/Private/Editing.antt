@@ -1,7 +1,8 @@
 -- How edits are stored.
-use Rattle.std.specs.Prelude.{ℕ, List, Option, refl}
+use Rattle.std.specs.Prelude.{ℕ, Bool, List, Option, refl}
 use Rattle.std.specs.Coded.{Coded, coded_ℕ, coded_list, coded_option, coded×, code_by}
-use Rattle.pgn_game.specs.Public.Edits.{EditedTag}
+use Rattle.std.specs.Coded.{coded_bool}
+use Rattle.pgn_game.specs.Public.Edits.{EditedTag, Edits}
 
 -- an edit is stored as its name and its contents
 abbrev pub coded_edit : Coded EditedTag
@@ -9,3 +10,9 @@ coded_edit =
     code_by (List ℕ × Option (List ℕ))
     (coded× (coded_list coded_ℕ) (coded_option (coded_list coded_ℕ)))
     (λ e. (e.name, e.contents)) (λ p. record { name = p.0; contents = p.1 }) (λ _. refl)
+
+-- edits are stored as those of tags, and whether plies are counted
+abbrev pub coded_edits : Coded Edits
+coded_edits =
+    code_by (List EditedTag × Bool) (coded× (coded_list coded_edit) coded_bool)
+    (λ e. (e.tags, e.counts_plies)) (λ p. record { tags = p.0; counts_plies = p.1 }) (λ _. refl)

@@ -1,11 +1,12 @@
 -- Edits of the tags of a game that is written.
-use Rattle.std.specs.Prelude.{◌≡◌, ℕ, List, [], ◌∷◌, Option, Some, None, IfSome, IsTrue, bytes_eq}
-use Rattle.std.specs.Prelude.{if◌then◌else◌, option_map}
+use Rattle.std.specs.Prelude.{◌≡◌, ℕ, Bool, List, [], ◌∷◌, ◌++◌, Option, Some, None, IfSome, IsTrue}
+use Rattle.std.specs.Prelude.{if◌then◌else◌, bytes_eq, codes, decimal, length, option_map}
 use Rattle.std.specs.List.{list_all, slice_get}
 use Rattle.pgn_text.specs.Public.Bytes.{is_name_byte}
 use Rattle.pgn_text.specs.Public.GameTexts.{GameText, IsGameText, tag_in}
 use Rattle.pgn_text.specs.Public.Strings.{IsContents}
 use Rattle.pgn_game.specs.Public.Exports.{IsExport}
+use Rattle.pgn_game.specs.Public.MainLines.{main_words}
 use Rattle.pgn_game.specs.Public.Starts.{fen_tag}
 use Rattle.pgn_game.specs.declared.exports.edits.TagEdit.{TagEdit}
 use Rattle.pgn_game.specs.declared.exports.style.Style.{Style}
@@ -50,15 +51,30 @@ pub record IsEditedBy (edits : List EditedTag) (game other : GameText) : Type 0 
   pub elements : other.elements ≡ game.elements
   pub result : other.result ≡ game.result
 
+-- edits of the tags of games, and whether PlyCount is to hold how many plies a game has
+pub record Edits : Type 0 where
+  pub tags : List EditedTag
+  pub counts_plies : Bool
+
+-- PlyCount holds so many plies
+abbrev pub ply_count : ℕ → EditedTag
+ply_count plies = record { name = codes "PlyCount"; contents = Some (decimal plies) }
+
+-- all edits of the game, that of PlyCount at last: a ply is a move of the main line
+abbrev pub all_edits : Edits → GameText → List EditedTag
+all_edits edits game = if edits.counts_plies
+    then edits.tags ++ ply_count (length (main_words game.elements 0)) ∷ [] else edits.tags
+
 -- the game is the other one once it is edited; without edits it stays as it is, and where one of
 -- them may not be made
-abbrev pub IsEdited : Option (List EditedTag) → GameText → GameText → Type 0
+abbrev pub IsEdited : Option Edits → GameText → GameText → Type 0
 IsEdited None game other = other ≡ game
 IsEdited (Some edits) game other =
-    (AreEditable edits → IsGameText other × IsEditedBy edits game other)
-    × ((AreEditable edits → ⊥) → other ≡ game)
+    (AreEditable (all_edits edits game)
+    → IsGameText other × IsEditedBy (all_edits edits game) game other)
+    × ((AreEditable (all_edits edits game) → ⊥) → other ≡ game)
 
 -- the text is the export in the style of the game once it is edited
-abbrev pub IsEditedExport : Option (List EditedTag) → Style → GameText → List ℕ → Type 0
+abbrev pub IsEditedExport : Option Edits → Style → GameText → List ℕ → Type 0
 IsEditedExport edits style game text = (own : GameText) × IsEdited edits game own
     × IsExport style own text

@@ -1,18 +1,21 @@
 //! Edits of the tags of a game that is written.
 ghost use Rattle.std.specs.Prelude.{◌≡◌, ◌++◌, ◌∷◌, [], ℕ, IfErr, IfOk, IfSome, List, OnErr, OnOk};
-ghost use Rattle.std.specs.Prelude.{Some, option_map};
+ghost use Rattle.std.specs.Prelude.{Some, decimal, length, map, option_map};
+ghost use Rattle.pgn_text.specs.Public.Elements.{item_of};
 ghost use Rattle.pgn_text.specs.Public.GameTexts.{tag_in};
 ghost use Rattle.pgn_game.specs.Public.Edits.{AreEditable, IsEditable, IsEditedBy};
-ghost use Rattle.pgn_game.specs.Public.Edits.{IsEditedExport, edit_of};
+ghost use Rattle.pgn_game.specs.Public.Edits.{IsEditedExport, all_edits, edit_of};
 ghost use Rattle.pgn_game.specs.Public.Exports.{lines_with};
 ghost use Rattle.pgn_game.specs.Public.Faults.{IsFault};
+ghost use Rattle.pgn_game.specs.Public.MainLines.{main_words};
 ghost use Rattle.pgn_game.specs.Public.Replays.{IsSoundGame, fault_of};
 ghost use Rattle.pgn_game.specs.Public.Starts.{fen_tag};
 
 use crate::exports::exporter::{play_movetext, put_parts_or_leave};
 use crate::exports::style::Style;
 use crate::turns::fault::GameFault;
-use pgn_text::RawGame;
+use itoa::Buffer;
+use pgn_text::{Element, RawGame};
 use std::alloc::{AllocError, Global};
 use std::marker::Model;
 
@@ -24,23 +27,27 @@ pub struct TagEdit {
     pub contents: Option<Vec<u8>>,
 }
 
-/// Edits of the tags of a game that is written.
+/// Edits of the tags of a game that is written, and whether PlyCount is to hold how many plies it
+/// has.
 #[derive(Drop)]
 pub struct TagEdits {
     edits: Vec<TagEdit>,
+    counts_plies: bool,
 }
 
 impl Model for TagEdits {
-    ghost use Rattle.std.specs.Prelude.{List, map};
-    ghost use Rattle.std.specs.Coded.{coded_list};
-    ghost use Rattle.pgn_game.specs.Public.Edits.{AreEditable, EditedTag, edit_of};
-    ghost use Rattle.pgn_game.specs.Private.Editing.{coded_edit};
+    ghost use Rattle.std.specs.Prelude.{map};
+    ghost use Rattle.pgn_game.specs.Public.Edits.{AreEditable, Edits, edit_of};
+    ghost use Rattle.pgn_game.specs.Private.Editing.{coded_edits};
 
-    ghost Value = { List EditedTag };
+    ghost Value = { Edits };
 
-    ghost coded = { coded_list coded_edit };
+    ghost coded = { coded_edits };
 
-    ghost view = { λ own. map edit_of own.edits.items };
+    ghost view = { λ own. record {
+      tags = map edit_of own.edits.items;
+      counts_plies = own.counts_plies;
+    } };
 
     ghost invariant = { λ own. AreEditable (map edit_of own.edits.items) };
 }
@@ -58,31 +65,37 @@ impl TagEdit {
 }
 
 impl TagEdits {
-    /// No edits.
-    pub fn new(alloc: Global) -> Self
-        ensures { result ≡ [] }
+    /// No edits, but that of PlyCount where plies are counted.
+    pub fn new(alloc: Global, counts_plies: bool) -> Self
+        ensures { result ≡ record { tags = []; counts_plies = counts_plies } }
     {
         TagEdits {
             edits: Vec::new(alloc),
+            counts_plies,
         }
     }
 
-    /// The edits with one more, which is made after the others.
+    /// The edits with one more, which is made after the others, and before that of PlyCount.
     pub fn with(mut self, edit: TagEdit) -> Result<Self, AllocError>
         requires { IsEditable (edit_of edit) }
-        ensures { IfOk result (λ own. own ≡ self ++ edit_of edit ∷ []) }
+        ensures { IfOk result (λ own. own ≡ record {
+          tags = self.tags ++ edit_of edit ∷ [];
+          counts_plies = self.counts_plies;
+        }) }
     {
         self.edits.push(edit)?;
         Ok(self)
     }
 
-    /// The head of the game after the edits: it starts where it did.
-    fn head_of<'a>(&'a self, alloc: Global, game: &RawGame<'a>) -> Result<RawGame<'a>, AllocError>
+    /// The head of the game after the edits but for that of PlyCount.
+    fn head_of<'b>(
+        &'b self,
+        alloc: Global,
+        game: &'b RawGame<'_>,
+    ) -> Result<RawGame<'b>, AllocError>
         ensures edited { IfOk result (λ head.
-            IsEditedBy self.entry.now (record game.now { elements = [] }) head) }
-        ensures able { OnOk result (AreEditable self.entry.now) }
-        ensures start { IfOk result (λ head.
-            tag_in fen_tag head.tags ≡ tag_in fen_tag game.now.tags) }
+            IsEditedBy self.entry.now.tags (record game.entry.now { elements = [] }) head) }
+        ensures able { OnOk result (AreEditable self.entry.now.tags) }
     {
         let mut head = game.head(alloc)?;
         for edit in &self.edits {
@@ -90,6 +103,46 @@ impl TagEdits {
         }
         Ok(head)
     }
+
+    /// The head of the game after all edits, where these are the digits of how many plies it has: it
+    /// starts where it did.
+    fn counted_head<'b>(
+        &'b self,
+        alloc: Global,
+        game: &'b RawGame<'_>,
+        plies: &'b [u8],
+    ) -> Result<RawGame<'b>, AllocError>
+        requires { plies.now ≡ decimal (length (main_words game.now.elements 0)) }
+        ensures edited { IfOk result (λ head.
+            IsEditedBy (all_edits self.entry.now game.entry.now)
+            (record game.entry.now { elements = [] }) head) }
+        ensures able { OnOk result (AreEditable (all_edits self.entry.now game.entry.now)) }
+        ensures start { IfOk result (λ head.
+            tag_in fen_tag head.tags ≡ tag_in fen_tag game.entry.now.tags) }
+    {
+        let head = self.head_of(alloc, game)?;
+        if !self.counts_plies {
+            return Ok(head);
+        }
+        head.retagged(b"PlyCount", Some(plies))
+    }
+}
+
+/// How many moves stand in no variation.
+fn count_main_moves(elements: &[Element<'_>]) -> usize
+    ensures { result ≡ length (main_words (map item_of elements.now) 0) }
+{
+    let mut plies = 0;
+    let mut depth = 0usize;
+    for element in elements {
+        match *element {
+            Element::Move(_) if depth == 0 => plies += 1,
+            Element::Open => depth += 1,
+            Element::Close => depth = depth.saturating_sub(1),
+            _ => {}
+        }
+    }
+    plies
 }
 
 /// Appends the export of the game after the edits in the style, played while it is written. Where a
@@ -98,12 +151,12 @@ impl TagEdits {
 pub fn export_edited<'a>(
     alloc: Global,
     game: &RawGame<'a>,
-    edits: &'a TagEdits,
+    edits: &TagEdits,
     style: &Style,
     out: &mut Vec<u8>,
 ) -> Result<(), GameFault<'a>>
     ensures text { OnOk result ((text : List ℕ)
-        × IsEditedExport (Some edits.entry.now) style.now game.now text
+        × IsEditedExport (Some edits.now) style.now game.now text
         × (out.new.items ≡ out.old.items ++ text)) }
     ensures sound { OnOk result
         (IsSoundGame (lines_with style.now.variations) (tag_in fen_tag game.now.tags)
@@ -115,7 +168,9 @@ pub fn export_edited<'a>(
     ensures left { OnErr result (out.new.items ≡ out.old.items) }
 {
     let movetext = play_movetext(alloc, game, style)?;
-    let head = edits.head_of(alloc, game)?;
+    let mut buffer = Buffer::new();
+    let plies = buffer.format(count_main_moves(game.elements())).as_bytes();
+    let head = edits.counted_head(alloc, game, plies)?;
     head.invariant();
     game.invariant();
     Ok(put_parts_or_leave(&head, &movetext, style, out)?)

@@ -4,17 +4,24 @@ use Rattle.pgn_extract.proofs.Common.{◌++◌, ◌∷◌, [], refl, ap, subst, 
 use Rattle.pgn_extract.proofs.Common.{err_from_is_err_and}
 use Rattle.pgn_extract.proofs.app.EditTexts.{one_more, refused_set}
 use Rattle.pgn_extract.specs.Public.AskedEdits.{IsDropped, IsSet, IsSetFault}
-use Rattle.pgn_game.specs.Public.Edits.{edit_of}
+use Rattle.pgn_game.specs.Public.Edits.{EditedTag, Edits, edit_of}
 use Rattle.pgn_extract.proofs.app.edits.read_edits.Goals as goal
+
+-- the edits with one more
+abbrev one_edit : EditedTag → Edits → Edits
+one_edit edit own = record { tags = own.tags ++ edit ∷ []; counts_plies = own.counts_plies }
 
 pub loop-name-preserved : goal.loop-name-preserved
 loop-name-preserved c =
     let items = c.deref-name-items.result.now in
     let i = c.loop-name.name-index in
     let edit = edit_of c.in_ok-drop_of.field-0 in
-    one_more IsDropped items i _ c.loop-name.edits c.in_ok-edits.edits edit c.loop-name-test.true
-    (c.in_ok-edits.ensures ∙ ap (λ es. es ++ edit ∷ []) c.edits.view_is) c.loop-name.invariant
-    (subst (λ t. IsDropped t edit) c.as_bytes.ensures.value c.in_ok-drop_of.ensures.0)
+    let grown = c.in_ok-edits.ensures ∙ ap (one_edit edit) c.edits.view_is in (
+      one_more IsDropped items i _ c.loop-name.edits.tags c.in_ok-edits.edits.tags edit
+          c.loop-name-test.true (ap (λ (own : Edits). own.tags) grown) c.loop-name.invariant.0
+          (subst (λ t. IsDropped t edit) c.as_bytes.ensures.value c.in_ok-drop_of.ensures.0),
+      ap (λ (own : Edits). own.counts_plies) grown ∙ c.loop-name.invariant.1,
+    )
 
 pub returns-in_err-set_of-clause-refused : goal.returns-in_err-set_of-clause-refused
 returns-in_err-set_of-clause-refused c =
@@ -30,14 +37,15 @@ loop-text-preserved c =
     let items = c.deref-text-items.result.now in
     let i = c.loop-text.text-index in
     let edit = edit_of c.in_ok-set_of.field-0 in
-    let (drops, sets, dropped, set, is) = c.loop-text.invariant in (
+    let grown = c.in_ok-edits-2.ensures ∙ ap (one_edit edit) c.edits-in-loop-text.view_is in
+    let (drops, sets, dropped, set, is, counts) = c.loop-text.invariant in (
       drops,
       sets ++ edit ∷ [],
       dropped,
       one_more IsSet items i _ sets (sets ++ edit ∷ []) edit c.loop-text-test.true refl set
           (subst (λ t. IsSet t edit) c.as_bytes-in-loop-text.ensures.value
           c.in_ok-set_of.ensures.0),
-      c.in_ok-edits-2.ensures
-          ∙ ap (λ es. es ++ edit ∷ []) (c.edits-in-loop-text.view_is ∙ is)
+      ap (λ (own : Edits). own.tags) grown ∙ ap (λ es. es ++ edit ∷ []) is
           ∙ append_assoc drops sets (edit ∷ []),
+      ap (λ (own : Edits). own.counts_plies) grown ∙ counts,
     )

@@ -1,11 +1,11 @@
--- Each edit stands under its name, and none is of the start.
+-- Each edit stands under its name.
 use Rattle.std.specs.Prelude.{IsTrue, option_map}
 use Rattle.pgn_game.proofs.Common.{◌≡◌, ◌+◌, ◌++◌, ◌∷◌, [], ap, sym, subst, ◌∙◌, arith, map, take}
-use Rattle.pgn_game.proofs.Common.{tag_in, fen_tag, list_all}
+use Rattle.pgn_game.proofs.Common.{list_all}
 use Rattle.pgn_text.specs.Public.Bytes.{is_name_byte}
 use Rattle.pgn_text.specs.Public.GameTexts.{IsRetagged}
-use Rattle.pgn_game.specs.Public.Edits.{AreEditable, IsEditable, IsEditedBy, edit_of}
-use Rattle.pgn_game.proofs.EditedTags.{start_stays}
+use Rattle.pgn_game.specs.Public.Edits.{AreEditable, Edits, IsEditable, IsEditedBy}
+use Rattle.pgn_game.specs.Public.Edits.{edit_of}
 use Rattle.pgn_game.proofs.exports.EditFacts.{not_edited, edited_more, given_contents}
 use Rattle.pgn_game.proofs.exports.EditFacts.{editable_there, edits_step, edits_end}
 use Rattle.pgn_game.proofs.exports.edits.TagEdits.head_of.Goals as goal
@@ -52,16 +52,9 @@ pub returns-clause-edited : goal.returns-clause-edited
 returns-clause-edited c =
     subst (λ edits. IsEditedBy edits (record c.args.game.now { elements = [] }) c.loop-edit.head)
     (ap (map edit_of) (edits_end c.deref-edit-items.result.now c.loop-edit.edit-index (omega arith)
-    ∙ c.deref-edit-items.ensures.value) ∙ c.self.view_is) c.loop-edit.invariant
-
-pub returns-clause-start : goal.returns-clause-start
-returns-clause-start c =
-    let is =
-    subst (λ edits. IsEditedBy edits (record c.args.game.now { elements = [] }) c.loop-edit.head)
-    (ap (map edit_of) (edits_end c.deref-edit-items.result.now c.loop-edit.edit-index (omega arith)
-    ∙ c.deref-edit-items.ensures.value)) c.loop-edit.invariant in
-    is.tags fen_tag ∙ start_stays (map edit_of c.self.inside.edits.items)
-    (tag_in fen_tag c.args.game.now.tags) c.self.invariant
+    ∙ c.deref-edit-items.ensures.value) ∙ ap (λ (own : Edits). own.tags) c.self.view_is)
+    c.loop-edit.invariant
 
 pub returns-clause-able : goal.returns-clause-able
-returns-clause-able c = subst AreEditable c.self.view_is c.self.invariant
+returns-clause-able c =
+    subst (λ (own : Edits). AreEditable own.tags) c.self.view_is c.self.invariant

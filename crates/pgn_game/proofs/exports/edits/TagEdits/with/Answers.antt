@@ -1,5 +1,5 @@
 use Rattle.pgn_game.proofs.Common.{◌++◌, ◌∷◌, [], ap, ◌∙◌}
-use Rattle.pgn_game.specs.Public.Edits.{edit_of}
+use Rattle.pgn_game.specs.Public.Edits.{Edits, edit_of}
 use Rattle.pgn_game.proofs.exports.EditFacts.{edits_more, edits_pushed}
 use Rattle.pgn_game.proofs.exports.edits.TagEdits.with.Goals as goal
 
@@ -10,5 +10,10 @@ invariant_of-self c =
 
 pub returns : goal.returns
 returns c =
-    edits_pushed c.self.inside.edits.items c.push.new.self.items c.args.edit
-    c.in_ok-push.ensures.items ∙ ap (λ es. es ++ edit_of c.args.edit ∷ []) c.self.view_is
+    ap (λ tags. record { tags = tags; counts_plies = c.self.inside.counts_plies })
+    (edits_pushed c.self.inside.edits.items c.push.new.self.items c.args.edit
+    c.in_ok-push.ensures.items)
+    ∙ ap (λ (own : Edits). record {
+      tags = own.tags ++ edit_of c.args.edit ∷ [];
+      counts_plies = own.counts_plies;
+    }) c.self.view_is
