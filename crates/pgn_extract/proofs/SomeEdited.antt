@@ -193,12 +193,12 @@ one_game_edited : (edits : Option Edits) (game one two : GameText)
 one_game_edited None game one two first second = first ∙ sym second
 one_game_edited (Some edits) game one two first second =
     elim (edits_or_not (all_edits edits game)) [
-  | inr none ↦ first.1 none ∙ sym (second.1 none)
-  | inl able ↦
-      let (good, is) = first.0 able in
-      let (fine, also) = second.0 able in
-      one_edited (all_edits edits game) game one two good fine is also
-]
+      | inr none ↦ first.1 none ∙ sym (second.1 none)
+      | inl able ↦
+          let (good, is) = first.0 able in
+          let (fine, also) = second.0 able in
+          one_edited (all_edits edits game) game one two good fine is also
+    ]
 
 pub one_edited_export : (edits : Option Edits) (style : Style) (game : GameText)
     (x y : List ℕ) → IsEditedExport edits style game x → IsEditedExport edits style game y → x ≡ y
