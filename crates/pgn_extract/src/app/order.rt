@@ -155,8 +155,8 @@ fn refused_searches(request: &Request<'_>) -> Option<&'static str>
     refused_edits(request)
 }
 
-/// The line that refuses edits of tags where no tags are written, or commands that are both kept and
-/// left out; or the options of files.
+/// The line that refuses edits of tags where no tags are written, or commands that are both kept
+/// and left out; or the options of files.
 fn refused_edits(request: &Request<'_>) -> Option<&'static str>
     ensures { option_map (λ line. line.now) result ≡ first_line (edit_refusals request.now) }
 {

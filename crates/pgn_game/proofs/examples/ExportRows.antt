@@ -9,7 +9,8 @@ use Rattle.pgn_game.proofs.Common.{Single, Escaped, value_of_sign, LineEnd, Then
 use Rattle.pgn_game.proofs.Common.{in_first, cut_at_white, words_in, closed, braced, begins_command}
 use Rattle.pgn_game.proofs.Common.{has_bracket, closes, leaves_open, in_command, ties, in_front}
 use Rattle.pgn_game.proofs.Common.{tied, comment_tokens, number_tokens, IsTurnText, kept, AreTokens}
-use Rattle.pgn_game.proofs.Common.{is_written, shown_tokens, without_commands, InWords, LeftOut, Whole}
+use Rattle.pgn_game.proofs.Common.{is_written, shown_tokens, without_commands, InWords, LeftOut}
+use Rattle.pgn_game.proofs.Common.{Whole}
 use Rattle.pgn_game.proofs.Common.{unspaced, IsStartText, promotion_letter, uci_text, IsMoveText}
 use Rattle.pgn_game.proofs.Common.{AreMoveTexts, IsBeginning, played_items, after_move}
 use Rattle.pgn_game.proofs.Common.{in_its_place, is_variation, LeadTo, IsPlayedThere, Replay}

@@ -52,8 +52,10 @@ all_tokens (ThenGlyph number line) style inside before now apart turns on_board 
 all_tokens (ThenComment text line) style inside before now apart turns on_board stands played =
     let there =
     all_tokens line style inside before now (apart
-    || shows style text) turns on_board stands played in
-    (kept (shows style text) (shown_tokens style.commands text) ++ there.0, (there.0, refl, there.1))
+    || shows style text) turns on_board stands played in (
+      kept (shows style text) (shown_tokens style.commands text) ++ there.0,
+      (there.0, refl, there.1),
+    )
 all_tokens (ThenVariation inner line) style inside before now apart turns on_board stands (
   own,
   more,
@@ -95,8 +97,10 @@ main_tokens (ThenGlyph number line) style hidden before now apart positions play
 main_tokens (ThenComment text line) style hidden before now apart positions played stands line_is =
     let there =
     main_tokens line style hidden before now (apart
-    || shows style text) positions played stands line_is in
-    (kept (shows style text) (shown_tokens style.commands text) ++ there.0, (there.0, refl, there.1))
+    || shows style text) positions played stands line_is in (
+      kept (shows style text) (shown_tokens style.commands text) ++ there.0,
+      (there.0, refl, there.1),
+    )
 main_tokens (ThenVariation inner line) style hidden before now apart positions played stands
     line_is =
     let tail =

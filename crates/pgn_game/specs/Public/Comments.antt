@@ -1,7 +1,8 @@
 -- A comment as tokens: its words, the first after an opening brace and the last before a closing
--- one; and, where its commands are kept whole, the words of each command as one token.
-use Rattle.std.specs.Prelude.{◌≡◌, ℕ, Bool, true, false, not, ◌&&◌, ◌||◌, ◌==◌, if◌then◌else◌, bytes_eq, codes}
-use Rattle.std.specs.Prelude.{List, [], ◌∷◌, ◌++◌, map, filter}
+-- one; where its commands are kept whole, the words of each command as one token; and what is left
+-- of it without its commands.
+use Rattle.std.specs.Prelude.{◌≡◌, ℕ, Bool, true, false, not, ◌&&◌, ◌||◌, ◌==◌, if◌then◌else◌}
+use Rattle.std.specs.Prelude.{List, [], ◌∷◌, ◌++◌, map, filter, bytes_eq, codes}
 use Rattle.std.specs.List.{list_any}
 use Rattle.pgn_text.specs.Public.Bytes.{is_white, is_empty, begins}
 use Rattle.pgn_game.specs.Public.TextLines.{joined}

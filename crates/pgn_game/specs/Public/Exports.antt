@@ -1,6 +1,6 @@
 -- The export of a game: its tags, and its movetext in standard texts (PGN 3.1, 8).
-use Rattle.std.specs.Prelude.{◌≡◌, ℕ, Bool, true, false, ◌&&◌, ◌||◌, codes, decimal, List, [], ◌∷◌, ◌++◌}
-use Rattle.std.specs.Prelude.{Option}
+use Rattle.std.specs.Prelude.{◌≡◌, ℕ, Bool, true, false, ◌&&◌, ◌||◌, codes, decimal, List, [], ◌∷◌}
+use Rattle.std.specs.Prelude.{◌++◌, Option}
 use Rattle.chess.specs.Public.Positions.{State}
 use Rattle.chess.specs.Public.San.{IsSan}
 use Rattle.chess.specs.declared.board.man.Side.{Side}

@@ -104,8 +104,8 @@ impl TagEdits {
         Ok(head)
     }
 
-    /// The head of the game after all edits, where these are the digits of how many plies it has: it
-    /// starts where it did.
+    /// The head of the game after all edits, where these are the digits of how many plies it has.
+    /// It starts where it did.
     fn counted_head<'b>(
         &'b self,
         alloc: Global,

@@ -6,6 +6,7 @@ invariant-loop-element l =
     record {
       room : l.depth + (length l.elements - l.element-index) < 2 ^ 64;
       plies : l.plies + (length l.elements - l.element-index) < 2 ^ 64;
-      counted : l.plies + length (main_words (map item_of (drop l.element-index l.elements)) l.depth)
+      counted : l.plies
+          + length (main_words (map item_of (drop l.element-index l.elements)) l.depth)
           ≡ length (main_words (map item_of l.elements) 0);
     }
