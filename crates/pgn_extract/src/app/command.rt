@@ -99,7 +99,7 @@ pub struct Request<'a> {
 pub const DEFAULT_WIDTH: u16 = 79;
 
 /// The version of the program, and the toolchain that proved it.
-pub const VERSION: &str = "1.0.0 (proved with rattle-kit-13f logic dac8208d650f15bf)";
+pub const VERSION: &str = "2.0.0 (proved with rattle-kit-13f logic dac8208d650f15bf)";
 
 const ABOUT: &str =
     "Reads chess games in Portable Game Notation (PGN), plays their moves, and writes\n\
