@@ -114,16 +114,19 @@ line_edits line =
 -- they may be made
 line_may : (line : NamedLine) → HasContents line → AreEditable (line_edits line)
 line_may line good zero edit here = subst IsEditable (same_Some _ edit here) (record {
+  some = λ none. cc;
   name = refl;
   start = λ same. let differ = ap (λ name. bytes_eq name fen_tag) same in cc;
   contents = held line.variation good.variation;
 })
 line_may line good (suc zero) edit here = subst IsEditable (same_Some _ edit here) (record {
+  some = λ none. cc;
   name = refl;
   start = λ same. let differ = ap (λ name. bytes_eq name fen_tag) same in cc;
   contents = held line.name good.name;
 })
 line_may line good (suc (suc zero)) edit here = subst IsEditable (same_Some _ edit here) (record {
+  some = λ none. cc;
   name = refl;
   start = λ same. let differ = ap (λ name. bytes_eq name fen_tag) same in cc;
   contents = held line.code good.code;

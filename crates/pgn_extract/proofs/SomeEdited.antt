@@ -133,20 +133,28 @@ given_or_not : (contents : Option (List ℕ))
 given_or_not None = inl tt
 given_or_not (Some text) = contents_or_not text
 
+some_or_not : (name : List ℕ) → (name ≡ []) ⊎ (name ≡ [] → ⊥)
+some_or_not [] = inl refl
+some_or_not (b ∷ name) = inr (λ none. cc)
+
 editable_or_not : (edit : EditedTag) → IsEditable edit ⊎ (IsEditable edit → ⊥)
-editable_or_not edit =
-    by (list_all is_name_byte edit.name) refl (bytes_eq edit.name fen_tag) refl
-    (given_or_not edit.contents)
+editable_or_not edit = elim (some_or_not edit.name) [
+  | inl none ↦ inr (λ able. able.some none)
+  | inr some ↦
+      by some (list_all is_name_byte edit.name) refl (bytes_eq edit.name fen_tag) refl
+      (given_or_not edit.contents)
+]
   where
-    by : (named : Bool) → list_all is_name_byte edit.name ≡ named → (start : Bool)
-        → bytes_eq edit.name fen_tag ≡ start
+    by : (edit.name ≡ [] → ⊥) → (named : Bool) → list_all is_name_byte edit.name ≡ named
+        → (start : Bool) → bytes_eq edit.name fen_tag ≡ start
         → IfSome edit.contents IsContents ⊎ (IfSome edit.contents IsContents → ⊥)
         → IsEditable edit ⊎ (IsEditable edit → ⊥)
-    by false is start _ _ = inr (λ able. let no = able.name in cc)
-    by true is true start _ =
+    by some false is start _ _ = inr (λ able. let no = able.name in cc)
+    by some true is true start _ =
         inr (λ able. able.start (bytes_eq-same edit.name fen_tag start))
-    by true is false start (inr none) = inr (λ able. none able.contents)
-    by true is false start (inl given) = inl (record {
+    by some true is false start (inr none) = inr (λ able. none able.contents)
+    by some true is false start (inl given) = inl (record {
+      some = some;
       name = is;
       start = λ same. let no = subst (λ n. bytes_eq n fen_tag ≡ false) same start in cc;
       contents = given;

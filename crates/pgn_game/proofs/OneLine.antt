@@ -6,6 +6,7 @@ use Rattle.pgn_game.proofs.Common.{Move, Item, VariationClose, main_words, IsMai
 use Rattle.pgn_game.proofs.Common.{RefusesTurn, IsLineFault, Line, LineEnd, ThenMove, ThenGlyph}
 use Rattle.pgn_game.proofs.Common.{ThenComment, ThenVariation, spelled, own_words, is_pass}
 use Rattle.pgn_game.proofs.Common.{SaysTurn, after_turn, IsPlayed, LineMove, Played, Passed}
+use Rattle.pgn_game.proofs.Common.{suc, length}
 use Rattle.pgn_game.proofs.OneWord.{named_or_refused, one_refused}
 
 pub one_turn : (passes : Bool) (now : State) (word : List ℕ) (turn other : LineMove)
@@ -175,3 +176,10 @@ own_first (ThenVariation inner line) more =
 pub main_words_of : (line : Line) → main_words (spelled line) 0 ≡ own_words line
 main_words_of line = ap (λ items. main_words items 0) (sym (append-nil (spelled line)))
     ∙ own_first line [] ∙ append-nil (own_words line)
+
+-- a word that is played is a ply
+pub plies_played : (now : State) (words : List (List ℕ)) (positions : List State)
+    (played : List Move) → IsMainLine now words positions played → length words ≡ length played
+plies_played now [] positions played (_, none) = sym (ap length none)
+plies_played now (word ∷ words) positions played (m, later, more, _, is, _, rest) =
+    ap suc (plies_played (after now m) words later more rest) ∙ sym (ap length is)

@@ -2,11 +2,13 @@
 //! function that does nothing.
 
 ghost use Rattle.pgn_game.specs.Public.Comments.{NoCommandIsLeft, OtherTextsAreLeft};
+ghost use Rattle.pgn_game.specs.Public.Comments.{CommandIsASpace, LoneSignIsBroken};
 ghost use Rattle.pgn_game.specs.Public.Exports.{MovetextHasOneList};
 ghost use Rattle.pgn_game.specs.Public.Refusals.{OneLineIsReached, RefusedWordIsTheFault};
 ghost use Rattle.pgn_game.specs.Public.TextLines.{TokensHaveAText, TokensHaveOneText};
 ghost use Rattle.pgn_game.specs.Public.GameLines.{SoundGameHasALine, GameHasOneLine, LineIsTheGame};
 ghost use Rattle.pgn_game.specs.Public.Laws.{EachMoveIsNamed, MainLineIsTheLine, EachMoveHasATurn};
+ghost use Rattle.pgn_game.specs.Public.Laws.{EachMainMoveIsAPly};
 ghost use Rattle.pgn_game.specs.Public.Laws.{GameHasOneReplay, GameHasOneBeginning};
 ghost use Rattle.pgn_game.specs.Public.Laws.{GameHasOneOpening, OpeningIsOneOrNone, OpeningIsThere};
 ghost use Rattle.pgn_game.specs.Public.Laws.{GameHasOneFault, SoundGameHasNoFault, GameHasAnAnswer};
@@ -25,9 +27,10 @@ pub fn one_legal_move()
 {}
 
 /// The main line, of which the moves that stand in no variation are, is the line that the elements
-/// spell as a tree, without its variations.
+/// spell as a tree, without its variations; replayed, it has a ply for each of them.
 pub fn one_main_line()
-    ensures { MainLineIsTheLine }
+    ensures line { MainLineIsTheLine }
+    ensures plies { EachMainMoveIsAPly }
 {}
 
 /// Where all lines are replayed, there is one turn for each move text.
@@ -110,10 +113,13 @@ pub fn no_line_misread()
     ensures export { ExportIsReadAsOne }
 {}
 
-/// Without its commands a comment has no `[%`; and one that has none is left as it is.
+/// Without its commands a comment has no `[%`, and one that has none is left as it is. A command
+/// becomes a space; a `[%` that begins none loses its bracket.
 pub fn no_command_left()
     ensures none { NoCommandIsLeft }
     ensures others { OtherTextsAreLeft }
+    ensures command { CommandIsASpace }
+    ensures lone { LoneSignIsBroken }
 {}
 
 /// Each three bytes spell one code of a ply, and the code has this spelling alone.

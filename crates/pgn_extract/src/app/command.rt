@@ -117,7 +117,7 @@ const AFTER_HELP: &str =
     moves e4 c5 *, next *x*    the first moves; the next, * any bytes; also played\n  \
     plies <= 50, result 1-0    how many plies, also = <> < > >=; how the game ends\n  \
     turn black, not check      also mate, stalemate; not, either, flip in front\n  \
-    for 20, count >= 40        the others at 20 plies in a row, at 40 in all\n  \
+    for 20, count >= 40        the others at 20 positions in a row, 40 in all\n  \
     # a comment, or            nothing; between alternatives: one is enough\n\
     \n\
     Examples:\n  \

@@ -32,6 +32,10 @@ no_edit_of_the_start : (contents : Option (List ℕ))
     → IsEditable (record { name = fen_tag; contents = contents }) → ⊥
 no_edit_of_the_start contents may = may.start refl
 
+no_edit_of_an_empty_name : (contents : Option (List ℕ))
+    → IsEditable (record { name = []; contents = contents }) → ⊥
+no_edit_of_an_empty_name contents may = may.some refl
+
 no_edit_of_no_name : (contents : Option (List ℕ))
     → IsEditable (record { name = codes "Wh te"; contents = contents }) → ⊥
 no_edit_of_no_name contents may = let no = may.name in cc

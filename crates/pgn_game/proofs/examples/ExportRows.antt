@@ -230,6 +230,11 @@ commands_left_out : without_commands (codes "a[%b c]d [%e f [%g] h [%i")
     ≡ codes "a d (%e f   h (%i"
 commands_left_out = refl
 
+brackets_around : without_commands (codes "[[%a]") ∷ without_commands (codes "[%]")
+    ∷ without_commands (codes "[%[%]x") ∷ []
+    ≡ codes "[ " ∷ codes " " ∷ codes "(% x" ∷ []
+brackets_around = refl
+
 only_commands_left_out : without_commands (codes "[a] %b]c [ %d") ≡ codes "[a] %b]c [ %d"
 only_commands_left_out = refl
 

@@ -60,6 +60,7 @@ plies_contents plies = digits_contents (decimal plies) (decimal_digits plies)
 
 count_able : (plies : ℕ) → IsEditable (ply_count plies)
 count_able plies = record {
+  some = λ none. cc;
   name = refl;
   start = λ same. let differ = ap (λ name. bytes_eq name (codes "FEN")) same in cc;
   contents = plies_contents plies;

@@ -133,3 +133,17 @@ NoCommandIsLeft = (text : List ℕ) → has_command_sign (without_commands text)
 abbrev pub OtherTextsAreLeft : Type 0
 OtherTextsAreLeft =
     (text : List ℕ) → has_command_sign text ≡ false → without_commands text ≡ text
+
+-- a command after a text without any becomes a space, and what follows is as by itself
+abbrev pub CommandIsASpace : Type 0
+CommandIsASpace =
+    (front body rest : List ℕ) → has_command_sign front ≡ false → has_command_sign body ≡ false
+    → has_bracket body ≡ false
+    → without_commands (front ++ 91 ∷ 37 ∷ (body ++ 93 ∷ rest))
+    ≡ front ++ 32 ∷ without_commands rest
+
+-- a `[%` that begins no command, after a text without any, loses its bracket alone
+abbrev pub LoneSignIsBroken : Type 0
+LoneSignIsBroken =
+    (front rest : List ℕ) → has_command_sign front ≡ false → closes rest ≡ false
+    → without_commands (front ++ 91 ∷ 37 ∷ rest) ≡ front ++ 40 ∷ 37 ∷ without_commands rest

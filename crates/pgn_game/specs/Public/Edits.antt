@@ -23,9 +23,10 @@ edit_of edit = record {
   contents = option_map (λ contents. contents.items) edit.contents;
 }
 
--- an edit may be made: its name is made of the bytes of names, and is not FEN, by which the start
--- of the game is told; and a string can hold its contents
+-- an edit may be made: its name has a byte or more, all of them bytes of names, and is not FEN, by
+-- which the start of the game is told; and a string can hold its contents
 pub record IsEditable (edit : EditedTag) : Type 0 where
+  pub some : edit.name ≡ [] → ⊥
   pub name : IsTrue (list_all is_name_byte edit.name)
   pub start : edit.name ≡ fen_tag → ⊥
   pub contents : IfSome edit.contents IsContents

@@ -109,6 +109,13 @@ move_count (VariationClose ∷ items) = move_count items
 abbrev pub MainLineIsTheLine : Type 0
 MainLineIsTheLine = (line : Line) → main_words (spelled line) 0 ≡ own_words line
 
+-- whichever lines are replayed, the main line has a ply for each move text that stands in no
+-- variation
+abbrev pub EachMainMoveIsAPly : Type 0
+EachMainMoveIsAPly =
+    (lines : Lines) (fen : Option (List ℕ)) (items : List Item) (replay : Replay)
+    → IsReplay lines fen items replay → length (main_words items 0) ≡ length replay.played
+
 -- where all lines are replayed, each move text has a turn
 abbrev pub EachMoveHasATurn : Type 0
 EachMoveHasATurn =
