@@ -1,6 +1,7 @@
 //! The program over arguments and files that are handed in.
 ghost use Rattle.std.specs.Prelude.{◌≡◌, ℕ, List, false, IfOk, IfSome, OnErr, is_some};
 ghost use Rattle.pgn_extract.specs.Private.OpeningFiles.{AreLinesOfFile};
+ghost use Rattle.pgn_extract.specs.Public.AskedEdits.{AreAskedEdits};
 ghost use Rattle.pgn_extract.specs.Public.Requests.{IsInPacks};
 
 mod chosen_marks;
@@ -179,7 +180,9 @@ fn row_of(alloc: Global, order: &Order<'_>) -> Result<Option<Row>, Refusal>
 }
 
 /// The edits that are asked for, if some are.
-fn edits_of(alloc: Global, request: &Request<'_>) -> Result<Option<TagEdits>, Refusal> {
+fn edits_of(alloc: Global, request: &Request<'_>) -> Result<Option<TagEdits>, Refusal>
+    ensures { IfOk result (AreAskedEdits request.now) }
+{
     match read_edits(alloc, request) {
         Ok(edits) => Ok(edits),
         Err(fault) => Err(Refusal::Text(edit_line(alloc, &fault)?)),
@@ -361,7 +364,8 @@ fn read_given<F: Files>(
 ) -> Result<(Given, Option<Unmarked>), Refusal>
 where
     F::Input: Drop,
-    ensures { IfOk result (λ read. IsInPacks order.now.request read.0.row) }
+    ensures packs { IfOk result (λ read. IsInPacks order.now.request read.0.row) }
+    ensures edits { IfOk result (λ read. AreAskedEdits order.now.request read.0.edits) }
 {
     let row = row_of(alloc, order)?;
     let edits = edits_of(alloc, &order.request)?;
