@@ -1,6 +1,6 @@
 //! Edits of the tags of a game that is written.
 ghost use Rattle.std.specs.Prelude.{◌≡◌, ◌++◌, ◌∷◌, [], ℕ, IfErr, IfOk, IfSome, List, OnErr, OnOk};
-ghost use Rattle.std.specs.Prelude.{Some, decimal, length, map, option_map};
+ghost use Rattle.std.specs.Prelude.{Some, length, map, option_map};
 ghost use Rattle.pgn_text.specs.Public.Elements.{item_of};
 ghost use Rattle.pgn_text.specs.Public.GameTexts.{tag_in};
 ghost use Rattle.pgn_game.specs.Public.Edits.{AreEditable, IsEditable, IsEditedBy};
@@ -104,15 +104,14 @@ impl TagEdits {
         Ok(head)
     }
 
-    /// The head of the game after all edits, where these are the digits of how many plies it has.
-    /// It starts where it did.
+    /// The head of the game after all edits, with the digits of its plies in the buffer where they
+    /// are counted. It starts where it did.
     fn counted_head<'b>(
         &'b self,
         alloc: Global,
         game: &'b RawGame<'_>,
-        plies: &'b [u8],
+        buffer: &'b mut Buffer,
     ) -> Result<RawGame<'b>, AllocError>
-        requires { plies.now ≡ decimal (length (main_words game.now.elements 0)) }
         ensures edited { IfOk result (λ head.
             IsEditedBy (all_edits self.entry.now game.entry.now)
             (record game.entry.now { elements = [] }) head) }
@@ -124,7 +123,8 @@ impl TagEdits {
         if !self.counts_plies {
             return Ok(head);
         }
-        head.retagged(b"PlyCount", Some(plies))
+        let plies = buffer.format(count_main_moves(game.elements()));
+        head.retagged(b"PlyCount", Some(plies.as_bytes()))
     }
 }
 
@@ -169,8 +169,7 @@ pub fn export_edited<'a>(
 {
     let movetext = play_movetext(alloc, game, style)?;
     let mut buffer = Buffer::new();
-    let plies = buffer.format(count_main_moves(game.elements())).as_bytes();
-    let head = edits.counted_head(alloc, game, plies)?;
+    let head = edits.counted_head(alloc, game, &mut buffer)?;
     head.invariant();
     game.invariant();
     Ok(put_parts_or_leave(&head, &movetext, style, out)?)

@@ -2,7 +2,7 @@
 use Rattle.std.proofs.lemmas.Result.{IfOk-weaker}
 use Rattle.std.specs.Prelude.{option_map}
 use Rattle.pgn_game.proofs.Common.{◌≡◌, ◌∙◌, [], sym, ap, subst, Some, codes, tag_in, fen_tag}
-use Rattle.pgn_game.proofs.Common.{length, main_words, IsContents}
+use Rattle.pgn_game.proofs.Common.{length, main_words, IsContents, decimal}
 use Rattle.pgn_game.specs.Public.Edits.{AreEditable, Edits, IsEditedBy, all_edits, ply_count}
 use Rattle.pgn_text.specs.Public.GameTexts.{GameText, IsRetagged}
 use Rattle.pgn_game.proofs.exports.EditFacts.{all_able, counted, edited_more, edited_start}
@@ -27,14 +27,19 @@ returns-then-not-self-clause-start c =
     c.in_ok-head.ensures.edited
 
 pub retagged-requires-clause-contents : goal.retagged-requires-clause-contents
-retagged-requires-clause-contents c = subst IsContents (sym c.requires)
-    (plies_contents (length (main_words c.args.game.now.elements 0)))
+retagged-requires-clause-contents c =
+    let counted = c.count_main_moves.ensures
+    ∙ ap (λ items. length (main_words items 0)) c.elements.ensures.elements in
+    subst IsContents (sym (c.as_bytes.ensures.value ∙ c.format-plies.ensures.text
+    ∙ ap decimal counted)) (plies_contents (length (main_words c.args.game.now.elements 0)))
 
 edited : (c : After-retagged) (head : GameText)
-    → IsRetagged (codes "PlyCount") (Some c.args.plies.now) c.in_ok-head.head head
+    → IsRetagged (codes "PlyCount") (Some c.as_bytes.result.now) c.in_ok-head.head head
     → IsEditedBy (all_edits c.args.self.now c.args.game.now)
     (record c.args.game.now { elements = [] }) head
 edited c head is =
+    let counts = c.count_main_moves.ensures
+    ∙ ap (λ items. length (main_words items 0)) c.elements.ensures.elements in
     let edits = c.args.self.now in
     let game = c.args.game.now in
     edited_more edits.tags (all_edits edits game) (ply_count (length (main_words game.elements 0)))
@@ -43,7 +48,7 @@ edited c head is =
     ∙ c.if-not-self.false))
     c.in_ok-head.ensures.edited
     (subst (λ plies. IsRetagged (codes "PlyCount") (Some plies) c.in_ok-head.head head)
-    c.requires is)
+    (c.as_bytes.ensures.value ∙ c.format-plies.ensures.text ∙ ap decimal counts) is)
 
 pub returns-clause-edited : goal.returns-clause-edited
 returns-clause-edited c =
