@@ -4,7 +4,7 @@ use Rattle.pgn_extract.proofs.Common.{◌≡◌, ℕ, List, Option, refl, sym, s
 use Rattle.pgn_extract.proofs.Common.{IsGameText, ShowsGame}
 use Rattle.pgn_extract.proofs.Common.{Part, IsRecordOf, Style, by_itself, IsGameOf}
 use Rattle.pgn_text.proofs.ShownOnce.{one_game_text}
-use Rattle.pgn_game.specs.Public.Exports.{IsExport}
+use Rattle.pgn_game.specs.Public.Exports.{IsOrderedExport}
 
 pub one_game : (parts : List Part) (game other : GameText) → IsGameOf parts game
     → IsGameOf parts other → game ≡ other
@@ -41,9 +41,9 @@ own_game is shows = (
   },
 )
 
-pub own_export : (style : Style) (game : GameText) (text : List ℕ) → IsExport style game text
-    → IsExport style (by_itself game) text
-own_export style game text own = record {
+pub own_export : (order : List (List ℕ)) (style : Style) (game : GameText) (text : List ℕ)
+    → IsOrderedExport order style game text → IsOrderedExport order style (by_itself game) text
+own_export order style game text own = record {
   start = own.start;
   is_start = own.is_start;
   head = own.head;

@@ -18,10 +18,15 @@ use Rattle.pgn_text.specs.Public.GameTexts.{IsRetagged}
 use Rattle.pgn_text.specs.Public.Strings.{IsContents}
 use Rattle.pgn_text.specs.Shared.StringTexts.{contents_front}
 use Rattle.pgn_game.proofs.EditedTags.{start_stays}
-use Rattle.pgn_game.proofs.OneExport.{one_export}
+use Rattle.pgn_game.proofs.FirstPlies.{first_paired, sound_first}
+use Rattle.pgn_game.proofs.OneExport.{one_ordered}
+use Rattle.pgn_game.proofs.SomeExport.{some_ordered}
 use Rattle.pgn_game.specs.Public.Edits.{AreEditable, EditedTag, IsEditable, IsEdited, IsEditedBy}
-use Rattle.pgn_game.specs.Public.Edits.{Edits, IsEditedExport, all_edits, edited_tag}
-use Rattle.pgn_game.specs.Public.Exports.{IsExport}
+use Rattle.pgn_game.specs.Public.Edits.{Edits, IsEditedExport, IsTagged, all_edits, edited_tag}
+use Rattle.pgn_game.specs.Public.Edits.{order_of, up_to}
+use Rattle.pgn_game.specs.Public.Exports.{IsExport, IsOrderedExport, lines_with}
+use Rattle.pgn_game.specs.Public.Replays.{IsSoundGame}
+use Rattle.pgn_game.specs.declared.replays.replayer.Lines.{Lines}
 use Rattle.pgn_extract.proofs.GameExport.{own_export}
 
 -- ---- a tag in place of another
@@ -176,30 +181,65 @@ edits_or_not (edit ∷ edits) = elim (editable_or_not edit) [
 
 -- ---- the export of an edited game
 
--- there is one where each game with these elements, this result and this start has one
-pub some_edited_export : (edits : Option Edits) (style : Style) (game : GameText)
-    → IsGameText game
-    → ((own : GameText) → IsGameText own → own.elements ≡ game.elements
-    → tag_in fen_tag own.tags ≡ tag_in fen_tag game.tags
-    → (text : List ℕ) × IsExport style own text)
-    → (text : List ℕ) × IsEditedExport edits style game text
-some_edited_export None style game good each =
-    let own = each game good refl refl in (own.0, (game, refl, own.1))
-some_edited_export (Some edits) style game good each = elim (edits_or_not (all_edits edits game)) [
+-- a sound game has one, with the tags that are asked for first
+with_order : (order : List (List ℕ)) (style : Style) (game : GameText) → IsGameText game
+    → IsSoundGame (lines_with style.variations) (tag_in fen_tag game.tags) game.elements
+    → (text : List ℕ) × IsOrderedExport order style game text
+with_order order style game good (replay, is) =
+    some_ordered order style game replay good
+    (lines_with style.variations, (λ kept. ap lines_with kept), is)
+
+-- the game up to a ply is as sound as the whole
+up_to_good : (last : Option ℕ) (game : GameText) → IsGameText game → IsGameText (up_to last game)
+up_to_good None game good = good
+up_to_good (Some plies) game good = record {
+  ordered = good.ordered;
+  strings = good.strings;
+  names = good.names;
+  paired = first_paired plies 0 game.elements good.paired;
+  ends = good.ends;
+}
+
+up_to_sound : (last : Option ℕ) (game : GameText) (lines : Lines)
+    → IsSoundGame lines (tag_in fen_tag game.tags) game.elements
+    → IsSoundGame lines (tag_in fen_tag (up_to last game).tags) (up_to last game).elements
+up_to_sound None game lines sound = sound
+up_to_sound (Some plies) game lines sound =
+    sound_first lines (tag_in fen_tag game.tags) plies game.elements sound
+
+some_tagged : (edits : Edits) (style : Style) (game : GameText) → IsGameText game
+    → IsSoundGame (lines_with style.variations) (tag_in fen_tag game.tags) game.elements
+    → (own : GameText) × (text : List ℕ) × IsTagged edits game own
+    × IsOrderedExport edits.order style own text
+some_tagged edits style game good sound = elim (edits_or_not (all_edits edits game)) [
   | inr none ↦
-      let own = each game good refl refl in
-      (own.0, (game, ((λ able. absurd (none able)), (λ _. refl)), own.1))
+      let own = with_order edits.order style game good sound in
+      (game, own.0, ((λ able. absurd (none able)), (λ _. refl)), own.1)
   | inl able ↦
-      let other = some_edited (all_edits edits game) game good able in
-      let own = each other.0 other.1 other.2.elements
-      (other.2.tags fen_tag ∙ start_stays (all_edits edits game) (tag_in fen_tag game.tags) able) in
-      (own.0, (other.0, ((λ _. (other.1, other.2)), (λ none. absurd (none able))), own.1))
+      let lines = lines_with style.variations in
+      let (other, fine, is) = some_edited (all_edits edits game) game good able in
+      let start =
+      is.tags fen_tag ∙ start_stays (all_edits edits game) (tag_in fen_tag game.tags) able in
+      let own =
+      with_order edits.order style other fine (rw (start, is.elements) sound) in
+      (other, own.0, ((λ _. (fine, is)), (λ none. absurd (none able))), own.1)
 ]
 
-one_game_edited : (edits : Option Edits) (game one two : GameText)
-    → IsEdited edits game one → IsEdited edits game two → one ≡ two
-one_game_edited None game one two first second = first ∙ sym second
-one_game_edited (Some edits) game one two first second =
+pub some_edited_export : (edits : Option Edits) (style : Style) (game : GameText)
+    → IsGameText game
+    → IsSoundGame (lines_with style.variations) (tag_in fen_tag game.tags) game.elements
+    → (text : List ℕ) × IsEditedExport edits style game text
+some_edited_export None style game good sound =
+    let own = with_order [] style game good sound in (own.0, (game, refl, own.1))
+some_edited_export (Some edits) style game good sound =
+    let (own, text, is, exports) =
+    some_tagged edits style (up_to edits.last_ply game) (up_to_good edits.last_ply game good)
+    (up_to_sound edits.last_ply game (lines_with style.variations) sound) in
+    (text, (own, is, exports))
+
+one_tagged : (edits : Edits) (game one two : GameText) → IsTagged edits game one
+    → IsTagged edits game two → one ≡ two
+one_tagged edits game one two first second =
     elim (edits_or_not (all_edits edits game)) [
       | inr none ↦ first.1 none ∙ sym (second.1 none)
       | inl able ↦
@@ -208,42 +248,59 @@ one_game_edited (Some edits) game one two first second =
           one_edited (all_edits edits game) game one two good fine is also
     ]
 
+one_game_edited : (edits : Option Edits) (game one two : GameText)
+    → IsEdited edits game one → IsEdited edits game two → one ≡ two
+one_game_edited None game one two first second = first ∙ sym second
+one_game_edited (Some edits) game one two first second =
+    one_tagged edits (up_to edits.last_ply game) one two first second
+
 pub one_edited_export : (edits : Option Edits) (style : Style) (game : GameText)
     (x y : List ℕ) → IsEditedExport edits style game x → IsEditedExport edits style game y → x ≡ y
 one_edited_export edits style game x y (one, is, first) (two, also, second) =
-    one_export style one x y first
-    (subst (λ own. IsExport style own y) (sym (one_game_edited edits game one two is also)) second)
+    one_ordered (order_of edits) style one x y first
+    (subst (λ own. IsOrderedExport (order_of edits) style own y)
+    (sym (one_game_edited edits game one two is also)) second)
 
 -- the export of a game that is given is that of the game by itself
+own_tagged : (edits : Edits) (game own : GameText) → IsTagged edits game own
+    → IsTagged edits (by_itself game) (by_itself own)
+own_tagged edits game own is = (
+  (λ able.
+      let (good, by) = is.0 able in (
+        record {
+          ordered = good.ordered;
+          strings = good.strings;
+          names = good.names;
+          paired = good.paired;
+          ends = good.ends;
+        },
+        record {
+          place = refl;
+          text = by.text;
+          tags = by.tags;
+          elements = by.elements;
+          result = by.result;
+        },
+      )),
+  (λ none. ap by_itself (is.1 none)),
+)
+
+up_to_itself : (last : Option ℕ) (game : GameText)
+    → by_itself (up_to last game) ≡ up_to last (by_itself game)
+up_to_itself None game = refl
+up_to_itself (Some plies) game = refl
+
 pub own_edited_export : (edits : Option Edits) (style : Style) (game : GameText)
     (text : List ℕ) → IsEditedExport edits style game text
     → IsEditedExport edits style (by_itself game) text
 own_edited_export None style game text (own, is, exports) = (
   by_itself game,
   refl,
-  own_export style game text (subst (λ g. IsExport style g text) is exports),
+  own_export [] style game text (subst (λ g. IsExport style g text) is exports),
 )
 own_edited_export (Some edits) style game text (own, is, exports) = (
   by_itself own,
-  (
-    (λ able.
-        let (good, by) = is.0 able in (
-          record {
-            ordered = good.ordered;
-            strings = good.strings;
-            names = good.names;
-            paired = good.paired;
-            ends = good.ends;
-          },
-          record {
-            place = refl;
-            text = by.text;
-            tags = by.tags;
-            elements = by.elements;
-            result = by.result;
-          },
-        )),
-    (λ none. ap by_itself (is.1 none)),
-  ),
-  own_export style own text exports,
+  subst (λ g. IsTagged edits g (by_itself own)) (up_to_itself edits.last_ply game)
+      (own_tagged edits (up_to edits.last_ply game) own is),
+  own_export edits.order style own text exports,
 )

@@ -21,7 +21,6 @@ use Rattle.pgn_extract.proofs.Common.{IsUnreadableVerdict, Replay, Heading, head
 use Rattle.pgn_extract.proofs.Common.{IsMet, IsWanted, IsEntry, Mode}
 use Rattle.pgn_text.specs.Public.Pieces.{Piece, Game, Unreadable, ArePieces}
 use Rattle.pgn_text.proofs.ShownGame.{some_game_text}
-use Rattle.pgn_game.proofs.SomeExport.{some_export}
 use Rattle.pgn_extract.proofs.SomeEdited.{some_edited_export}
 use Rattle.pgn_game.proofs.SomeRecord.{a_record}
 use Rattle.pgn_game.proofs.GameLineFacts.{some_line}
@@ -175,9 +174,7 @@ module _ (aim : Aim) (decided : IsDecided aim) (id : GameId) (game : GameText)
   some_text : (form : Form) (replay : Replay) → IsReplayOf (lines_in form aim.style) game replay
       → (own : List ℕ) × IsTextOf form aim id game own
   some_text Standard replay is =
-      some_edited_export aim.edits aim.style game text (λ own good elements fen.
-      some_export aim.style own replay good
-      (lines_with aim.style.variations, (λ kept. ap lines_with kept), rw (fen, elements) is))
+      some_edited_export aim.edits aim.style game text (replay, is)
   some_text AsItStands replay is = (as_it_stands game.text, refl)
   some_text (Line notation) replay is =
       let own = some_line notation (tag_in fen_tag game.tags) game.elements (replay, is) in

@@ -6,3 +6,4 @@ pub mod SeveralPackFacts
 pub mod StoppedFiles
 pub mod OpeningLines
 pub mod EditTexts
+pub mod OrderLists

@@ -27,6 +27,8 @@ mod TagOrder
 pub mod RecordFacts
 pub mod RecordWriting
 pub mod EditedTags
+pub mod FirstPlies
+pub mod TagsInOrder
 pub mod examples
 pub mod OneExport
 pub mod PackOnce

@@ -2,7 +2,8 @@
 use Rattle.std.specs.Prelude.{Option, Some, None, flat_map}
 use Rattle.pgn_game.proofs.Common.{◌≡◌, ℕ, List, [], ◌∷◌, ◌++◌, sym, ap, ◌∙◌, subst, tag_in}
 use Rattle.pgn_game.proofs.Common.{fen_tag, missing_text, escaped, IsTagText, tag_line, AreLinesOf}
-use Rattle.pgn_game.proofs.Common.{written_names, IsLaid, AreMovetextTokens}
+use Rattle.pgn_game.proofs.Common.{written_names, IsLaid, AreMovetextTokens, GameText, Style}
+use Rattle.pgn_game.specs.Public.Exports.{IsOrderedExport}
 use Rattle.pgn_game.specs.Public.Laws.{GameHasOneExport}
 use Rattle.pgn_game.proofs.laws.LaidOnce.{one_text}
 use Rattle.pgn_game.proofs.laws.OneMovetext.{one_movetext}
@@ -31,10 +32,11 @@ one_head tags result (name ∷ names) lines others (
     lines_are ∙ ap (λ xs. xs ++ more) same
     ∙ ap (λ xs. line2 ++ xs) (one_head tags result names more more2 rest rest2) ∙ sym lines_are2
 
-pub one_export : GameHasOneExport
-one_export style game text other is is2 =
+pub one_ordered : (order : List (List ℕ)) (style : Style) (game : GameText) (text other : List ℕ)
+    → IsOrderedExport order style game text → IsOrderedExport order style game other → text ≡ other
+one_ordered order style game text other is is2 =
     let heads : is.head ≡ is2.head =
-    one_head game.tags game.result (written_names style game.tags) is.head is2.head is.tags
+    one_head game.tags game.result (written_names order style game.tags) is.head is2.head is.tags
     is2.tags in
     let starts : is2.start ≡ is.start =
     one_start (tag_in fen_tag game.tags) is2.start is.start is2.is_start is.is_start in
@@ -46,3 +48,6 @@ one_export style game text other is is2 =
     (subst (λ ts. IsLaid style.width ts is2.movetext) tokens is2.laid) in
     is.spells ∙ ap (λ head. head ++ 10 ∷ (is.movetext ++ 10 ∷ [])) heads
     ∙ ap (λ movetext. is2.head ++ 10 ∷ (movetext ++ 10 ∷ [])) movetexts ∙ sym is2.spells
+
+pub one_export : GameHasOneExport
+one_export = one_ordered []

@@ -2,7 +2,10 @@
 -- and they have a text in lines.
 use Rattle.std.proofs.Common.{◌≡◌, ℕ, List, [], ◌∷◌, ◌++◌, Option, Some, None, refl, flat_map}
 use Rattle.pgn_game.proofs.Common.{HoldStrings, tag_in, value_of_sign, missing_text, escaped}
-use Rattle.pgn_game.proofs.Common.{IsTagText, tag_line, AreLinesOf, written_names}
+use Rattle.pgn_game.proofs.Common.{IsTagText, tag_line, AreLinesOf, written_names, GameText}
+use Rattle.pgn_game.proofs.Common.{Replay, Style, fen_tag}
+use Rattle.pgn_text.specs.Public.GameTexts.{IsGameText}
+use Rattle.pgn_game.specs.Public.Exports.{IsOrderedExport, IsReplayFor}
 use Rattle.pgn_game.specs.Public.Laws.{GameHasAnExport}
 use Rattle.pgn_game.proofs.LaidFacts.{some_text}
 use Rattle.pgn_game.proofs.laws.SomeMovetext.{some_movetext}
@@ -30,9 +33,11 @@ some_lines tags strings result (name ∷ names) =
     let line = tag_line name own.0 in
     (line ++ more.0, (line, more.0, (own.0, own.1, refl), refl, more.1))
 
-pub some_export : GameHasAnExport
-some_export style game replay is sound =
-    let head = some_lines game.tags is.strings game.result (written_names style game.tags) in
+pub some_ordered : (order : List (List ℕ)) (style : Style) (game : GameText) (replay : Replay)
+    → IsGameText game → IsReplayFor style (tag_in fen_tag game.tags) game.elements replay
+    → (text : List ℕ) × IsOrderedExport order style game text
+some_ordered order style game replay is sound =
+    let head = some_lines game.tags is.strings game.result (written_names order style game.tags) in
     let tokens = some_movetext style _ game.elements replay game.result is.paired sound in
     let movetext = some_text style.width tokens.1 in (
       head.0 ++ 10 ∷ (movetext.0 ++ 10 ∷ []),
@@ -48,3 +53,6 @@ some_export style game replay is sound =
         spells = refl;
       },
     )
+
+pub some_export : GameHasAnExport
+some_export = some_ordered []

@@ -8,7 +8,8 @@ ghost use Rattle.pgn_game.specs.Public.Refusals.{OneLineIsReached, RefusedWordIs
 ghost use Rattle.pgn_game.specs.Public.TextLines.{TokensHaveAText, TokensHaveOneText};
 ghost use Rattle.pgn_game.specs.Public.GameLines.{SoundGameHasALine, GameHasOneLine, LineIsTheGame};
 ghost use Rattle.pgn_game.specs.Public.Laws.{EachMoveIsNamed, MainLineIsTheLine, EachMoveHasATurn};
-ghost use Rattle.pgn_game.specs.Public.Laws.{EachMainMoveIsAPly};
+ghost use Rattle.pgn_game.specs.Public.Laws.{EachMainMoveIsAPly, FirstPliesAreABeginning};
+ghost use Rattle.pgn_game.specs.Public.Laws.{SameNamesInOrder};
 ghost use Rattle.pgn_game.specs.Public.Laws.{GameHasOneReplay, GameHasOneBeginning};
 ghost use Rattle.pgn_game.specs.Public.Laws.{GameHasOneOpening, OpeningIsOneOrNone, OpeningIsThere};
 ghost use Rattle.pgn_game.specs.Public.Laws.{GameHasOneFault, SoundGameHasNoFault, GameHasAnAnswer};
@@ -31,6 +32,13 @@ pub fn one_legal_move()
 pub fn one_main_line()
     ensures line { MainLineIsTheLine }
     ensures plies { EachMainMoveIsAPly }
+{}
+
+/// The elements of a game up to a ply are a beginning of all its elements, with so many moves of
+/// the main line; and with some of its tags asked for first, a game has the same tags.
+pub fn edited_games()
+    ensures plies { FirstPliesAreABeginning }
+    ensures order { SameNamesInOrder }
 {}
 
 /// Where all lines are replayed, there is one turn for each move text.

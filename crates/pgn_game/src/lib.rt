@@ -34,7 +34,7 @@ pub use exports::exporter::{export, export_followed, export_played, follow_expor
 pub use exports::following::Followed;
 pub use exports::game_line::push_line;
 pub use exports::notation::Notation;
-pub use exports::style::{Commands, Style};
+pub use exports::style::{Commands, Style, lines_with};
 pub use exports::tag_lines::push_contents;
 pub use openings::{Classified, FollowedLine, Opening, OpeningLine, Openings};
 pub use replays::played_line::MainLine;

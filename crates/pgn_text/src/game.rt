@@ -152,9 +152,8 @@ impl<'a> RawGame<'a> {
         self.result
     }
 
-    /// The game without its elements: what stands before its movetext, and its result. Its tags may
-    /// be given contents that live as long as this borrow.
-    pub fn head<'b>(&'b self, alloc: Global) -> Result<RawGame<'b>, AllocError>
+    /// The game without its elements: what stands before its movetext, and its result.
+    fn head<'b>(&'b self, alloc: Global) -> Result<RawGame<'b>, AllocError>
         ensures { IfOk result (λ head. head ≡ record self.now { elements = [] }) }
     {
         Ok(RawGame {
@@ -164,6 +163,19 @@ impl<'a> RawGame<'a> {
             elements: Vec::new(alloc),
             result: self.result,
         })
+    }
+
+    /// The game with so many elements alone, its first, which end each variation that they begin.
+    /// Its tags may be given contents that live as long as this borrow.
+    pub fn beginning<'b>(&'b self, alloc: Global, count: usize) -> Result<RawGame<'b>, AllocError>
+        requires within { count ≤ length self.now.elements }
+        requires paired { IsPaired 0 (take count self.now.elements) }
+        ensures { IfOk result (λ own.
+            own ≡ record self.entry.now { elements = take count self.entry.now.elements }) }
+    {
+        let mut own = self.head(alloc)?;
+        own.elements.extend_from_slice(&self.elements[..count])?;
+        Ok(own)
     }
 
     /// The game with these contents under the name in place of its own, or with no tag of that

@@ -73,6 +73,8 @@ set_fault text name value (fault.Start word) parted (same, start) = (
 )
 set_fault text name value fault.Result parted wrong = absurd wrong
 set_fault text name value (fault.BadValue word) parted wrong = absurd wrong
+set_fault text name value (fault.NoOrder word) parted wrong = absurd wrong
+set_fault text name value (fault.Twice word) parted wrong = absurd wrong
 set_fault text name value fault.OutOfMemory parted tried = tt
 
 -- one pair more
@@ -96,6 +98,15 @@ one_more R texts i d edits more edit within is all own =
     (zip_more (λ text own. R text.now own) (take i texts) edits (get_or texts i d) edit all own))
 
 -- the refusal of a text that is there
+pub refused_drop : (request : Request) (texts : List (Bor (List ℕ))) (i : ℕ) (d : Bor (List ℕ))
+    (why : EditFault) → texts ≡ request.drops.items → i < length texts
+    → IsDropFault (get_or texts i d).now why → AreRefused request why
+refused_drop request texts i d why are within is = inl (
+  get_or texts i d,
+  subst (λ xs. Contains xs (get_or texts i d)) are (Contains-get_or texts i d within),
+  is,
+)
+
 pub refused_set : (request : Request) (texts : List (Bor (List ℕ))) (i : ℕ) (d : Bor (List ℕ))
     (why : EditFault) → texts ≡ request.sets.items → i < length texts
     → IsSetFault (get_or texts i d).now why → AreRefused request why

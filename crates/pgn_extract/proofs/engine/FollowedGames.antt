@@ -86,7 +86,7 @@ module _ (aim : Aim) (all : ExportsAll aim) (lines : List NamedLine)
         all_written aim id other replay text all.all played
             (subst (λ (f : Form). IsTextOf f aim id (by_itself other) text) (sym all.form)
             (subst (λ e. IsEditedExport e aim.style (by_itself other) text) (sym all.edits)
-            (by_itself other, refl, own_export aim.style other text exports))),
+            (by_itself other, refl, own_export [] aim.style other text exports))),
       ) adds
 
   pub faulty_counts : IsGameText game → (fault : Fault) (note : List ℕ)

@@ -1,15 +1,18 @@
 -- Which edits the definitions of the options ask for, and which they do not.
 use Rattle.std.specs.Borrow.{Bor}
+use Rattle.std.specs.List.{Contains}
 use Rattle.std.specs.Prelude.{bytes_eq, codes, flat_map, ◌≢◌}
 use Rattle.pgn_extract.proofs.Common.{◌≡◌, ◌∷◌, [], ℕ, List, None, Some, true, false, refl, sym}
-use Rattle.pgn_extract.proofs.Common.{inl, inr, ap, ◌∙◌}
+use Rattle.pgn_extract.proofs.Common.{inl, inr, ap, ◌∙◌, arith, subst}
 use Rattle.pgn_game.specs.Public.Edits.{EditedTag, Edits}
 use Rattle.pgn_text.specs.Public.Strings.{IsContents, Single, Escaped}
 use Rattle.pgn_game.specs.Public.TagLines.{escaped}
 use Rattle.pgn_extract.proofs.app.EditTexts.{not_parted}
 use Rattle.pgn_extract.specs.Public.AskedEdits.{IsDropped, IsOfStart, IsParted, IsSet}
 use Rattle.pgn_extract.specs.Public.AskedEdits.{AreAskedEdits, has_edits, results_fixed}
-use Rattle.pgn_extract.specs.Public.AskedEdits.{IsDropFault, IsSetFault}
+use Rattle.pgn_extract.specs.Public.AskedEdits.{IsDropFault, IsOrder, IsOrderFault, IsOrderIn}
+use Rattle.pgn_extract.specs.Public.AskedEdits.{IsSetFault}
+use Rattle.pgn_extract.specs.Public.Columns.{AreDistinct, IsTagName}
 use Rattle.pgn_extract.specs.declared.app.command.Request.{Request}
 use Rattle.pgn_extract.specs.declared.app.edits.EditFault.TheVariants as fault
 
@@ -73,7 +76,36 @@ counted request = refl
 uncounted : (request : Request) (edits : Edits) → edits.counts_plies ≡ true
     → request.plycount ≡ false → AreAskedEdits request (Some edits) → ⊥
 uncounted request edits counts unasked (drops, sets, dropped, set, is, asked) =
-    let no = sym counts ∙ asked ∙ unasked in cc
+    let no = sym counts ∙ asked.plies ∙ unasked in cc
+
+-- games end, and tags stand first, where that is asked for
+unended : (request : Request) (edits : Edits) → edits.last_ply ≡ Some 3
+    → request.to_ply ≡ None → AreAskedEdits request (Some edits) → ⊥
+unended request edits ends unasked (drops, sets, dropped, set, is, asked) =
+    let no = sym ends ∙ asked.last ∙ unasked in cc
+
+unordered : (request : Request) (edits : Edits) → edits.order ≢ [] → request.order ≡ None
+    → AreAskedEdits request (Some edits) → ⊥
+unordered request edits some unasked (drops, sets, dropped, set, is, asked) =
+    some (subst (λ given. IsOrderIn given edits.order) unasked asked.order)
+
+-- a list has no name that is none of a tag, and none twice
+no_empty_name : (names : List (List ℕ)) → IsOrder (codes "A,,B") names → ⊥
+no_empty_name names is = (is.named [] (subst (λ xs. Contains xs []) (sym is.parts)
+    (1, omega arith, refl))).0 refl
+
+no_name_twice : (names : List (List ℕ)) → IsOrder (codes "A,A") names → ⊥
+no_name_twice names is =
+    (subst AreDistinct is.parts is.distinct).0 (0, omega arith, refl)
+
+-- one name is a list, and no fault is found in it
+one_name : (word : Bor (List ℕ)) → word.now ≡ codes "A"
+    → (IsOrderFault (codes "A") (fault.NoOrder word) → ⊥)
+    × (IsOrderFault (codes "A") (fault.NoName word) → ⊥)
+one_name word is = (
+  (λ wrong. wrong.1 (subst IsTagName (sym is) ((λ same. cc), refl))),
+  (λ wrong. wrong),
+)
 
 -- a text without a sign sets nothing, and neither does one without a name or a value of a string
 no_sign : (edit : EditedTag) → IsSet (codes "Source") edit → ⊥

@@ -64,6 +64,8 @@ plain request = record request {
   roster = false;
   fix_results = false;
   plycount = false;
+  order = None;
+  to_ply = None;
   width = None;
   openings = None;
   min_ply = 0;
@@ -228,7 +230,7 @@ packs_show_positions request no_sets no_drops =
 
 abbrev no_tags_written : List ℕ
 no_tags_written = codes
-    "pgn-extract: --set, --drop, --fix-results and --plycount go with none of --list, --index, --rows, --moves, --uci, --pack, --as-is and --faulty\n"
+    "pgn-extract: --set, --drop, --order, --fix-results, --plycount and --to-ply go with none of --list, --index, --rows, --moves, --uci, --pack, --as-is and --faulty\n"
 
 -- tags are edited where games are written in the standard's form
 edits_of_games : (request : Request) (text : Bor (List ℕ))

@@ -25,7 +25,7 @@ use Rattle.pgn_extract.specs.declared.rows.column.GameColumn.TheVariants.{File, 
 use Rattle.pgn_extract.specs.declared.rows.column.GameColumn.TheVariants.{Result, OpeningPly}
 use Rattle.pgn_extract.proofs.Common.{cases_Bool}
 
-no_element : (name : List ℕ) → Contains [] name → ⊥
+pub no_element : (name : List ℕ) → Contains [] name → ⊥
 no_element name (k, lt, is) = omega arith
 
 has_its_name : (name : List ℕ) (column : Column) → IsColumnOf name column
@@ -80,7 +80,7 @@ names_more (own ∷ names) columns name column (first, more, parts, named, have)
     rw parts (first, more ++ column ∷ [], refl, named, names_more names more name column have is)
 
 -- a name is the first one, or among the others
-first_or_later : (first name : List ℕ) (names : List (List ℕ)) → Contains (first ∷ names) name
+pub first_or_later : (first name : List ℕ) (names : List (List ℕ)) → Contains (first ∷ names) name
     → (first ≡ name) ⊎ Contains names name
 first_or_later first name names has = elim (Contains-append_cases (first ∷ []) names name has) [
   | inl own ↦ elim (Contains-push_cases [] first name own) [
@@ -90,10 +90,10 @@ first_or_later first name names has = elim (Contains-append_cases (first ∷ [])
   | inr later ↦ inr later
 ]
 
-has_first : (name : List ℕ) (names : List (List ℕ)) → Contains (name ∷ names) name
+pub has_first : (name : List ℕ) (names : List (List ℕ)) → Contains (name ∷ names) name
 has_first name names = Contains-append_left (name ∷ []) names name (Contains-push [] name)
 
-has_later : (first name : List ℕ) (names : List (List ℕ)) → Contains names name
+pub has_later : (first name : List ℕ) (names : List (List ℕ)) → Contains names name
     → Contains (first ∷ names) name
 has_later first name names has = Contains-append_right (first ∷ []) names name has
 

@@ -221,7 +221,7 @@ edit_refusals request =
     record {
       applies = asks_no_form request && has_edits request;
       line = codes
-          "pgn-extract: --set, --drop, --fix-results and --plycount go with none of --list, --index, --rows, --moves, --uci, --pack, --as-is and --faulty\n";
+          "pgn-extract: --set, --drop, --order, --fix-results, --plycount and --to-ply go with none of --list, --index, --rows, --moves, --uci, --pack, --as-is and --faulty\n";
     }
     ∷ record {
       applies = request.keep_commands && request.strip_commands;
@@ -272,29 +272,11 @@ row_refusals request =
     }
     ∷ []
 
--- the refusals of other options that exclude each other, and those of searches and of files
-abbrev pub other_refusals : Request → List Refusal
-other_refusals request =
+-- the refusals of games that are written beside a list or an index, or in two ways, and those of
+-- searches, edits and files
+abbrev pub form_refusals : Request → List Refusal
+form_refusals request =
     record {
-      applies = request.list && request.index;
-      line = codes "pgn-extract: --list and --index exclude each other\n";
-    }
-    ∷ record {
-      applies = request.packed && not (has_mode request || is_some request.rows);
-      line = codes "pgn-extract: --packed goes with --list, --rows or --index\n";
-    }
-    ∷ record {
-      applies = request.packed
-          && (gives_mark request || request.with_names || request.no_names
-          || is_some request.openings);
-      line = codes
-          "pgn-extract: --packed goes with none of --from, --until, --at, --with-names, --no-names and --openings\n";
-    }
-    ∷ record {
-      applies = has_fields request && not request.list;
-      line = codes "pgn-extract: --fen and --next go with --list\n";
-    }
-    ∷ record {
       applies = (request.others || request.faulty || request.as_is) && has_mode request;
       line = codes
           "pgn-extract: --others, --faulty and --as-is go with neither --list nor --index\n";
@@ -320,6 +302,30 @@ other_refusals request =
           "pgn-extract: --moves and --uci go with none of --list, --index, --faulty and --as-is\n";
     }
     ∷ search_refusals request
+
+-- the refusals of other options that exclude each other, and those of games that are written
+abbrev pub other_refusals : Request → List Refusal
+other_refusals request =
+    record {
+      applies = request.list && request.index;
+      line = codes "pgn-extract: --list and --index exclude each other\n";
+    }
+    ∷ record {
+      applies = request.packed && not (has_mode request || is_some request.rows);
+      line = codes "pgn-extract: --packed goes with --list, --rows or --index\n";
+    }
+    ∷ record {
+      applies = request.packed
+          && (gives_mark request || request.with_names || request.no_names
+          || is_some request.openings);
+      line = codes
+          "pgn-extract: --packed goes with none of --from, --until, --at, --with-names, --no-names and --openings\n";
+    }
+    ∷ record {
+      applies = has_fields request && not request.list;
+      line = codes "pgn-extract: --fen and --next go with --list\n";
+    }
+    ∷ form_refusals request
 
 -- those of all options
 abbrev pub option_refusals : Request → List Refusal

@@ -47,6 +47,10 @@ pub struct Request<'a> {
     pub fix_results: bool,
     /// `--plycount` was given.
     pub plycount: bool,
+    /// The text after `--order`.
+    pub order: Option<&'a str>,
+    /// The number after `--to-ply`.
+    pub to_ply: Option<u32>,
     /// The number after `-w`.
     pub width: Option<u16>,
     /// The path after `--openings`.
@@ -312,7 +316,7 @@ const STYLES: &[Choice] = &[
     ),
 ];
 
-/// How their tags are edited.
+/// How they are edited.
 const EDITS: &[Choice] = &[
     choice!(
         "set",
@@ -333,6 +337,17 @@ const EDITS: &[Choice] = &[
     choice!(
         "plycount",
         "Write how many plies a game has as its PlyCount tag"
+    ),
+    choice!(
+        "order",
+        Takes::Text("TAG,TAG.."),
+        "Write these tags first after the roster, in this\n\
+         order, where a game has them",
+    ),
+    choice!(
+        "to-ply",
+        Takes::Ply,
+        "End each game after N plies of its main line",
     ),
 ];
 
@@ -391,7 +406,7 @@ const GROUPS: [(&str, &[Choice]); 7] = [
     ("Positions looked for", SEARCHES),
     ("Games that are written", CHOICES),
     ("Games as they are written", STYLES),
-    ("Tags as they are written", EDITS),
+    ("Edits of what is written", EDITS),
     ("Reports, on standard error", REPORTS),
     ("Input", INPUTS),
 ];
@@ -494,6 +509,8 @@ pub fn read_arguments<'a>(alloc: Global, arguments: &'a [String]) -> Result<Requ
         drops,
         fix_results: matches.get_flag("fix-results"),
         plycount: matches.get_flag("plycount"),
+        order: matches.get_str("order"),
+        to_ply: matches.get_one("to-ply"),
         width: matches.get_one("width"),
         openings: matches.get_str("openings"),
         criteria: matches.get_str("criteria"),

@@ -1,13 +1,16 @@
-//! The edits of tags that the arguments ask for.
-ghost use Rattle.std.specs.Prelude.{◌≡◌, ◌↔◌, ℕ, IfErr, IfOk, IsTrue, List, MatchResult};
+//! The edits of games that the arguments ask for.
+ghost use Rattle.std.specs.Prelude.{◌≡◌, ◌↔◌, ℕ, IfErr, IfOk, IsTrue, List, MatchResult, bytes_eq};
+ghost use Rattle.std.specs.Prelude.{map};
+ghost use Rattle.std.specs.List.{list_any};
 ghost use Rattle.pgn_game.specs.Public.Edits.{IsEditable, edit_of};
 ghost use Rattle.pgn_extract.specs.Public.AskedEdits.{AreAskedEdits, AreRefused, IsDropFault};
 ghost use Rattle.pgn_extract.specs.Public.AskedEdits.{IsDropped, IsOfStart, IsParted, IsSet};
+ghost use Rattle.pgn_extract.specs.Public.AskedEdits.{IsAskedOrder, IsOrder, IsOrderFault};
 ghost use Rattle.pgn_extract.specs.Public.AskedEdits.{IsSetFault, has_edits};
 
 use crate::app::command::Request;
 use crate::output::file_name::shown_bytes;
-use crate::rows::list::{is_tag_name, split_run};
+use crate::rows::list::{is_tag_name, next_name, split_run};
 use pgn_game::{TagEdit, TagEdits, push_contents};
 use pgn_text::is_contents;
 use std::alloc::{AllocError, Global};
@@ -25,6 +28,10 @@ pub enum EditFault<'a> {
     Result,
     /// No string has the value that the tag with this name is to have.
     BadValue(&'a [u8]),
+    /// What is to stand first is no name of a tag.
+    NoOrder(&'a [u8]),
+    /// The name is to stand first twice.
+    Twice(&'a [u8]),
     /// Memory ran out.
     OutOfMemory,
 }
@@ -68,6 +75,12 @@ pub fn edit_line(alloc: Global, fault: &EditFault<'_>) -> Result<String, AllocEr
             " says how a game ends; --fix-results writes it",
         ),
         EditFault::BadValue(name) => ("--set: the value of ", *name, " has a control character"),
+        EditFault::NoOrder(name) => (
+            "--order takes names of tags with commas between them, not \"",
+            *name,
+            "\"",
+        ),
+        EditFault::Twice(name) => ("--order names the tag ", *name, " twice"),
         EditFault::OutOfMemory => return Err(AllocError),
     };
     named_line(alloc, before, name, after)
@@ -78,7 +91,8 @@ pub fn is_edited(request: &Request<'_>) -> bool
     ensures { result ≡ has_edits request.now }
 {
     let has_texts = !request.sets.is_empty() || !request.drops.is_empty();
-    request.fix_results || request.plycount || has_texts
+    let has_parts = request.to_ply.is_some() || request.order.is_some();
+    request.fix_results || request.plycount || has_parts || has_texts
 }
 
 /// Whether the tag says where a game starts.
@@ -138,6 +152,52 @@ fn set_of<'a>(alloc: Global, text: &'a [u8]) -> Result<TagEdit, EditFault<'a>>
     }
 }
 
+/// Whether the name is one of these.
+fn is_among(names: &[Vec<u8>], name: &[u8]) -> bool
+    ensures { result ≡ list_any (λ other. bytes_eq other.items name.now) names.now }
+{
+    names.iter().any(|other| other.as_slice() == name)
+}
+
+/// The names of tags that a text lists, with commas between them.
+fn read_order<'a>(alloc: Global, text: &'a [u8]) -> Result<Vec<Vec<u8>>, EditFault<'a>>
+    ensures { MatchResult result
+        (λ order. IsOrder text.now (map (λ name. name.items) order.items))
+        (λ fault. IsOrderFault text.now fault) }
+{
+    let mut order = Vec::new(alloc);
+    let mut rest = text;
+    loop {
+        let (name, after) = next_name(rest);
+        if !is_tag_name(name) {
+            return Err(EditFault::NoOrder(name));
+        }
+        if is_among(&order, name) {
+            return Err(EditFault::Twice(name));
+        }
+        let own = Vec::from_slice(alloc, name)?;
+        if order.push(own).is_err() {
+            return Err(EditFault::OutOfMemory);
+        }
+        let Some(after) = after else {
+            return Ok(order);
+        };
+        rest = after;
+    }
+}
+
+/// The names of the tags that are to stand first, if some are.
+fn asked_order<'a>(alloc: Global, request: &Request<'a>) -> Result<Vec<Vec<u8>>, EditFault<'a>>
+    ensures asked { IfOk result
+        (λ order. IsAskedOrder request.now (map (λ name. name.items) order.items)) }
+    ensures refused { IfErr result (λ fault. AreRefused request.now fault) }
+{
+    match request.order {
+        Some(text) => read_order(alloc, text.as_bytes()),
+        None => Ok(Vec::new(alloc)),
+    }
+}
+
 /// The edits that are asked for, if some are; or why one of them is refused.
 pub fn read_edits<'a>(
     alloc: Global,
@@ -149,7 +209,8 @@ pub fn read_edits<'a>(
     if !is_edited(request) {
         return Ok(None);
     }
-    let mut edits = TagEdits::new(alloc, request.plycount);
+    let order = asked_order(alloc, request)?;
+    let mut edits = TagEdits::new(alloc, request.plycount, request.to_ply).ordered(order);
     for name in &request.drops {
         edits = edits.with(drop_of(alloc, name.as_bytes())?)?;
     }

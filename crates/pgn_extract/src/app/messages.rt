@@ -43,9 +43,9 @@ pub const NO_LINES_OF_MOVES: &str =
 pub const NO_PACK: &str =
     "pgn-extract: --pack goes with none of --list, --index, --moves, --uci, --faulty, --as-is, -C, -N, -V, --keep-commands, --strip-commands, --roster and -w\n";
 
-/// Tags are edited in games that are written in the standard's form alone.
+/// Games are edited that are written in the standard's form alone.
 pub const NO_TAGS_WRITTEN: &str =
-    "pgn-extract: --set, --drop, --fix-results and --plycount go with none of --list, --index, --rows, --moves, --uci, --pack, --as-is and --faulty\n";
+    "pgn-extract: --set, --drop, --order, --fix-results, --plycount and --to-ply go with none of --list, --index, --rows, --moves, --uci, --pack, --as-is and --faulty\n";
 
 /// Commands are kept whole, and left out.
 pub const BOTH_COMMANDS: &str =

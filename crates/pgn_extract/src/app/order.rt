@@ -6,7 +6,7 @@ ghost use Rattle.pgn_extract.specs.Private.Lines.{is_bare};
 ghost use Rattle.pgn_extract.specs.Public.Requests.{asked, asked_form, asked_mode, asked_select};
 ghost use Rattle.pgn_extract.specs.Public.Requests.{asked_commands, asked_style, asks_names};
 ghost use Rattle.pgn_extract.specs.Public.Requests.{bad_mark, begin_of, edit_refusals, end_of};
-ghost use Rattle.pgn_extract.specs.Public.Requests.{file_refusals};
+ghost use Rattle.pgn_extract.specs.Public.Requests.{file_refusals, form_refusals};
 ghost use Rattle.pgn_extract.specs.Public.Requests.{first_line, gives_criteria, gives_mark};
 ghost use Rattle.pgn_extract.specs.Public.Requests.{has_style, needs_each_game, option_refusals};
 ghost use Rattle.pgn_extract.specs.Public.Requests.{other_refusals, row_refusals, search_refusals};
@@ -108,8 +108,6 @@ fn refused_others(request: &Request<'_>) -> Option<&'static str>
 {
     let has_mode = request.list | request.index;
     let has_fields = request.fen | request.next;
-    let has_moves = request.moves | request.uci;
-    let unstyled = request.faulty | request.as_is;
     if request.list & request.index {
         return Some(messages::BOTH_MODES);
     }
@@ -123,6 +121,17 @@ fn refused_others(request: &Request<'_>) -> Option<&'static str>
     if has_fields & !request.list {
         return Some(messages::NO_ENTRIES_LISTED);
     }
+    refused_forms(request)
+}
+
+/// The line that refuses games that are written beside a list or an index, or in two ways; or the
+/// options of searches.
+fn refused_forms(request: &Request<'_>) -> Option<&'static str>
+    ensures { option_map (λ line. line.now) result ≡ first_line (form_refusals request.now) }
+{
+    let has_mode = request.list | request.index;
+    let has_moves = request.moves | request.uci;
+    let unstyled = request.faulty | request.as_is;
     if (request.others | unstyled) & has_mode {
         return Some(messages::NO_GAMES_WRITTEN);
     }

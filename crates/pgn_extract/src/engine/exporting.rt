@@ -23,22 +23,11 @@ use crate::output::texts::push_named_mark;
 use crate::settings::{Form, Mode, Select, Settings};
 use pgn_game::pack::{GameOrigin, push_record};
 use pgn_game::{
-    GameFault, Lines, Notation, Style, check_lines, check_variations, export_edited, export_played,
-    push_line,
+    GameFault, Lines, Notation, check_lines, check_variations, export_edited, export_played,
+    lines_with, push_line,
 };
 use pgn_text::RawGame;
 use std::alloc::{AllocError, Global};
-
-/// The lines of a game that are written in the style.
-fn lines_with(style: &Style) -> Lines
-    ensures { result ≡ lines_with style.now.variations }
-{
-    if style.variations {
-        Lines::All
-    } else {
-        Lines::Main
-    }
-}
 
 /// Which lines of a game must be sound: all that are written.
 pub fn written_lines(settings: &Settings) -> Lines

@@ -214,7 +214,7 @@ pub(crate) fn split_run(text: &[u8], separator: u8) -> (&[u8], &[u8])
 }
 
 /// The first name of a list, and what follows its comma, if one follows it.
-fn next_name(text: &[u8]) -> (&[u8], Option<&[u8]>)
+pub(crate) fn next_name(text: &[u8]) -> (&[u8], Option<&[u8]>)
     ensures { MatchOption result.1 (parted_at 44 text.now ≡ result.0.now ∷ [])
         (λ rest. parted_at 44 text.now ≡ result.0.now ∷ parted_at 44 rest.now) }
 {

@@ -4,10 +4,13 @@
 use Rattle.std.specs.Fmt.{digits}
 use Rattle.std.specs.Prelude.{codes}
 use Rattle.pgn_game.proofs.Common.{◌≡◌, ◌≢◌, ℕ, List, [], ◌∷◌, Option, Some, None, refl, sym, true}
-use Rattle.pgn_game.proofs.Common.{false, ◌∙◌, MoveText, VariationOpen, VariationClose}
+use Rattle.pgn_game.proofs.Common.{false, ◌∙◌, ap, Item, MoveText, VariationOpen, VariationClose}
+use Rattle.pgn_game.proofs.Common.{CommentText}
 use Rattle.pgn_game.proofs.Common.{GameText, tag_in, fen_tag, IsContents}
 use Rattle.pgn_game.specs.Public.Edits.{AreEditable, EditedTag, Edits, IsEditable, IsEdited}
-use Rattle.pgn_game.specs.Public.Edits.{IsEditedBy, all_edits, edited_tag}
+use Rattle.pgn_game.specs.Public.Edits.{IsEditedBy, IsTagged, all_edits, edited_tag, first_plies}
+use Rattle.pgn_game.specs.Public.Edits.{up_to}
+use Rattle.pgn_game.specs.Public.TagLines.{in_order}
 
 abbrev source : List ℕ → EditedTag
 source text = record { name = codes "Source"; contents = Some text }
@@ -62,31 +65,73 @@ unedited game other differ is = differ is
 
 edited : (edits : Edits) (game : GameText) (wanted : List ℕ) → AreEditable (all_edits edits game)
     → edited_tag (all_edits edits game) wanted (tag_in wanted game.tags) ≢ tag_in wanted game.tags
-    → IsEdited (Some edits) game game → ⊥
+    → IsTagged edits game game → ⊥
 edited edits game wanted may differ is = differ (sym ((is.0 may).1.tags wanted))
+
+-- ---- plies that are counted
+
+-- plies are counted, and nothing else is asked for
+abbrev counting : Edits
+counting = record { tags = []; counts_plies = true; last_ply = None; order = [] }
+
+abbrev e4_e5 : List Item
+e4_e5 = MoveText (codes "e4") ∷ VariationOpen ∷ MoveText (codes "d4") ∷ VariationClose
+    ∷ CommentText (codes "a") ∷ MoveText (codes "e5") ∷ []
 
 -- of a game with two moves and one in a variation two plies are counted, whatever is set beside
 two_plies : (game : GameText)
-    → all_edits (record { tags = []; counts_plies = true }) (record game {
-      elements = MoveText (codes "e4") ∷ VariationOpen ∷ MoveText (codes "d4") ∷ VariationClose
-          ∷ MoveText (codes "e5") ∷ [];
-    }) ≡ record { name = codes "PlyCount"; contents = Some (codes "2") } ∷ []
+    → all_edits counting (record game { elements = e4_e5 })
+    ≡ record { name = codes "PlyCount"; contents = Some (codes "2") } ∷ []
 unfolding digits
 two_plies game = refl
 
 counted_last : (game : GameText) (own : Option (List ℕ))
-    → (edited_tag (all_edits (record {
+    → (edited_tag (all_edits (record counting {
       tags = record { name = codes "PlyCount"; contents = Some (codes "7") } ∷ [];
-      counts_plies = true;
     }) (record game { elements = [] })) (codes "PlyCount") own ≡ Some (codes "0"))
-    × (all_edits (record { tags = none_of (codes "PlyCount") ∷ []; counts_plies = false }) game
-    ≡ none_of (codes "PlyCount") ∷ [])
+    × (all_edits (record counting {
+      tags = none_of (codes "PlyCount") ∷ [];
+      counts_plies = false;
+    }) game ≡ none_of (codes "PlyCount") ∷ [])
 unfolding digits
 counted_last game own = (refl, refl)
 
 -- a game without the tag is none whose plies are counted
 no_uncounted : (game other : GameText) → tag_in (codes "PlyCount") other.tags ≡ None
-    → AreEditable (all_edits (record { tags = []; counts_plies = true }) game)
-    → IsEdited (Some (record { tags = []; counts_plies = true })) game other → ⊥
+    → AreEditable (all_edits counting game) → IsEdited (Some counting) game other → ⊥
 no_uncounted game other none able is =
     let there = sym none ∙ (is.0 able).1.tags (codes "PlyCount") in cc
+
+-- ---- the last ply
+
+-- what stands behind the last ply stays in front of the next move, and what stands in variations
+-- is no ply
+up_to_a_ply : (first_plies 0 0 e4_e5 ≡ [])
+    × (first_plies 1 0 e4_e5 ≡ MoveText (codes "e4") ∷ VariationOpen ∷ MoveText (codes "d4")
+    ∷ VariationClose ∷ CommentText (codes "a") ∷ [])
+    × (first_plies 2 0 e4_e5 ≡ e4_e5) × (first_plies 9 0 e4_e5 ≡ e4_e5)
+up_to_a_ply = (refl, refl, refl, refl)
+
+-- the plies that are written are counted
+counted_to_a_ply : (game : GameText)
+    → all_edits counting (up_to (Some 1) (record game { elements = e4_e5 }))
+    ≡ record { name = codes "PlyCount"; contents = Some (codes "1") } ∷ []
+unfolding digits
+counted_to_a_ply game = refl
+
+-- a game with the moves that it had is none that ends after its first
+no_whole_game : (game other : GameText) → game.elements ≡ e4_e5 → other.elements ≡ game.elements
+    → AreEditable [] → IsEdited (Some (record counting {
+      counts_plies = false;
+      last_ply = Some 1;
+    })) game other → ⊥
+no_whole_game game other are same able is =
+    let cut = sym (same ∙ are) ∙ (is.0 able).1.elements ∙ ap (first_plies 1 0) are in cc
+
+-- ---- tags that stand first
+
+some_first : (in_order (codes "ECO" ∷ codes "Source" ∷ codes "Annotator" ∷ [])
+    (codes "Annotator" ∷ codes "ECO" ∷ codes "WhiteElo" ∷ [])
+    ≡ codes "ECO" ∷ codes "Annotator" ∷ codes "WhiteElo" ∷ [])
+    × (in_order [] (codes "Annotator" ∷ codes "ECO" ∷ []) ≡ codes "Annotator" ∷ codes "ECO" ∷ [])
+some_first = (refl, refl)

@@ -16,9 +16,9 @@ use Rattle.pgn_game.specs.Public.Edits.{all_edits, ply_count}
 use Rattle.pgn_game.specs.Public.MainLines.{main_words}
 use Rattle.pgn_text.specs.Public.Strings.{Single, is_sign}
 use Rattle.pgn_game.proofs.PlainTokens.{AreDigits, decimal_digits}
-use Rattle.pgn_game.specs.Public.Edits.{IsEditedExport}
+use Rattle.pgn_game.specs.Public.Edits.{IsTagged}
 use Rattle.pgn_game.specs.Public.Edits.{edit_of, edited_tag}
-use Rattle.pgn_game.specs.Public.Exports.{IsMovetext}
+use Rattle.pgn_game.specs.Public.Exports.{IsMovetext, IsOrderedExport}
 use Rattle.pgn_game.specs.Public.TagLines.{AreTagLines}
 use Rattle.pgn_game.specs.declared.exports.edits.TagEdit.{TagEdit}
 
@@ -138,8 +138,10 @@ pub export_with : (style : Style) (edits : Edits) (game head : GameText) (start 
     → AreEditable (all_edits edits game)
     → IsEditedBy (all_edits edits game) (record game { elements = [] }) head
     → tag_in fen_tag head.tags ≡ tag_in fen_tag game.tags
-    → AreTagLines style head.tags head.result lines → IsMovetext style start game movetext
-    → IsEditedExport (Some edits) style game (lines ++ 10 ∷ (movetext ++ 10 ∷ []))
+    → AreTagLines edits.order style head.tags head.result lines
+    → IsMovetext style start game movetext
+    → (own : GameText) × IsTagged edits game own
+    × IsOrderedExport edits.order style own (lines ++ 10 ∷ (movetext ++ 10 ∷ []))
 export_with style edits game head start lines movetext good fine is_start able is fen tags
     is_movetext = (
       record head { elements = game.elements },
@@ -162,7 +164,7 @@ export_with style edits game head start lines movetext good fine is_start able i
         ),
         λ none. absurd (none able),
       ),
-      export_of style (record head { elements = game.elements }) start lines movetext
+      export_of edits.order style (record head { elements = game.elements }) start lines movetext
           (rw fen is_start) tags (rw is.result is_movetext),
     )
 

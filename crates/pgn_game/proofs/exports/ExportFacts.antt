@@ -1,15 +1,16 @@
 -- An export by its parts: the tags of a game, and its movetext.
 use Rattle.pgn_game.proofs.Common.{◌≡◌, ℕ, List, [], ◌∷◌, ◌++◌, Option, Some, None, refl, sym, ◌∙◌}
 use Rattle.pgn_game.proofs.Common.{subst, State, GameText, tag_in, fen_tag, IsStart, Style}
-use Rattle.pgn_game.specs.Public.Exports.{IsExport, IsMovetext}
+use Rattle.pgn_game.specs.Public.Exports.{IsExport, IsMovetext, IsOrderedExport}
 use Rattle.pgn_game.specs.Public.Openings.{NamedLine, IsClassified, tag_by}
 use Rattle.pgn_game.specs.Public.TagLines.{AreTagLines}
 
-pub export_of : (style : Style) (game : GameText) (start : State) (head movetext : List ℕ)
-    → IsStart (tag_in fen_tag game.tags) start → AreTagLines style game.tags game.result head
+pub export_of : (order : List (List ℕ)) (style : Style) (game : GameText) (start : State)
+    (head movetext : List ℕ) → IsStart (tag_in fen_tag game.tags) start
+    → AreTagLines order style game.tags game.result head
     → IsMovetext style start game movetext
-    → IsExport style game (head ++ 10 ∷ (movetext ++ 10 ∷ []))
-export_of style game start head movetext is_start tags (tokens, are_tokens, laid) = record {
+    → IsOrderedExport order style game (head ++ 10 ∷ (movetext ++ 10 ∷ []))
+export_of order style game start head movetext is_start tags (tokens, are_tokens, laid) = record {
   start = start;
   is_start = is_start;
   head = head;
@@ -29,12 +30,12 @@ fen_stays (Some line) own = refl
 -- the tags of a game as it counts, before the movetext of the game as it stands
 pub export_as : (style : Style) (lines : List NamedLine) (game own : GameText) (start : State)
     (head movetext : List ℕ) → IsStart (tag_in fen_tag game.tags) start
-    → IsClassified lines game own → AreTagLines style own.tags own.result head
+    → IsClassified lines game own → AreTagLines [] style own.tags own.result head
     → IsMovetext style start game movetext
     → IsExport style own (head ++ 10 ∷ (movetext ++ 10 ∷ []))
 export_as style lines game own start head movetext is_start (line, is_line, tagged) tags
     is_movetext =
-    export_of style own start head movetext
+    export_of [] style own start head movetext
     (subst (λ fen. IsStart fen start) (sym (tagged.tags fen_tag
     ∙ fen_stays line (tag_in fen_tag game.tags))) is_start)
     tags (rw tagged.elements (rw tagged.result is_movetext))

@@ -1,5 +1,6 @@
 -- The lines of tags, one after another.
-use Rattle.std.specs.Prelude.{Bool, true, filter, if◌then◌else◌}
+use Rattle.std.specs.Prelude.{Bool, true, false, filter, if◌then◌else◌}
+use Rattle.std.proofs.Common.{Vec, Global}
 use Rattle.std.proofs.lemmas.List.{append_assoc, append-nil}
 use Rattle.std.proofs.lemmas.List.Elements.{filter-append}
 use Rattle.pgn_game.proofs.Common.{◌≡◌, ℕ, ◌+◌, ◌<◌, List, [], ◌∷◌, ◌++◌, length, take, get_or, map}
@@ -62,3 +63,33 @@ passed_more test shown tag passes =
     ap (filter test) (shown_more shown tag)
     ∙ filter-append test (shown_names shown) (tag.0.now.now ∷ [])
     ∙ ap (λ b. filter test (shown_names shown) ++ (if b then tag.0.now.now ∷ [] else [])) passes
+
+-- the names that are asked for so far, with the next one
+pub names_held : (names : List (Vec ℕ Global)) (i : ℕ) (d : Vec ℕ Global) → i < length names
+    → map (λ name. name.items) (take (i + 1) names)
+    ≡ map (λ name. name.items) (take i names) ++ (get_or names i d).items ∷ []
+names_held names i d within =
+    ap (map (λ name. name.items)) (take_more names i d within)
+    ∙ map-append (λ (name : Vec ℕ Global). name.items) (take i names) (get_or names i d ∷ [])
+
+-- the lines of those that pass a test, with the next name that passes it or does not
+pub line_more : (tags : List (List ℕ × List ℕ)) (result : List ℕ) (test : List ℕ → Bool)
+    (names more : List (List ℕ)) (lines name line : List ℕ) → more ≡ names ++ name ∷ []
+    → test name ≡ true → AreLinesOf tags result (filter test names) lines
+    → IsLineOf result name (tag_in name tags) line
+    → AreLinesOf tags result (filter test more) (lines ++ line)
+line_more tags result test names more lines name line pushed passes are is =
+    subst (λ own. AreLinesOf tags result own (lines ++ line))
+    (sym (ap (filter test) pushed ∙ filter-append test names (name ∷ [])
+    ∙ ap (λ b. filter test names ++ (if b then name ∷ [] else [])) passes))
+    (lines_push tags result (filter test names) lines name line are is)
+
+pub line_less : (tags : List (List ℕ × List ℕ)) (result : List ℕ) (test : List ℕ → Bool)
+    (names more : List (List ℕ)) (lines name : List ℕ) → more ≡ names ++ name ∷ []
+    → test name ≡ false → AreLinesOf tags result (filter test names) lines
+    → AreLinesOf tags result (filter test more) lines
+line_less tags result test names more lines name pushed fails are =
+    subst (λ own. AreLinesOf tags result own lines)
+    (sym (ap (filter test) pushed ∙ filter-append test names (name ∷ [])
+    ∙ ap (λ b. filter test names ++ (if b then name ∷ [] else [])) fails
+    ∙ append-nil (filter test names))) are

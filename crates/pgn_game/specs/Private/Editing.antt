@@ -11,8 +11,12 @@ coded_edit =
     (coded× (coded_list coded_ℕ) (coded_option (coded_list coded_ℕ)))
     (λ e. (e.name, e.contents)) (λ p. record { name = p.0; contents = p.1 }) (λ _. refl)
 
--- edits are stored as those of tags, and whether plies are counted
+-- edits are stored as those of tags, whether plies are counted, the last ply, and names in order
 abbrev pub coded_edits : Coded Edits
 coded_edits =
-    code_by (List EditedTag × Bool) (coded× (coded_list coded_edit) coded_bool)
-    (λ e. (e.tags, e.counts_plies)) (λ p. record { tags = p.0; counts_plies = p.1 }) (λ _. refl)
+    code_by ((List EditedTag × Bool) × (Option ℕ × List (List ℕ)))
+    (coded× (coded× (coded_list coded_edit) coded_bool)
+    (coded× (coded_option coded_ℕ) (coded_list (coded_list coded_ℕ))))
+    (λ e. ((e.tags, e.counts_plies), (e.last_ply, e.order)))
+    (λ p. record { tags = p.0.0; counts_plies = p.0.1; last_ply = p.1.0; order = p.1.1 })
+    (λ _. refl)

@@ -1,11 +1,14 @@
 -- Edits of the tags of a game that is written.
 use Rattle.std.specs.Prelude.{◌≡◌, ℕ, Bool, List, [], ◌∷◌, ◌++◌, Option, Some, None, IfSome, IsTrue}
 use Rattle.std.specs.Prelude.{if◌then◌else◌, bytes_eq, codes, decimal, length, option_map}
+use Rattle.std.specs.Prelude.{◌+◌, ◌-◌, ◌==◌}
 use Rattle.std.specs.List.{list_all, slice_get}
 use Rattle.pgn_text.specs.Public.Bytes.{is_name_byte}
 use Rattle.pgn_text.specs.Public.GameTexts.{GameText, IsGameText, tag_in}
 use Rattle.pgn_text.specs.Public.Strings.{IsContents}
-use Rattle.pgn_game.specs.Public.Exports.{IsExport}
+use Rattle.pgn_text.specs.Public.Games.{Item, MoveText, GlyphNumber, CommentText, VariationOpen}
+use Rattle.pgn_text.specs.Public.Games.{VariationClose}
+use Rattle.pgn_game.specs.Public.Exports.{IsOrderedExport}
 use Rattle.pgn_game.specs.Public.MainLines.{main_words}
 use Rattle.pgn_game.specs.Public.Starts.{fen_tag}
 use Rattle.pgn_game.specs.declared.exports.edits.TagEdit.{TagEdit}
@@ -52,10 +55,35 @@ pub record IsEditedBy (edits : List EditedTag) (game other : GameText) : Type 0 
   pub elements : other.elements ≡ game.elements
   pub result : other.result ≡ game.result
 
--- edits of the tags of games, and whether PlyCount is to hold how many plies a game has
+-- edits of games: those of their tags, whether PlyCount is to hold how many plies a game has, the
+-- last ply that is written, and the names of the tags that stand first after the roster
 pub record Edits : Type 0 where
   pub tags : List EditedTag
   pub counts_plies : Bool
+  pub last_ply : Option ℕ
+  pub order : List (List ℕ)
+
+-- the elements in front of the move of the main line that has so many before it, where so many
+-- variations are open before them
+abbrev pub first_plies : ℕ → ℕ → List Item → List Item
+first_plies plies depth [] = []
+first_plies plies depth (MoveText word ∷ items) =
+    if depth == 0 then
+    (if plies == 0 then [] else MoveText word ∷ first_plies (plies - 1) depth items)
+    else MoveText word ∷ first_plies plies depth items
+first_plies plies depth (GlyphNumber number ∷ items) =
+    GlyphNumber number ∷ first_plies plies depth items
+first_plies plies depth (CommentText text ∷ items) =
+    CommentText text ∷ first_plies plies depth items
+first_plies plies depth (VariationOpen ∷ items) =
+    VariationOpen ∷ first_plies plies (depth + 1) items
+first_plies plies depth (VariationClose ∷ items) =
+    VariationClose ∷ first_plies plies (depth - 1) items
+
+-- the game up to this ply of its main line, or the whole
+abbrev pub up_to : Option ℕ → GameText → GameText
+up_to None game = game
+up_to (Some plies) game = record game { elements = first_plies plies 0 game.elements }
 
 -- PlyCount holds so many plies
 abbrev pub ply_count : ℕ → EditedTag
@@ -66,16 +94,25 @@ abbrev pub all_edits : Edits → GameText → List EditedTag
 all_edits edits game = if edits.counts_plies
     then edits.tags ++ ply_count (length (main_words game.elements 0)) ∷ [] else edits.tags
 
--- the game is the other one once it is edited; without edits it stays as it is, and where one of
--- them may not be made
-abbrev pub IsEdited : Option Edits → GameText → GameText → Type 0
-IsEdited None game other = other ≡ game
-IsEdited (Some edits) game other =
+-- the game is the other one once its tags are edited; it stays as it is where an edit may not be
+-- made
+abbrev pub IsTagged : Edits → GameText → GameText → Type 0
+IsTagged edits game other =
     (AreEditable (all_edits edits game)
     → IsGameText other × IsEditedBy (all_edits edits game) game other)
     × ((AreEditable (all_edits edits game) → ⊥) → other ≡ game)
 
+-- the game is the other one once it is edited: it ends after the last ply that is written
+abbrev pub IsEdited : Option Edits → GameText → GameText → Type 0
+IsEdited None game other = other ≡ game
+IsEdited (Some edits) game other = IsTagged edits (up_to edits.last_ply game) other
+
+-- the names of the tags that stand first after the roster
+abbrev pub order_of : Option Edits → List (List ℕ)
+order_of None = []
+order_of (Some edits) = edits.order
+
 -- the text is the export in the style of the game once it is edited
 abbrev pub IsEditedExport : Option Edits → Style → GameText → List ℕ → Type 0
 IsEditedExport edits style game text = (own : GameText) × IsEdited edits game own
-    × IsExport style own text
+    × IsOrderedExport (order_of edits) style own text

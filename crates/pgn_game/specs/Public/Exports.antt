@@ -86,18 +86,23 @@ abbrev pub IsReplayFor : Style → Option (List ℕ) → List Item → Replay �
 IsReplayFor style fen items replay = (lines : Lines) × (style.variations ≡ true → lines ≡ All)
     × IsReplay lines fen items replay
 
--- the text is the export of the game in the style: its tag lines, an empty line, the lines of its
--- movetext, and an empty line
-pub record IsExport (style : Style) (game : GameText) (text : List ℕ) : Type 0 where
+-- the text is the export of the game in the style, where some tags are asked for first: its tag
+-- lines, an empty line, the lines of its movetext, and an empty line
+pub record IsOrderedExport (order : List (List ℕ)) (style : Style) (game : GameText)
+    (text : List ℕ) : Type 0 where
   pub start : State
   pub is_start : IsStart (tag_in fen_tag game.tags) start
   pub head : List ℕ
-  pub tags : AreTagLines style game.tags game.result head
+  pub tags : AreTagLines order style game.tags game.result head
   pub tokens : List (List ℕ)
   pub are_tokens : AreMovetextTokens style start game.elements game.result tokens
   pub movetext : List ℕ
   pub laid : IsLaid style.width tokens movetext
   pub spells : text ≡ head ++ 10 ∷ (movetext ++ 10 ∷ [])
+
+-- the text is the export of the game in the style
+abbrev pub IsExport : Style → GameText → List ℕ → Type 0
+IsExport = IsOrderedExport []
 
 -- in a style the movetext has one list of tokens at most
 abbrev pub MovetextHasOneList : Type 0

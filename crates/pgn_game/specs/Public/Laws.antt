@@ -1,6 +1,6 @@
 -- What holds of every game, whatever replays it.
 use Rattle.std.specs.Prelude.{◌≡◌, ◌⊎◌, ℕ, ◌+◌, ◌/◌, ◌%◌, ◌^◌, ◌==◌, ◌<◌, ◌≤◌, List, [], ◌∷◌, ◌++◌}
-use Rattle.std.specs.Prelude.{◌↔◌, length, Option, Some, IfSome, IsSome, IsTrue, is_some}
+use Rattle.std.specs.Prelude.{◌↔◌, length, Option, Some, IfSome, IsSome, IsTrue, is_some, take}
 use Rattle.std.specs.List.{slice_get, AllByRecursion}
 use Rattle.chess.specs.Public.Positions.{State}
 use Rattle.chess.specs.Public.Moves.{after, IsPseudoLegal}
@@ -16,6 +16,8 @@ use Rattle.pgn_text.specs.Public.Parts.{Part}
 use Rattle.pgn_text.specs.Public.Strings.{IsContents}
 use Rattle.pgn_game.specs.Public.AllLines.{Line, spelled, own_words}
 use Rattle.pgn_game.specs.Public.MainLines.{main_words}
+use Rattle.pgn_game.specs.Public.Edits.{first_plies}
+use Rattle.pgn_game.specs.Public.TagLines.{in_order, is_among}
 use Rattle.pgn_game.specs.Public.Faults.{Fault, IsFault}
 use Rattle.pgn_game.specs.Public.Beginnings.{IsGameBeginning}
 use Rattle.pgn_game.specs.Public.Openings.{EndsAt, IsOpeningOf, IsOpeningIn}
@@ -55,6 +57,25 @@ GameHasOneBeginning =
     (fen : Option (List ℕ)) (items : List Item) (most : ℕ) (beginning other : Replay)
     → IsGameBeginning fen items most beginning → IsGameBeginning fen items most other
     → beginning ≡ other
+
+-- nothing is left, or a move and what stands behind it
+abbrev pub BeginsWithMove : List Item → Type 0
+BeginsWithMove rest = (rest ≡ [])
+    ⊎ ((word : List ℕ) × (more : List Item) × (rest ≡ MoveText word ∷ more))
+
+-- the elements up to a ply are a beginning of all: they have so many moves of the main line, end
+-- each variation that they begin where all do, and nothing but a move stands behind them
+abbrev pub FirstPliesAreABeginning : Type 0
+FirstPliesAreABeginning =
+    (plies : ℕ) (items : List Item) → (rest : List Item)
+    × (items ≡ first_plies plies 0 items ++ rest) × BeginsWithMove rest
+    × (main_words (first_plies plies 0 items) 0 ≡ take plies (main_words items 0))
+    × (IsPaired 0 items → IsPaired 0 (first_plies plies 0 items))
+
+-- the same names stand there, in whatever order
+abbrev pub SameNamesInOrder : Type 0
+SameNamesInOrder = (order names : List (List ℕ)) (name : List ℕ)
+    → is_among (in_order order names) name ≡ is_among names name
 
 -- a game has one opening at most
 abbrev pub GameHasOneOpening : Type 0

@@ -53,20 +53,32 @@ AreLinesOf tags result (name ∷ names) lines =
     (line : List ℕ) × (more : List ℕ) × IsLineOf result name (tag_in name tags) line
     × (lines ≡ line ++ more) × AreLinesOf tags result names more
 
+-- the name is one of these
+abbrev pub is_among : List (List ℕ) → List ℕ → Bool
+is_among names name = list_any (λ other. bytes_eq other name) names
+
 -- the tag is none of the roster and is written beside it: with the roster alone only the tags of
 -- the start are, where the game has a FEN tag (PGN 9.7)
 abbrev pub is_beside : Style → Bool → List ℕ → Bool
 is_beside style has_fen name =
-    not (list_any (λ other. bytes_eq other name) roster)
+    not (is_among roster name)
     && (not style.roster_only
     || (has_fen && (bytes_eq name (codes "SetUp") || bytes_eq name fen_tag)))
 
--- the names of the tags that are written, in their order: a game's tags ascend in the bytes of
--- their names
-abbrev pub written_names : Style → List (List ℕ × List ℕ) → List (List ℕ)
-written_names style tags = roster
-    ++ filter (is_beside style (is_some (tag_in fen_tag tags))) (tag_names tags)
+-- the names with those first that are asked for first, in the order in which they are asked for
+abbrev pub in_order : List (List ℕ) → List (List ℕ) → List (List ℕ)
+in_order [] names = names
+in_order (first ∷ more) names = filter (is_among names) (first ∷ more)
+    ++ filter (λ name. not (is_among (first ∷ more) name)) names
 
--- the tag lines in the style of a game with these tags and this result
-abbrev pub AreTagLines : Style → List (List ℕ × List ℕ) → List ℕ → List ℕ → Type 0
-AreTagLines style tags result lines = AreLinesOf tags result (written_names style tags) lines
+-- the names of the tags that are written: the roster, and then the others, of which some are asked
+-- for first; a game's tags ascend in the bytes of their names
+abbrev pub written_names : List (List ℕ) → Style → List (List ℕ × List ℕ) → List (List ℕ)
+written_names order style tags = roster
+    ++ in_order order (filter (is_beside style (is_some (tag_in fen_tag tags))) (tag_names tags))
+
+-- the tag lines in the style of a game with these tags and this result, where some tags are asked
+-- for first
+abbrev pub AreTagLines : List (List ℕ) → Style → List (List ℕ × List ℕ) → List ℕ → List ℕ → Type 0
+AreTagLines order style tags result lines =
+    AreLinesOf tags result (written_names order style tags) lines

@@ -1,18 +1,20 @@
 //! Edits of the tags of a game that is written.
 ghost use Rattle.std.specs.Prelude.{◌≡◌, ◌++◌, ◌∷◌, [], ℕ, IfErr, IfOk, IfSome, List, OnErr, OnOk};
-ghost use Rattle.std.specs.Prelude.{Some, length, map, option_map};
+ghost use Rattle.std.specs.Prelude.{Some, length, map, option_map, take, ◌≤◌};
 ghost use Rattle.pgn_text.specs.Public.Elements.{item_of};
-ghost use Rattle.pgn_text.specs.Public.GameTexts.{tag_in};
+ghost use Rattle.pgn_text.specs.Public.GameTexts.{GameText, tag_in};
 ghost use Rattle.pgn_game.specs.Public.Edits.{AreEditable, IsEditable, IsEditedBy};
-ghost use Rattle.pgn_game.specs.Public.Edits.{IsEditedExport, all_edits, edit_of};
-ghost use Rattle.pgn_game.specs.Public.Exports.{lines_with};
+ghost use Rattle.pgn_game.specs.Public.Edits.{IsEditedExport, IsTagged, all_edits, edit_of};
+ghost use Rattle.pgn_game.specs.Public.Edits.{first_plies};
+ghost use Rattle.pgn_game.specs.Public.Exports.{IsOrderedExport, lines_with};
 ghost use Rattle.pgn_game.specs.Public.Faults.{IsFault};
 ghost use Rattle.pgn_game.specs.Public.MainLines.{main_words};
 ghost use Rattle.pgn_game.specs.Public.Replays.{IsSoundGame, fault_of};
 ghost use Rattle.pgn_game.specs.Public.Starts.{fen_tag};
 
 use crate::exports::exporter::{play_movetext, put_parts_or_leave};
-use crate::exports::style::Style;
+use crate::exports::style::{Style, lines_with};
+use crate::replays::replayer::check_lines;
 use crate::turns::fault::GameFault;
 use itoa::Buffer;
 use pgn_text::{Element, RawGame};
@@ -27,12 +29,15 @@ pub struct TagEdit {
     pub contents: Option<Vec<u8>>,
 }
 
-/// Edits of the tags of a game that is written, and whether PlyCount is to hold how many plies it
-/// has.
+/// Edits of a game that is written: those of its tags, whether PlyCount is to hold how many plies
+/// it has, the last ply that is written, and the names of the tags that stand first after the
+/// roster.
 #[derive(Drop)]
 pub struct TagEdits {
     edits: Vec<TagEdit>,
     counts_plies: bool,
+    last_ply: Option<u32>,
+    order: Vec<Vec<u8>>,
 }
 
 impl Model for TagEdits {
@@ -47,6 +52,8 @@ impl Model for TagEdits {
     ghost view = { λ own. record {
       tags = map edit_of own.edits.items;
       counts_plies = own.counts_plies;
+      last_ply = own.last_ply;
+      order = map (λ name. name.items) own.order.items;
     } };
 
     ghost invariant = { λ own. AreEditable (map edit_of own.edits.items) };
@@ -65,23 +72,36 @@ impl TagEdit {
 }
 
 impl TagEdits {
-    /// No edits, but that of PlyCount where plies are counted.
-    pub fn new(alloc: Global, counts_plies: bool) -> Self
-        ensures { result ≡ record { tags = []; counts_plies = counts_plies } }
+    /// No edits, but that of PlyCount where plies are counted, and that no ply after the last one is
+    /// written, if one is given.
+    pub fn new(alloc: Global, counts_plies: bool, last_ply: Option<u32>) -> Self
+        ensures { result ≡ record {
+          tags = [];
+          counts_plies = counts_plies;
+          last_ply = last_ply;
+          order = [];
+        } }
     {
         TagEdits {
             edits: Vec::new(alloc),
             counts_plies,
+            last_ply,
+            order: Vec::new(alloc),
         }
+    }
+
+    /// The edits with these names of the tags that stand first after the roster, in their order.
+    pub fn ordered(mut self, order: Vec<Vec<u8>>) -> Self
+        ensures { result ≡ record self { order = map (λ name. name.items) order.items } }
+    {
+        self.order = order;
+        self
     }
 
     /// The edits with one more, which is made after the others, and before that of PlyCount.
     pub fn with(mut self, edit: TagEdit) -> Result<Self, AllocError>
         requires { IsEditable (edit_of edit) }
-        ensures { IfOk result (λ own. own ≡ record {
-          tags = self.tags ++ edit_of edit ∷ [];
-          counts_plies = self.counts_plies;
-        }) }
+        ensures { IfOk result (λ own. own ≡ record self { tags = self.tags ++ edit_of edit ∷ [] }) }
     {
         self.edits.push(edit)?;
         Ok(self)
@@ -97,7 +117,7 @@ impl TagEdits {
             IsEditedBy self.entry.now.tags (record game.entry.now { elements = [] }) head) }
         ensures able { OnOk result (AreEditable self.entry.now.tags) }
     {
-        let mut head = game.head(alloc)?;
+        let mut head = game.beginning(alloc, 0)?;
         for edit in &self.edits {
             head = head.retagged(&edit.name, edit.contents())?;
         }
@@ -145,9 +165,64 @@ fn count_main_moves(elements: &[Element<'_>]) -> usize
     plies
 }
 
+/// How many elements stand in front of the move of the main line that has so many before it; all,
+/// where there is none.
+fn end_of_plies(elements: &[Element<'_>], plies: u32) -> usize
+    ensures { result ≡ length (first_plies plies 0 (map item_of elements.now)) }
+{
+    let mut left = plies;
+    let mut depth = 0usize;
+    let mut end = 0;
+    for element in elements {
+        match *element {
+            Element::Move(_) if depth == 0 => {
+                if left == 0 {
+                    return end;
+                }
+                left -= 1;
+            }
+            Element::Open => depth += 1,
+            Element::Close => depth = depth.saturating_sub(1),
+            _ => {}
+        }
+        end += 1;
+    }
+    end
+}
+
+/// Appends the export of the game after the edits of its tags in the style, played while it is
+/// written. Where a line that is written is faulty, the first fault is answered; then, and where
+/// memory is refused, nothing is appended.
+fn export_tagged<'a>(
+    alloc: Global,
+    game: &RawGame<'a>,
+    edits: &TagEdits,
+    style: &Style,
+    out: &mut Vec<u8>,
+) -> Result<(), GameFault<'a>>
+    ensures text { OnOk result ((own : GameText) × (text : List ℕ)
+        × IsTagged edits.now game.now own × IsOrderedExport edits.now.order style.now own text
+        × (out.new.items ≡ out.old.items ++ text)) }
+    ensures sound { OnOk result
+        (IsSoundGame (lines_with style.now.variations) (tag_in fen_tag game.now.tags)
+        game.now.elements) }
+    ensures fault { IfErr result (λ fault.
+        IfSome (fault_of fault)
+        (IsFault (lines_with style.now.variations) (tag_in fen_tag game.now.tags)
+        game.now.elements)) }
+    ensures left { OnErr result (out.new.items ≡ out.old.items) }
+{
+    let movetext = play_movetext(alloc, game, style)?;
+    let mut buffer = Buffer::new();
+    let head = edits.counted_head(alloc, game, &mut buffer)?;
+    head.invariant();
+    game.invariant();
+    Ok(put_parts_or_leave(&head, &edits.order, &movetext, style, out)?)
+}
+
 /// Appends the export of the game after the edits in the style, played while it is written. Where a
-/// line that is written is faulty, the first fault is answered; then, and where memory is refused,
-/// nothing is appended.
+/// line that would be written without edits is faulty, the first fault is answered; then, and where
+/// memory is refused, nothing is appended.
 pub fn export_edited<'a>(
     alloc: Global,
     game: &RawGame<'a>,
@@ -167,10 +242,15 @@ pub fn export_edited<'a>(
         game.now.elements)) }
     ensures left { OnErr result (out.new.items ≡ out.old.items) }
 {
-    let movetext = play_movetext(alloc, game, style)?;
-    let mut buffer = Buffer::new();
-    let head = edits.counted_head(alloc, game, &mut buffer)?;
-    head.invariant();
+    let Some(last_ply) = edits.last_ply else {
+        return export_tagged(alloc, game, edits, style, out);
+    };
+    check_lines(alloc, game, lines_with(style))?;
     game.invariant();
-    Ok(put_parts_or_leave(&head, &movetext, style, out)?)
+    let end = end_of_plies(game.elements(), last_ply);
+    let short = game.beginning(alloc, end)?;
+    match export_tagged(alloc, &short, edits, style, out) {
+        Ok(()) => Ok(()),
+        Err(fault) => Err(fault.refused().into()),
+    }
 }

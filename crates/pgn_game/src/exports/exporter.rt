@@ -1,6 +1,6 @@
 //! A game written in the export format.
 ghost use Rattle.std.specs.Prelude.{◌≡◌, ◌++◌, ◌∷◌, ℕ, List, [], IfErr, IfOk, IfSome, None, OnErr};
-ghost use Rattle.std.specs.Prelude.{OnOk};
+ghost use Rattle.std.specs.Prelude.{OnOk, map};
 ghost use Rattle.chess.specs.Public.Positions.{State};
 ghost use Rattle.pgn_text.specs.Public.GameTexts.{GameText, IsGameText, tag_in};
 ghost use Rattle.pgn_game.specs.Public.Exports.{IsReplayFor, IsExport, IsMovetext, lines_with};
@@ -47,7 +47,7 @@ fn put_export<'a>(
         (HasLineFault (lines_with style.now.variations) start.now game.now.elements)) }
     ensures kept { (some : List ℕ) × (out.new.items ≡ out.old.items ++ some) }
 {
-    put_tags(game, style, out)?;
+    put_tags(game, &[], style, out)?;
     put_end(out)?;
     put_movetext(alloc, game, start, style, out)?;
     Ok(put_end(out)?)
@@ -123,40 +123,44 @@ pub(crate) fn play_movetext<'a>(
     Ok(movetext)
 }
 
-/// Appends the tags of the game, an empty line, this movetext and an empty line; where memory is
-/// refused, some bytes of these.
+/// Appends the tags of the game, with those first that are asked for first, an empty line, this
+/// movetext and an empty line; where memory is refused, some bytes of these.
 fn put_parts(
     game: &RawGame,
+    order: &[Vec<u8>],
     movetext: &[u8],
     style: &Style,
     out: &mut Vec<u8>,
 ) -> Result<(), AllocError>
     ensures text { OnOk result ((head : List ℕ)
-        × AreTagLines style.now game.now.tags game.now.result head
+        × AreTagLines (map (λ name. name.items) order.now) style.now game.now.tags game.now.result
+        head
         × (out.new.items ≡ out.old.items ++ (head ++ 10 ∷ (movetext.now ++ 10 ∷ [])))) }
     ensures kept { (some : List ℕ) × (out.new.items ≡ out.old.items ++ some) }
 {
-    put_tags(game, style, out)?;
+    put_tags(game, order, style, out)?;
     put_end(out)?;
     out.extend_from_slice(movetext)?;
     put_end(out)
 }
 
-/// Appends the tags of the game, an empty line, this movetext and an empty line; where memory is
-/// refused, nothing is appended.
+/// Appends the tags of the game, with those first that are asked for first, an empty line, this
+/// movetext and an empty line; where memory is refused, nothing is appended.
 pub(crate) fn put_parts_or_leave(
     game: &RawGame,
+    order: &[Vec<u8>],
     movetext: &[u8],
     style: &Style,
     out: &mut Vec<u8>,
 ) -> Result<(), AllocError>
     ensures text { OnOk result ((head : List ℕ)
-        × AreTagLines style.now game.now.tags game.now.result head
+        × AreTagLines (map (λ name. name.items) order.now) style.now game.now.tags game.now.result
+        head
         × (out.new.items ≡ out.old.items ++ (head ++ 10 ∷ (movetext.now ++ 10 ∷ [])))) }
     ensures left { OnErr result (out.new.items ≡ out.old.items) }
 {
     let before = out.len();
-    let put = put_parts(game, movetext, style, out);
+    let put = put_parts(game, order, movetext, style, out);
     if put.is_err() {
         out.truncate(before);
     }
@@ -206,7 +210,7 @@ pub fn export_followed<'a>(
 {
     let own = openings.named_by(game, followed.place)?;
     own.invariant();
-    put_parts_or_leave(&own, &followed.movetext, style, out)
+    put_parts_or_leave(&own, &[], &followed.movetext, style, out)
 }
 
 /// Appends the export of the game in the style: its tags, one a line, an empty line, its movetext

@@ -1,4 +1,8 @@
 //! How a game is written.
+ghost use Rattle.std.specs.Prelude.{◌≡◌};
+ghost use Rattle.pgn_game.specs.Public.Exports.{lines_with};
+
+use crate::replays::replayer::Lines;
 
 /// What becomes of the commands of a comment, as `[%clk 0:01:00]`.
 #[derive(Clone, Copy, Debug, PartialEq, Eq)]
@@ -26,4 +30,15 @@ pub struct Style {
     pub roster_only: bool,
     /// The largest number of bytes in a line of the movetext that has several tokens.
     pub width: u16,
+}
+
+/// The lines of a game that are written in the style.
+pub fn lines_with(style: &Style) -> Lines
+    ensures { result ≡ lines_with style.now.variations }
+{
+    if style.variations {
+        Lines::All
+    } else {
+        Lines::Main
+    }
 }

@@ -1,6 +1,6 @@
 //! The tags of a game that is written, one a line.
 ghost use Rattle.std.specs.Prelude.{◌≡◌, ◌++◌, ℕ, List, OnOk, IfSome, option_map, map, bytes_eq};
-ghost use Rattle.std.specs.Prelude.{codes, ◌||◌, filter, flat_map, is_some};
+ghost use Rattle.std.specs.Prelude.{codes, ◌&&◌, ◌||◌, filter, flat_map, is_some, not};
 ghost use Rattle.std.specs.List.{list_any};
 ghost use Rattle.pgn_text.specs.Public.GameTexts.{tag_in, tag_names};
 ghost use Rattle.pgn_text.specs.Public.Strings.{IsContents};
@@ -8,6 +8,7 @@ ghost use Rattle.pgn_game.specs.Public.Starts.{fen_tag};
 ghost use Rattle.pgn_game.specs.Public.TagLines.{roster, missing_text as missing_text_of, escaped};
 ghost use Rattle.pgn_game.specs.Public.TagLines.{IsValueText, IsTagText, IsLineOf, AreLinesOf};
 ghost use Rattle.pgn_game.specs.Public.TagLines.{is_beside as is_name_beside, AreTagLines};
+ghost use Rattle.pgn_game.specs.Public.TagLines.{is_among as is_name_among};
 
 use crate::exports::style::Style;
 use pgn_text::{RawGame, value};
@@ -106,7 +107,7 @@ fn put_tag(
 
 /// Whether the tag is one of the roster.
 fn is_in_roster(name: &[u8]) -> bool
-    ensures { result ≡ list_any (λ other. bytes_eq other name.now) roster }
+    ensures { result ≡ is_name_among roster name.now }
 {
     ROSTER.contains(&name)
 }
@@ -150,18 +151,73 @@ fn put_all_named(game: &RawGame, names: &[&[u8]], out: &mut Vec<u8>) -> Result<(
     Ok(())
 }
 
-/// Appends the lines of the other tags that the style writes, in the order of their names.
-fn put_others(game: &RawGame, style: &Style, out: &mut Vec<u8>) -> Result<(), AllocError>
+/// Whether the name is one of these.
+fn is_among(names: &[Vec<u8>], name: &[u8]) -> bool
+    ensures { result ≡ list_any (λ other. bytes_eq other.items name.now) names.now }
+{
+    names.iter().any(|other| other.as_slice() == name)
+}
+
+/// Whether the game has a tag with this name that the style writes beside the roster.
+fn has_beside(game: &RawGame, name: &[u8], style: &Style, has_fen: bool) -> bool
+    ensures { result ≡ is_name_among
+        (filter (is_name_beside style.now has_fen) (tag_names game.now.tags)) name.now }
+{
+    is_beside(name, style, has_fen) && game.tags().get(name).is_some()
+}
+
+/// Whether the style writes a tag with this name beside the roster, and it is not asked for first.
+fn is_other(name: &[u8], order: &[Vec<u8>], style: &Style, has_fen: bool) -> bool
+    ensures { result ≡ (is_name_beside style.now has_fen name.now
+        && not (is_name_among (map (λ other. other.items) order.now) name.now)) }
+{
+    is_beside(name, style, has_fen) && !is_among(order, name)
+}
+
+/// Appends the lines of the tags with these names that the game has and the style writes beside the
+/// roster.
+fn put_first(
+    game: &RawGame,
+    order: &[Vec<u8>],
+    style: &Style,
+    out: &mut Vec<u8>,
+) -> Result<(), AllocError>
     ensures lines { OnOk result ((lines : List ℕ)
         × AreLinesOf game.now.tags game.now.result
+        (filter (is_name_among
         (filter (is_name_beside style.now (is_some (tag_in fen_tag game.now.tags)))
+        (tag_names game.now.tags))) (map (λ name. name.items) order.now)) lines
+        × (out.new.items ≡ out.old.items ++ lines)) }
+    ensures kept { (some : List ℕ) × (out.new.items ≡ out.old.items ++ some) }
+{
+    let fen: &[u8] = b"FEN";
+    let has_fen = game.tags().contains_key(&fen);
+    for name in order {
+        if has_beside(game, name, style, has_fen) {
+            put_named(game, name, out)?;
+        }
+    }
+    Ok(())
+}
+
+/// Appends the lines of the other tags that the style writes, in the order of their names.
+fn put_others(
+    game: &RawGame,
+    order: &[Vec<u8>],
+    style: &Style,
+    out: &mut Vec<u8>,
+) -> Result<(), AllocError>
+    ensures lines { OnOk result ((lines : List ℕ)
+        × AreLinesOf game.now.tags game.now.result
+        (filter (λ name. is_name_beside style.now (is_some (tag_in fen_tag game.now.tags)) name
+        && not (is_name_among (map (λ other. other.items) order.now) name))
         (tag_names game.now.tags)) lines × (out.new.items ≡ out.old.items ++ lines)) }
     ensures kept { (some : List ℕ) × (out.new.items ≡ out.old.items ++ some) }
 {
     let fen: &[u8] = b"FEN";
     let has_fen = game.tags().contains_key(&fen);
     for (name, contents) in game.tags() {
-        if !is_beside(*name, style, has_fen) {
+        if !is_other(*name, order, style, has_fen) {
             continue;
         }
         put_tag(*name, Some(*contents), game.result(), out)?;
@@ -169,14 +225,21 @@ fn put_others(game: &RawGame, style: &Style, out: &mut Vec<u8>) -> Result<(), Al
     Ok(())
 }
 
-/// Appends the tags of the game, one a line: the roster, and the others that the style writes.
-pub(crate) fn put_tags(game: &RawGame, style: &Style, out: &mut Vec<u8>) -> Result<(), AllocError>
+/// Appends the tags of the game, one a line: the roster, and the others that the style writes, with
+/// those first that are asked for first.
+pub(crate) fn put_tags(
+    game: &RawGame,
+    order: &[Vec<u8>],
+    style: &Style,
+    out: &mut Vec<u8>,
+) -> Result<(), AllocError>
     ensures lines { OnOk result ((lines : List ℕ)
-        × AreTagLines style.now game.now.tags game.now.result lines
-        × (out.new.items ≡ out.old.items ++ lines)) }
+        × AreTagLines (map (λ name. name.items) order.now) style.now game.now.tags game.now.result
+        lines × (out.new.items ≡ out.old.items ++ lines)) }
     ensures kept { (some : List ℕ) × (out.new.items ≡ out.old.items ++ some) }
 {
     put_all_named(game, &ROSTER, out)?;
-    put_others(game, style, out)?;
+    put_first(game, order, style, out)?;
+    put_others(game, order, style, out)?;
     Ok(())
 }

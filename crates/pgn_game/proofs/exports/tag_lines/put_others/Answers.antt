@@ -1,10 +1,11 @@
-use Rattle.std.specs.Prelude.{Some}
+use Rattle.std.specs.Prelude.{Some, not, ◌&&◌}
 use Rattle.std.specs.BTreeMap.{get}
 use Rattle.std.proofs.lemmas.Map.Views.{All-turn}
 use Rattle.pgn_game.proofs.Common.{◌≡◌, ◌++◌, ◌∙◌, ℕ, List, Bool, true, ap, arith, rules, sym}
 use Rattle.pgn_game.proofs.Common.{map, Bor, filter, is_some, slice_cmp, deref_pair, nat_cmp}
 use Rattle.pgn_game.proofs.Common.{common_steps, iter_end, tag_of, tag_in, tag_names, fen_tag}
 use Rattle.pgn_game.proofs.Common.{IsLineOf, AreLinesOf, is_beside}
+use Rattle.pgn_game.specs.Public.TagLines.{is_among}
 use Rattle.pgn_game.proofs.Tags.{tag_found_in, tag_there}
 use Rattle.pgn_game.proofs.exports.TagLineFacts.{lines_push, shown_names, passed_more}
 use Rattle.pgn_game.proofs.exports.tag_lines.put_others.Goals as goal
@@ -35,8 +36,9 @@ loop-name-preserved c =
     let is =
     tag_found_in c.args.game.now.tags m name (Some c.in-Some.contents.now)
     c.tags-name-items.ensures.tags (sym at) in
-    let test : List ℕ → Bool = is_beside c.args.style.now c.contains_key-has_fen.result in
-    let passes : test name ≡ true = sym c.if-not-is_beside.ensures in
+    let test : List ℕ → Bool = λ name. is_beside c.args.style.now c.contains_key-has_fen.result name
+    && not (is_among (map (λ other. other.items) c.args.order.now) name) in
+    let passes : test name ≡ true = sym c.if-not-is_other.ensures in
     let so_far = c.loop-name.invariant in
     let put = c.in_ok-put_tag.ensures.line in
     let line : IsLineOf c.args.game.now.result name (tag_in name c.args.game.now.tags) put.0 =

@@ -1,4 +1,4 @@
-use Rattle.pgn_game.proofs.Common.{◌++◌, ◌∷◌, [], ap, ◌∙◌}
+use Rattle.pgn_game.proofs.Common.{◌++◌, ◌∷◌, [], ap, ◌∙◌, map}
 use Rattle.pgn_game.specs.Public.Edits.{Edits, edit_of}
 use Rattle.pgn_game.proofs.exports.EditFacts.{edits_more, edits_pushed}
 use Rattle.pgn_game.proofs.exports.edits.TagEdits.with.Goals as goal
@@ -10,10 +10,13 @@ invariant_of-self c =
 
 pub returns : goal.returns
 returns c =
-    ap (λ tags. record { tags = tags; counts_plies = c.self.inside.counts_plies })
+    ap (λ tags. record {
+      tags = tags;
+      counts_plies = c.self.inside.counts_plies;
+      last_ply = c.self.inside.last_ply;
+      order = map (λ name. name.items) c.self.inside.order.items;
+    })
     (edits_pushed c.self.inside.edits.items c.push.new.self.items c.args.edit
     c.in_ok-push.ensures.items)
-    ∙ ap (λ (own : Edits). record {
-      tags = own.tags ++ edit_of c.args.edit ∷ [];
-      counts_plies = own.counts_plies;
-    }) c.self.view_is
+    ∙ ap (λ (own : Edits). record own { tags = own.tags ++ edit_of c.args.edit ∷ [] })
+    c.self.view_is
