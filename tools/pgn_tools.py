@@ -4,19 +4,15 @@ A command has this module beside itself, or in ../share/pgn-extract where it is 
 """
 import contextlib
 import errno
-import heapq
 import io
 import itertools
 import os
 import re
-import shutil
 import signal
 import stat
 import subprocess
 import sys
-import tempfile
-from collections import deque
-from typing import NamedTuple
+from collections import deque, namedtuple
 
 FAULTY, REFUSED, FAILED = 1, 2, 3
 # What the program is called: the second name is that of Debian's package alone, which can stand
@@ -75,14 +71,24 @@ class NoProgram(Fault):
         super().__init__(REFUSED, reason)
 
 
+# (what few runs use is imported there: it would take a quarter of the time that others need)
+def on_path(name):
+    """The path of a command, or None."""
+    import shutil
+
+    return shutil.which(name)
+
+
 def candidates(own):
     """Where the program may be: what PGN_EXTRACT names, else what has its names beside the folder
     of the command (installed, in a checkout, in a release), and then on the path."""
     if named := os.environ.get("PGN_EXTRACT"):
-        return [named]
+        yield named
+        return
     folders = (own, f"{own}/..", f"{own}/../bin")
     beside = [os.path.normpath(f"{folder}/{name}") for name in PROGRAMS for folder in folders]
-    return [*filter(os.path.isfile, beside), *filter(None, map(shutil.which, PROGRAMS))]
+    yield from filter(os.path.isfile, beside)
+    yield from filter(None, map(on_path, PROGRAMS))
 
 
 def reason_of(fault):
@@ -122,7 +128,7 @@ class Command:
         os.environ[RUN_BY] = self.name
         missing = None
         for named in candidates(self.place):
-            path = os.path.abspath(shutil.which(named) or named)
+            path = os.path.abspath(named if os.path.dirname(named) else on_path(named) or named)
             try:
                 version, fault = asked([path, "--version"], reports=stderr).output, None
             except OSError as caught:
@@ -345,12 +351,8 @@ def end_group(process, number=signal.SIGKILL):
         os.killpg(process.pid, number)
 
 
-class Asked(NamedTuple):
-    """How a short run ended, and what it wrote."""
-
-    status: int
-    output: bytes
-    reports: bytes
+# How a short run ended, and what it wrote.
+Asked = namedtuple("Asked", "status output reports")
 
 
 def asked(command, text=b"", reports=subprocess.PIPE):
@@ -378,6 +380,8 @@ class Scratch:
     """The folder for temporary files, and the runs that go on. At the end neither is left."""
 
     def __init__(self, name):
+        import tempfile
+
         # (a signal waits until somebody takes the folder away)
         Signals.let_wait(True)
         self.made = tempfile.TemporaryDirectory(prefix=f"{name}-", dir=temporary_folder())
@@ -400,6 +404,8 @@ class Scratch:
 
     def file(self):
         """A file without a name."""
+        import tempfile
+
         return tempfile.TemporaryFile(dir=self.folder, buffering=BLOCK)
 
 
@@ -504,13 +510,9 @@ WHOLE = re.compile(
 FRONT = 1 << 12
 
 
-class Source(NamedTuple):
+class Source(namedtuple("Source", "path name seen")):
     """A FILE: its path, what lines of the program have of its name, and what it was known by before
     it was read."""
-
-    path: str
-    name: bytes
-    seen: os.stat_result
 
     def lines_begin(self):
         """What lines of marks begin with."""
@@ -615,6 +617,8 @@ class Places:
         """All of them, by their FILEs: the number of each, and its places."""
         self.sound.seek(0)
         self.faulty.seek(0)
+        import heapq
+
         return itertools.groupby(heapq.merge(self.sound, self.faulty), lambda it: int(it[:7]))
 
 
