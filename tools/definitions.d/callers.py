@@ -13,11 +13,12 @@ CALL = re.compile(r"(\w+::|\.)?\b(\w+)(?:::<[^()]*>)?\(")
 
 @dataclass(frozen=True)
 class Caller:
-    """A function that calls another: its crate, its name, whether it has a contract, and whether it is an example."""
+    """A function that calls another: its crate, its name, whether it has a contract, whether it is an example, and whether it is a test."""
     crate: str
     name: str
     is_proved: bool
     is_example: bool
+    is_test: bool
 
 
 @dataclass(frozen=True)
@@ -39,7 +40,7 @@ class Calls:
 def calls_of(tree):
     """All calls."""
     by_name, givers = {}, {}
-    for crate in tree.crates.values():
+    for crate in [*tree.crates.values(), tree.tests]:
         for file in crate.code.values():
             for function in file.functions:
                 for before, name in set(CALL.findall(function.body)):
@@ -62,14 +63,15 @@ def each_with_callers(tree, calls):
             if function.trait in ("", "trait"):
                 is_call = is_call_of_member if function.owner else is_call_of_function
                 found = [it for it in calls.by_name.get(function.name, []) if it.function is not function and is_call(calls, crate, file, function, it)]
-                by_name = {name_of(tree.crates[it.crate], it.file, it.function): it for it in found}
-                yield (crate, file, function), [caller(name, it) for name, it in sorted(by_name.items())]
+                by_name = {name_of(tree.crates.get(it.crate, tree.tests), it.file, it.function): it for it in found}
+                yield (crate, file, function), [caller(tree, name, it) for name, it in sorted(by_name.items())]
 
 
-def caller(name, call):
-    """Who makes the call; a function that a trait asks for has the contract that stands there."""
-    is_proved = bool(call.function.clauses) or call.function.trait not in ("", "trait")
-    return Caller(call.crate, name, is_proved, call.file.module == EXAMPLES)
+def caller(tree, name, call):
+    """Who makes the call; a function that a trait asks for has the contract that stands there, but for one of a test."""
+    is_test = call.crate == tree.tests.name
+    is_proved = not is_test and (bool(call.function.clauses) or call.function.trait not in ("", "trait"))
+    return Caller(call.crate, name, is_proved, not is_test and call.file.module == EXAMPLES, is_test)
 
 
 def is_call_of_member(calls, crate, file, function, call):
@@ -93,8 +95,20 @@ def is_call_of_function(calls, crate, file, function, call):
 
 def listed(tree):
     """Each public function but for examples and for laws that want nothing of their callers, by its name, with its callers; none of a crate without
-    definitions, which helps tests alone."""
+    definitions."""
     for (crate, file, function), callers in callers_by_function(tree):
-        is_law = file.module == LAWS and not any(it.kind == "requires" for it in function.clauses)
+        is_law = file.module == LAWS and not wants(function)
         if crate.specs and not is_law and file.module != EXAMPLES:
             yield name_of(crate, file, function), callers
+
+
+def wants(function):
+    """The function wants something of its callers."""
+    return any(it.kind == "requires" for it in function.clauses)
+
+
+def unproved(tree):
+    """The names of public functions that want something of their callers, and that tests alone call."""
+    for (crate, file, function), callers in callers_by_function(tree):
+        if wants(function) and callers and all(it.is_test for it in callers) and file.module != EXAMPLES:
+            yield name_of(crate, file, function)

@@ -232,7 +232,8 @@ def add_users(tree, held):
 
 def names_known(tree):
     """The names of functions, definitions and worked rows."""
-    functions = {it.name for crate in tree.crates.values() for file in crate.code.values() for it in file.functions}
+    crates = [*tree.crates.values(), tree.tests]
+    functions = {it.name for crate in crates for file in crate.code.values() for it in file.functions}
     return functions | set(tree.crates) | {name for _, name in tree.definitions} | {it for found in rows_of(tree) for it in found}
 
 

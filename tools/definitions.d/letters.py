@@ -24,13 +24,15 @@ def rows(tree):
 
 def letters(crate, found):
     """The kinds of callers: an example over known bytes (M), a function with a contract of another
-    crate (C), any other of another crate (U), one of its own crate (O); `-` for none."""
-    others = [it for it in found if not it.is_example]
+    crate (C), any other of another crate (U), one of its own crate (O), a test (T); `-` for
+    none."""
+    others = [it for it in found if not it.is_example and not it.is_test]
     kinds = {
-        "M": len(others) < len(found),
+        "M": any(it.is_example for it in found),
         "C": any(it.crate != crate and it.is_proved for it in others),
-        "U": any(it.crate != crate and not it.is_proved for it in found),
+        "U": any(it.crate != crate and not it.is_proved for it in others),
         "O": any(it.crate == crate for it in others),
+        "T": any(it.is_test for it in found),
     }
     return "".join(letter for letter, is_so in kinds.items() if is_so) or "-"
 
@@ -65,6 +67,8 @@ def faults(tree):
             yield f"nothing calls {name}, and {holders.HAND} gives no reason"
         if found and name in reasons:
             yield f"{holders.HAND} gives a reason why nothing calls {name}, and {found[0].name} does"
+    for name in callers.unproved(tree):
+        yield f"only tests call {name}, which requires something: let a function of a crate call it"
     for name in sorted(set(reasons) - {it for it, _ in callers.listed(tree)}):
         yield f"{holders.HAND} gives a reason for {name}, which is no public function"
 

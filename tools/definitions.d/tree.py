@@ -42,6 +42,7 @@ class Tree:
     def __init__(self, top):
         self.top = Path(top)
         self.crates = {it.name: it for it in map(self.read_crate, crate_names(self.top)) if it}
+        self.tests = self.read_tests()
         self.definitions = {}
         self.sources = {}
         self.constructors = {}
@@ -69,6 +70,14 @@ class Tree:
             module = ".".join(path.relative_to(folder / "src").with_suffix("").parts)
             crate.code[module] = read_rust(path, name, module)
         return crate
+
+    def read_tests(self):
+        """Reads the tests of the libraries, which nothing proves."""
+        tests = Crate("library_tests", self.top / "tests/library.d")
+        for path in sorted(tests.folder.rglob("*.rs")):
+            module = ".".join(path.relative_to(tests.folder).with_suffix("").parts)
+            tests.code[module] = read_rust(path, tests.name, module)
+        return tests
 
     def add_source(self, source):
         """Adds what a file defines, and the cases of its data."""

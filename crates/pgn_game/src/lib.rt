@@ -1,28 +1,13 @@
 //! Games played and written: the lines of a game as they stand in a file, from its start on, and
 //! its export.
 //!
-//! The exports of the games of a block that can be replayed:
-//!
-//! ```text
-//! fn exported(alloc: Global, block: &[u8], style: &Style) -> Result<Vec<u8>, AllocError> {
-//!     let mut out = Vec::new(alloc);
-//!     for piece in games(alloc, block, true) {
-//!         if let Piece::Game(game) = piece? {
-//!             match replay(alloc, &game, Lines::All) {
-//!                 Ok(replayed) => export(alloc, &game, &replayed, style, &mut out)?,
-//!                 Err(GameFault::OutOfMemory) => return Err(AllocError),
-//!                 Err(_) => {}
-//!             }
-//!         }
-//!     }
-//!     Ok(out)
-//! }
-//! ```
+//! The module `memory` has examples of calls, as the exports of the games of a block.
 #![tactic(auto)]
 
 mod explain;
 mod exports;
 pub mod laws;
+pub mod memory;
 mod openings;
 pub mod pack;
 mod replays;

@@ -2,15 +2,17 @@
 //! example of one call.
 
 ghost use Rattle.std.specs.Prelude.{◌≡◌, ◌≤◌, ℕ, List, [], ◌∷◌, ◌++◌, length, take, map, IfOk};
-ghost use Rattle.std.specs.Prelude.{MatchResult, MatchOption};
+ghost use Rattle.std.specs.Prelude.{MatchResult, MatchOption, true};
 ghost use Rattle.pgn_text.specs.Public.Blocks.{AreBlocks};
 ghost use Rattle.pgn_text.specs.Public.Left.{IsPiece};
 ghost use Rattle.pgn_text.specs.Public.LeftMarks.{IsMark};
 ghost use Rattle.pgn_text.specs.Public.Limits.{depth_limit};
 ghost use Rattle.pgn_text.specs.Public.Pieces.{ArePieces};
 ghost use Rattle.pgn_text.specs.Public.Pieces as spec;
+ghost use Rattle.pgn_text.specs.Public.Stops.{IsErrorPosition};
 ghost use Rattle.pgn_text.specs.Public.Windows.{Shows};
 
+use crate::error::error_position::error_position_of;
 use crate::game::pieces::start::{games, marks};
 use crate::game::pieces::{Piece, PieceStart};
 use crate::io::blocks::{Blocks, Body, ReadError};
@@ -113,4 +115,11 @@ pub fn first_mark(block: &[u8], file_start: bool) -> Option<PieceStart>
         × (pieces ≡ shown ∷ more) × IsMark mark shown) }
 {
     marks(block, file_start).next()
+}
+
+/// Where the text of a file stops agreeing with games.
+pub fn first_stop(text: &[u8]) -> usize
+    ensures { IsErrorPosition depth_limit true text.now 0 result }
+{
+    error_position_of(text, 0, true)
 }
