@@ -37,12 +37,13 @@ read_before (own ∷ names) name any =
     found names own name (bytes_eq own name) refl any (read_before names name)
 
 missing : (names : List (List ℕ)) (own name : List ℕ) (same : Bool) → bytes_eq own name ≡ same
-    → (same || is_there name names) ≡ false → (is_there name names ≡ false → Contains names name → ⊥)
+    → (same || is_there name names) ≡ false
+    → (is_there name names ≡ false → Contains names name → ⊥)
     → Contains (own ∷ names) name → ⊥
 missing names own name true is none later has = cc
 missing names own name false is none later has = elim (first_or_later own name names has) [
   | inl same ↦ let yes = sym ((bytes_eq-Decides own name).1 same) ∙ is in cc
-  | inr behind ↦ later none behind
+  | inr other ↦ later none other
 ]
 
 pub not_read : (names : List (List ℕ)) (name : List ℕ) → is_there name names ≡ false
@@ -83,8 +84,8 @@ lists_last text rest name names more read next is new pushed = rw pushed record 
 -- one that is read twice, and one that is no name
 pub named_twice : (text rest name : List ℕ) (names more : List (List ℕ))
     → HasListed text rest names → parted_at 44 rest ≡ name ∷ more → is_there name names ≡ true
-    → (before : List (List ℕ)) × (behind : List (List ℕ))
-    × (parted_at 44 text ≡ before ++ name ∷ behind) × Contains before name
+    → (before : List (List ℕ)) × (later : List (List ℕ))
+    × (parted_at 44 text ≡ before ++ name ∷ later) × Contains before name
 named_twice text rest name names more read next there =
     (names, more, read.parts ∙ ap (λ xs. names ++ xs) next, read_before names name there)
 

@@ -70,20 +70,13 @@ column_name (column.OfAnnotations own) = annotation_column_name own
 
 -- the values of the column are numbers
 abbrev pub is_number_of_game : GameColumn → Bool
-is_number_of_game File = false
 is_number_of_game Game = true
 is_number_of_game Offset = true
-is_number_of_game Id = false
-is_number_of_game Result = false
-is_number_of_game OpeningPly = false
+is_number_of_game _ = false
 
 abbrev pub is_number_of_position : PositionColumn → Bool
-is_number_of_position Fen = false
-is_number_of_position Turn = false
 is_number_of_position Number = true
-is_number_of_position Men = false
-is_number_of_position Check = false
-is_number_of_position Material = false
+is_number_of_position _ = false
 
 abbrev pub is_number_of_line : LineColumn → Bool
 is_number_of_line Plies = true
@@ -112,12 +105,8 @@ shows_annotations (column.OfAnnotations own) = true
 
 -- the column shows something of openings, which are those of lines that are given
 abbrev pub is_of_opening : GameColumn → Bool
-is_of_opening File = false
-is_of_opening Game = false
-is_of_opening Offset = false
-is_of_opening Id = false
-is_of_opening Result = false
 is_of_opening OpeningPly = true
+is_of_opening _ = false
 
 abbrev pub shows_opening : Column → Bool
 shows_opening (column.Tag name) = false

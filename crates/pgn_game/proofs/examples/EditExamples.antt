@@ -104,7 +104,7 @@ no_uncounted game other none able is =
 
 -- ---- the last ply
 
--- what stands behind the last ply stays in front of the next move, and what stands in variations
+-- what stands after the last ply stays in front of the next move, and what stands in variations
 -- is no ply
 up_to_a_ply : (first_plies 0 0 e4_e5 ≡ [])
     × (first_plies 1 0 e4_e5 ≡ MoveText (codes "e4") ∷ VariationOpen ∷ MoveText (codes "d4")

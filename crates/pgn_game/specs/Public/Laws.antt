@@ -58,13 +58,13 @@ GameHasOneBeginning =
     → IsGameBeginning fen items most beginning → IsGameBeginning fen items most other
     → beginning ≡ other
 
--- nothing is left, or a move and what stands behind it
+-- nothing is left, or a move and what stands after it
 abbrev pub BeginsWithMove : List Item → Type 0
 BeginsWithMove rest = (rest ≡ [])
     ⊎ ((word : List ℕ) × (more : List Item) × (rest ≡ MoveText word ∷ more))
 
 -- the elements up to a ply are a beginning of all: they have so many moves of the main line, end
--- each variation that they begin where all do, and nothing but a move stands behind them
+-- each variation that they begin where all do, and nothing but a move stands after them
 abbrev pub FirstPliesAreABeginning : Type 0
 FirstPliesAreABeginning =
     (plies : ℕ) (items : List Item) → (rest : List Item)

@@ -72,8 +72,8 @@ impl TagEdit {
 }
 
 impl TagEdits {
-    /// No edits, but that of PlyCount where plies are counted, and that no ply after the last one is
-    /// written, if one is given.
+    /// No edits, but that of PlyCount where plies are counted, and that nothing is written from the
+    /// move after the last ply on, if one is given.
     pub fn new(alloc: Global, counts_plies: bool, last_ply: Option<u32>) -> Self
         ensures { result ≡ record {
           tags = [];

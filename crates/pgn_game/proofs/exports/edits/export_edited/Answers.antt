@@ -45,7 +45,8 @@ beginning-requires-clause-paired c =
     (subst (IsPaired 0) (sym (first_taken last items))
     (first_paired last 0 items c.invariant.ensures.paired))
 
-short : (game own : GameText) (last end : ℕ) → own ≡ record game { elements = take end game.elements }
+short : (game own : GameText) (last end : ℕ)
+    → own ≡ record game { elements = take end game.elements }
     → end ≡ length (first_plies last 0 game.elements) → own ≡ up_to (Some last) game
 short game own last end is ends_there =
     is ∙ ap (λ some. record game { elements = some })

@@ -1,7 +1,7 @@
 use Rattle.std.specs.Prelude.{◌&&◌, Option, Some, None}
 use Rattle.std.specs.Option.{option_copied}
-use Rattle.pgn_game.proofs.Common.{◌≡◌, ◌∙◌, ℕ, List, Bor, ap, refl, sym, is_beside, is_some, tag_in}
-use Rattle.pgn_game.proofs.Common.{tag_names}
+use Rattle.pgn_game.proofs.Common.{◌≡◌, ◌∙◌, ℕ, List, Bor, ap, refl, sym, is_beside, is_some}
+use Rattle.pgn_game.proofs.Common.{tag_in, tag_names}
 use Rattle.pgn_game.proofs.Tags.{tag_there}
 use Rattle.pgn_game.proofs.TagsInOrder.{among_passed, among_tags}
 use Rattle.pgn_game.specs.Public.TagLines.{is_among}

@@ -25,6 +25,7 @@ returns-clause-lines c =
           (ap (λ own. filter (is_among shown) order ++ own)
           (both_tests test (λ name. not (is_among order name)) (tag_names tags))
           ∙ ordered_parts order shown)
-          (lines_join tags result (filter (is_among shown) order) others more last more_are last_are)),
+          (lines_join tags result (filter (is_among shown) order) others more last more_are
+          last_are)),
       in_a_row c.args.out.now.items first more last _ _ _ one two three,
     )
