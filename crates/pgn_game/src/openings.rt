@@ -13,10 +13,13 @@ ghost use Rattle.pgn_game.specs.Public.Openings.{IsOpeningIn, HasOpening, IsTagg
 ghost use Rattle.pgn_game.specs.Public.Openings.{HasContents, HasLineOf, unless_empty};
 ghost use Rattle.pgn_game.specs.Public.Replays.{HasPlies, fault_of};
 ghost use Rattle.pgn_game.specs.Public.Starts.{fen_tag};
-ghost use Rattle.pgn_game.specs.Private.Filing.{HasOpeningFrom, sieve_place};
+ghost use Rattle.pgn_game.specs.Private.Filing.{HasOpeningFrom, key_place, mixed, pawns_place};
 ghost use Rattle.pgn_game.specs.Private.Following.{FindsLine};
 ghost use Rattle.pgn_game.specs.declared.replays.replayer.Lines.TheVariants.{Main};
 
+mod sieve;
+
+use crate::openings::sieve::Sieve;
 use crate::replays::main_line::MainWalk;
 use crate::turns::fault::GameFault;
 use crate::turns::replayed::GamePosition;
@@ -53,19 +56,35 @@ fn unless_empty(contents: &[u8]) -> Option<&[u8]>
     Some(contents)
 }
 
-/// How many places a sieve has.
-const SIEVE: usize = 1 << 16;
+/// One number of two.
+#[inline(always)]
+fn mixed(sum: u64, word: u64) -> u64
+    ensures mixed { result ≡ mixed sum word }
+    ensures within { result < 2 ^ 64 }
+{
+    sum.wrapping_add(word).wrapping_mul(0x9e37_79b9_7f4a_7c15)
+}
 
 /// The place in a sieve of the two bitboards of pawns: any place would do, and this one differs for
 /// most pawns.
 #[inline(always)]
-fn place_of(pawns: [u64; 2]) -> usize
-    ensures place { result ≡ sieve_place pawns }
+fn pawns_place(pawns: [u64; 2]) -> usize
+    ensures place { result ≡ pawns_place pawns }
     ensures within { result < 2 ^ 16 }
 {
-    let white = pawns[0].wrapping_mul(0x9e37_79b9_7f4a_7c15);
-    let black = pawns[1].wrapping_mul(0xc2b2_ae3d_27d4_eb4f);
-    (white.wrapping_add(black) >> 48) as usize
+    (mixed(mixed(0, pawns[0]), pawns[1]) >> 48) as usize
+}
+
+/// The place in a sieve of a key, by the bitboards of all men but pawns: any place would do here
+/// too.
+#[inline(always)]
+fn key_place(key: &[u64; 13]) -> usize
+    ensures place { result ≡ key_place key.now }
+    ensures within { result < 2 ^ 16 }
+{
+    let white = mixed(mixed(mixed(mixed(key[0], key[1]), key[2]), key[3]), key[4]);
+    let black = mixed(mixed(mixed(mixed(key[6], key[7]), key[8]), key[9]), key[10]);
+    (mixed(white, black) >> 48) as usize
 }
 
 /// A game as it counts, and the number of plies of its main line where that is sound.
@@ -88,9 +107,11 @@ pub struct Openings {
     lines: Vec<OpeningLine>,
     /// The first line that ends in a position, by its key.
     places: HashMap<[u64; 13], usize>,
-    /// By the places of pawns, whether some line ends with such: that is asked first, since most
-    /// positions have others.
-    sieve: Vec<bool>,
+    /// The places of the pawns with which lines end: they are asked first, since most positions
+    /// have others.
+    pawns: Sieve,
+    /// The places of the keys of their last positions, which are asked next.
+    keys: Sieve,
 }
 
 impl Model for Openings {
@@ -108,7 +129,7 @@ impl Model for Openings {
 
     ghost invariant = { λ o. record {
       filed : AreFiled (ends_of (map named_of o.lines.items)) o.places;
-      sieved : AreSieved (ends_of (map named_of o.lines.items)) o.sieve.items;
+      sieved : AreSieved (ends_of (map named_of o.lines.items)) o.pawns o.keys;
       contents : HaveContents (map named_of o.lines.items);
     } };
 }
@@ -121,7 +142,8 @@ impl Openings {
         Ok(Openings {
             lines: Vec::new(alloc),
             places: HashMap::new(alloc),
-            sieve: vec![in alloc; false; SIEVE]?,
+            pawns: Sieve::new(alloc)?,
+            keys: Sieve::new(alloc)?,
         })
     }
 
@@ -132,8 +154,9 @@ impl Openings {
     {
         chess::laws::keys_tell_positions();
         line.end.invariant();
-        self.sieve[place_of(line.end.pawns())] = true;
+        self.pawns.put(pawns_place(line.end.pawns()));
         let key = line.end.key();
+        self.keys.put(key_place(&key));
         if !self.places.contains_key(&key) {
             self.places.insert(key, self.lines.len())?;
         }
@@ -141,19 +164,34 @@ impl Openings {
         Ok(self)
     }
 
-    /// The first line that ends in the position, or none.
-    pub fn find(&self, position: &GamePosition) -> Option<usize>
+    /// The first line that ends in the position, which has pawns with which some line ends; or
+    /// none.
+    #[inline(never)]
+    fn find_by_key(&self, position: &GamePosition) -> Option<usize>
         ensures { IsFirstIn (ends_of self.now) position.now result }
     {
         position.invariant();
-        if !self.sieve[place_of(position.pawns())] {
+        let key = position.key();
+        if !self.keys.has(key_place(&key)) {
             return None;
         }
-        self.places.get(&position.key()).copied()
+        self.places.get(&key).copied()
+    }
+
+    /// The first line that ends in the position, or none.
+    #[inline(always)]
+    pub fn find(&self, position: &GamePosition) -> Option<usize>
+        ensures { IsFirstIn (ends_of self.now) position.now result }
+    {
+        if !self.pawns.has(pawns_place(position.pawns())) {
+            return None;
+        }
+        self.find_by_key(position)
     }
 
     /// The opening of a game that comes to the position after so many plies, where it had that one
     /// before, or none.
+    #[inline(always)]
     pub fn after(
         &self,
         found: Option<Opening>,
@@ -172,6 +210,7 @@ impl Openings {
 
     /// The place of the line of the opening of a game that comes to the position, where it was that
     /// one before, or none.
+    #[inline(always)]
     pub(crate) fn line_after(&self, found: Option<usize>, position: &GamePosition) -> Option<usize>
         ensures { FindsLine (ends_of self.now) found position.now result }
     {

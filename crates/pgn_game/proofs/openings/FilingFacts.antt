@@ -3,8 +3,7 @@
 use Rattle.pgn_game.proofs.Common.{◌≡◌, ◌<◌, ℕ, true, false, List, [], ◌∷◌, ◌++◌, length, Option}
 use Rattle.pgn_game.proofs.Common.{Some, None, inl, inr, ap, refl, sym, subst, ◌∙◌, arith, State}
 use Rattle.pgn_game.proofs.Common.{length-map, map-append}
-use Rattle.std.proofs.Common.{◌⊎◌, ◌^◌, zero, suc, map, cond, nat_eq, Bool, is_some, get_or}
-use Rattle.std.proofs.Common.{slice_set}
+use Rattle.std.proofs.Common.{◌⊎◌, map, cond, nat_eq, is_some}
 use Rattle.std.specs.Bool.{Decides}
 use Rattle.std.specs.Cmp.Lexicographic.{pointwise}
 use Rattle.std.specs.HashMap.{HashMap, get, Updates}
@@ -15,7 +14,7 @@ use Rattle.chess.specs.Public.Keys.{IsKey, ArePawns, IsSamePosition}
 use Rattle.chess.specs.Public.Laws.{KeysTellPositions, SamePositionsHaveSamePawns}
 use Rattle.chess.specs.Public.Positions.{IsSound}
 use Rattle.pgn_game.specs.Public.Openings.{EndsIn, IsFirstIn, NamedLine, ends_of, named_of}
-use Rattle.pgn_game.specs.Private.Filing.{AreFiled, AreSieved, sieve_place}
+use Rattle.pgn_game.specs.Private.Filing.{AreFiled, AreSieved, has_place, key_place, pawns_place}
 use Rattle.pgn_game.specs.declared.openings.OpeningLine.{OpeningLine}
 use Rattle.pgn_game.proofs.OneMore.{get_kept, get_last, get_more}
 
@@ -161,58 +160,62 @@ line_new laws lines more old new line y n sound keyed none at updates pushed fil
     (subst (λ k. Updates (pointwise nat_eq) old new y (Some k)) (at ∙ sym (ends_length lines))
     updates) filed)
 
--- ---- the sieve
+-- ---- the sieves
 
--- in what the sieve passes over, no line ends
-pub passed_over : (ends : List State) (sieve : List Bool) (P : State) (x : List ℕ) → ArePawns P x
-    → AreSieved ends sieve → get_or sieve (sieve_place x) false ≡ false → IsFirstIn ends P None
-passed_over ends sieve P x own sieved absent = λ line here.
-    let both : true ≡ false = sym (sieved.has line P x here own) ∙ absent in cc
+-- in what a sieve passes over, no line ends
+pub pawns_passed : (ends : List State) (pawns keys : List ℕ) (P : State) (x : List ℕ)
+    → ArePawns P x → AreSieved ends pawns keys → has_place pawns (pawns_place x) ≡ false
+    → IsFirstIn ends P None
+pawns_passed ends pawns keys P x own sieved absent = λ line here.
+    let both : true ≡ false = sym (sieved.has_pawns line P x here own) ∙ absent in cc
 
--- what is read at a place by its own default
-pub kept_false : (sieve : List Bool) (n : ℕ) (read : Bool) → read ≡ get_or sieve n read
-    → read ≡ false → get_or sieve n false ≡ false
-kept_false sieve n read is none =
-    sym (subst (λ b. b ≡ get_or sieve n b) none is)
+pub key_passed : (ends : List State) (pawns keys : List ℕ) (P : State) (x : List ℕ)
+    → IsSound P → IsKey P x → AreSieved ends pawns keys → has_place keys (key_place x) ≡ false
+    → IsFirstIn ends P None
+key_passed ends pawns keys P x sound own sieved absent = λ line here.
+    let both : true ≡ false = sym (sieved.has_key line P x sound here own) ∙ absent in cc
 
-set_there : (sieve : List Bool) (k : ℕ) → k < length sieve
-    → get_or (slice_set sieve k true) k false ≡ true
-set_there [] k below = absurd (omega arith)
-set_there (b ∷ sieve) zero below = refl
-set_there (b ∷ sieve) (suc k) below = set_there sieve k (omega arith)
+-- one more place is in a sieve
+pub record PutsPlace (old new : List ℕ) (place : ℕ) : Type 0 where
+  pub here : has_place new place ≡ true
+  pub kept : (other : ℕ) → has_place old other ≡ true → has_place new other ≡ true
 
-set_kept : (sieve : List Bool) (k n : ℕ) → get_or sieve n false ≡ true
-    → get_or (slice_set sieve k true) n false ≡ true
-set_kept [] k n there = cc
-set_kept (b ∷ sieve) zero zero there = refl
-set_kept (b ∷ sieve) zero (suc n) there = there
-set_kept (b ∷ sieve) (suc k) zero there = there
-set_kept (b ∷ sieve) (suc k) (suc n) there = set_kept sieve k n there
-
-set_size : (sieve : List Bool) (k : ℕ) → length (slice_set sieve k true) ≡ length sieve
-set_size [] k = refl
-set_size (b ∷ sieve) zero = refl
-set_size (b ∷ sieve) (suc k) = ap suc (set_size sieve k)
-
--- the pawns of one more line
-sieved_more : (laws : SamePositionsHaveSamePawns) (ends : List State) (old : List Bool)
-    (Q : State) (y : List ℕ) (k : ℕ) → ArePawns Q y → k ≡ sieve_place y → k < 2 ^ 16
-    → AreSieved ends old → AreSieved (ends ++ Q ∷ []) (slice_set old k true)
-sieved_more laws ends old Q y k own place below sieved = record {
-  size = set_size old k ∙ sieved.size;
-  has = λ line P x here own'. elim (ends_more ends Q line P here) [
-    | inl before ↦ set_kept old k (sieve_place x) (sieved.has line P x before own')
-    | inr last ↦ subst (λ n. get_or (slice_set old k true) n false ≡ true)
-        (place ∙ ap sieve_place (laws Q P y x own own' last.1))
-        (set_there old k (subst (λ n. k < n) (sym sieved.size) below))
-  ];
+pub put_there : {old new : List ℕ} {place own : ℕ} → own ≡ place → has_place new own ≡ true
+    → ((other : ℕ) → has_place old other ≡ true → has_place new other ≡ true)
+    → PutsPlace old new place
+put_there {new = new} same here kept = record {
+  here = subst (λ n. has_place new n ≡ true) same here;
+  kept = kept;
 }
 
-pub line_sieved : (laws : SamePositionsHaveSamePawns) (lines more : List OpeningLine)
-    (old : List Bool) (line : OpeningLine) (y : List ℕ) (k : ℕ) → ArePawns line.end y
-    → k ≡ sieve_place y → k < 2 ^ 16 → more ≡ lines ++ line ∷ []
-    → AreSieved (ends_of (map named_of lines)) old
-    → AreSieved (ends_of (map named_of more)) (slice_set old k true)
-line_sieved laws lines more old line y k own place below pushed sieved =
-    by_lines (λ ends. AreSieved ends (slice_set old k true)) lines more line pushed
-    (sieved_more laws (ends_of (map named_of lines)) old line.end y k own place below sieved)
+-- the pawns and the key of one more line
+sieved_more : (same_pawns : SamePositionsHaveSamePawns) (same_keys : KeysTellPositions)
+    (ends : List State) (pawns keys pawns' keys' : List ℕ) (Q : State) (x y : List ℕ)
+    → ArePawns Q x → IsSound Q → IsKey Q y → PutsPlace pawns pawns' (pawns_place x)
+    → PutsPlace keys keys' (key_place y) → AreSieved ends pawns keys
+    → AreSieved (ends ++ Q ∷ []) pawns' keys'
+sieved_more same_pawns same_keys ends pawns keys pawns' keys' Q x y own sound keyed pawned filed
+    sieved = record {
+      has_pawns = λ line P x' here own'. elim (ends_more ends Q line P here) [
+        | inl before ↦ pawned.kept (pawns_place x') (sieved.has_pawns line P x' before own')
+        | inr last ↦ subst (λ z. has_place pawns' (pawns_place z) ≡ true)
+            (same_pawns Q P x x' own own' last.1) pawned.here
+      ];
+      has_key = λ line P y' sound' here keyed'. elim (ends_more ends Q line P here) [
+        | inl before ↦ filed.kept (key_place y') (sieved.has_key line P y' sound' before keyed')
+        | inr last ↦ subst (λ z. has_place keys' (key_place z) ≡ true)
+            ((same_keys Q P y y' sound sound' keyed keyed').1 last.1) filed.here
+      ];
+    }
+
+pub line_sieved : (same_pawns : SamePositionsHaveSamePawns) (same_keys : KeysTellPositions)
+    (lines more : List OpeningLine) (pawns keys pawns' keys' : List ℕ) (line : OpeningLine)
+    (x y : List ℕ) → ArePawns line.end x → IsSound line.end → IsKey line.end y
+    → PutsPlace pawns pawns' (pawns_place x) → PutsPlace keys keys' (key_place y)
+    → more ≡ lines ++ line ∷ [] → AreSieved (ends_of (map named_of lines)) pawns keys
+    → AreSieved (ends_of (map named_of more)) pawns' keys'
+line_sieved same_pawns same_keys lines more pawns keys pawns' keys' line x y own sound keyed pawned
+    filed pushed sieved =
+    by_lines (λ ends. AreSieved ends pawns' keys') lines more line pushed
+    (sieved_more same_pawns same_keys (ends_of (map named_of lines)) pawns keys pawns' keys'
+    line.end x y own sound keyed pawned filed sieved)

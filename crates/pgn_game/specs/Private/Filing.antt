@@ -1,9 +1,10 @@
 -- How the lines of a file of openings are stored, and found by the keys of their last positions.
-use Rattle.std.specs.Prelude.{◌≡◌, ◌+◌, ◌*◌, ◌/◌, ◌%◌, ◌^◌, ℕ, Bool, true, false, List, length}
+use Rattle.std.specs.Prelude.{◌≡◌, ◌+◌, ◌*◌, ◌/◌, ◌%◌, ◌^◌, ◌==◌, ℕ, Bool, true, List, length}
 use Rattle.std.specs.Prelude.{get_or, Option, Some, nat_eq, refl}
 use Rattle.std.specs.Coded.{Coded, coded_ℕ, coded_list, coded×, code_by}
 use Rattle.std.specs.Cmp.Lexicographic.{pointwise}
 use Rattle.std.specs.HashMap.{HashMap, get}
+use Rattle.std.specs.Int.{bit_at}
 use Rattle.std.specs.List.{slice_get}
 use Rattle.chess.specs.Public.Positions.{State, IsSound}
 use Rattle.chess.specs.Public.Keys.{IsKey, ArePawns}
@@ -27,17 +28,34 @@ abbrev pub AreFiled : {S : Type 0} → List State → HashMap (List ℕ) ℕ S �
 AreFiled ends places = (P : State) (x : List ℕ) → IsSound P → IsKey P x
     → IsFirstIn ends P (get (pointwise nat_eq) places x)
 
--- the place in a sieve of the bitboards of pawns
-abbrev pub sieve_place : List ℕ → ℕ
-sieve_place pawns =
-    (get_or pawns 0 0 * 11400714819323198485 % 2 ^ 64
-    + get_or pawns 1 0 * 14029467366897019727 % 2 ^ 64) % 2 ^ 64 / 2 ^ 48
+-- one number of two
+abbrev pub mixed : ℕ → ℕ → ℕ
+mixed sum word = (sum + word) % 2 ^ 64 * 11400714819323198485 % 2 ^ 64
 
--- the sieve has the pawns of each position in which a line ends
-pub record AreSieved (ends : List State) (sieve : List Bool) : Type 0 where
-  pub size : length sieve ≡ 2 ^ 16
-  pub has : (line : ℕ) (P : State) (x : List ℕ) → EndsIn ends line P → ArePawns P x
-      → get_or sieve (sieve_place x) false ≡ true
+-- the place in a sieve of the bitboards of pawns, and that of a key, by the bitboards of all men
+-- but pawns
+abbrev pub pawns_place : List ℕ → ℕ
+pawns_place pawns = mixed (mixed 0 (get_or pawns 0 0)) (get_or pawns 1 0) / 2 ^ 48
+
+abbrev pub key_place : List ℕ → ℕ
+key_place key =
+    mixed
+    (mixed (mixed (mixed (mixed (get_or key 0 0) (get_or key 1 0)) (get_or key 2 0))
+    (get_or key 3 0)) (get_or key 4 0))
+    (mixed (mixed (mixed (mixed (get_or key 6 0) (get_or key 7 0)) (get_or key 8 0))
+    (get_or key 9 0)) (get_or key 10 0))
+    / 2 ^ 48
+
+-- the place is one of those that the bits of these words are
+abbrev pub has_place : List ℕ → ℕ → Bool
+has_place words place = bit_at (get_or words (place / 64) 0) (place % 64) == 1
+
+-- the sieves have the pawns and the keys of each position in which a line ends
+pub record AreSieved (ends : List State) (pawns keys : List ℕ) : Type 0 where
+  pub has_pawns : (line : ℕ) (P : State) (x : List ℕ) → EndsIn ends line P → ArePawns P x
+      → has_place pawns (pawns_place x) ≡ true
+  pub has_key : (line : ℕ) (P : State) (x : List ℕ) → IsSound P → EndsIn ends line P → IsKey P x
+      → has_place keys (key_place x) ≡ true
 
 -- what each of the lines is named stands in strings
 abbrev pub HaveContents : List NamedLine → Type 0

@@ -1,5 +1,5 @@
 -- No line ends anywhere.
-use Rattle.pgn_game.proofs.Common.{[], ◌∙◌, ap, sym}
+use Rattle.pgn_game.proofs.Common.{ap}
 use Rattle.std.proofs.Common.{nat_eq}
 use Rattle.std.specs.Cmp.Lexicographic.{pointwise}
 use Rattle.std.specs.Map.{lookup}
@@ -10,8 +10,8 @@ invariant_of-result c = record {
   filed = rw c.new.ensures.items (λ P x sound key.
       rw (ap (lookup (pointwise nat_eq x)) c.new-2.ensures.empty) (λ line there. cc));
   sieved = rw c.new.ensures.items (record {
-    size = sym c.in_ok-vec.field-0.ok.0 ∙ c.in_ok-vec.ensures.len;
-    has = λ line P x there own. cc;
+    has_pawns = λ line P x there own. cc;
+    has_key = λ line P x sound there own. cc;
   });
   contents = rw c.new.ensures.items (λ place line there. cc);
 }

@@ -4,6 +4,7 @@ use Rattle.std.proofs.Common.{map}
 use Rattle.pgn_game.specs.Public.Openings.{ends_of, named_of}
 use Rattle.pgn_game.specs.Private.Filing.{AreFiled, AreSieved}
 use Rattle.pgn_game.proofs.openings.FilingFacts.{line_again, line_new, line_sieved, named_push}
+use Rattle.pgn_game.proofs.openings.FilingFacts.{put_there}
 use Rattle.pgn_game.proofs.openings.Naming.{contents_more}
 use Rattle.pgn_game.proofs.openings.Openings.with.Goals as goal
 use Rattle.pgn_game.proofs.openings.Openings.with.Goals.{then-not-contains_key+in_ok-insert}
@@ -26,11 +27,14 @@ invariant_of-self c =
                 c.invariant.ensures c.key-key.ensures (sym w.if-not-contains_key.ensures)
                 (w.len.ensures ∙ old.lines.ok.0) w.in_ok-insert.ensures.updates pushed
                 c.self.invariant.filed);
-            sieved = subst (AreSieved (ends_of (map named_of items)))
-                (sym (ap (λ i. i.sieve.items) w.self-inside-is))
-                (line_sieved laws.pawns old.lines.items items old.sieve.items line c.pawns.result
-                c.place_of.result c.pawns.ensures c.place_of.ensures.place
-                c.place_of.ensures.within pushed c.self.invariant.sieved);
+            sieved = subst (λ own. AreSieved (ends_of (map named_of items)) own.pawns own.keys)
+                (sym w.self-inside-is)
+                (line_sieved laws.pawns laws.keys old.lines.items items old.pawns old.keys
+                c.put.new.self c.put-2.new.self line c.pawns.result c.key-key.result
+                c.pawns.ensures c.invariant.ensures c.key-key.ensures
+                (put_there c.pawns_place.ensures.place c.put.ensures.here c.put.ensures.kept)
+                (put_there c.key_place.ensures.place c.put-2.ensures.here c.put-2.ensures.kept)
+                pushed c.self.invariant.sieved);
             contents = contents_more old.lines.items items line pushed c.requires
                 c.self.invariant.contents;
           }
@@ -42,11 +46,14 @@ invariant_of-self c =
                 (line_again laws.keys old.lines.items items old.places line c.key-key.result
                 c.invariant.ensures c.key-key.ensures (sym w.if-not-contains_key.ensures) pushed
                 c.self.invariant.filed);
-            sieved = subst (AreSieved (ends_of (map named_of items)))
-                (sym (ap (λ i. i.sieve.items) w.self-inside-is))
-                (line_sieved laws.pawns old.lines.items items old.sieve.items line c.pawns.result
-                c.place_of.result c.pawns.ensures c.place_of.ensures.place
-                c.place_of.ensures.within pushed c.self.invariant.sieved);
+            sieved = subst (λ own. AreSieved (ends_of (map named_of items)) own.pawns own.keys)
+                (sym w.self-inside-is)
+                (line_sieved laws.pawns laws.keys old.lines.items items old.pawns old.keys
+                c.put.new.self c.put-2.new.self line c.pawns.result c.key-key.result
+                c.pawns.ensures c.invariant.ensures c.key-key.ensures
+                (put_there c.pawns_place.ensures.place c.put.ensures.here c.put.ensures.kept)
+                (put_there c.key_place.ensures.place c.put-2.ensures.here c.put-2.ensures.kept)
+                pushed c.self.invariant.sieved);
             contents = contents_more old.lines.items items line pushed c.requires
                 c.self.invariant.contents;
           }
