@@ -27,50 +27,54 @@ _pgn_extract() {
 _pgn_extract_options='--list --fen --next --rows --csv --tsv --jsonl --no-header --packed --index
     --moves --uci --pack --criteria --where --openings --min-ply --max-ply --first --tags-first
     --others --faulty --as-is -C --no-comments --keep-commands --strip-commands -N --no-glyphs -V
-    --no-variations --roster -w --width --set --drop --fix-results --plycount --explain --summary
-    --progress --no-progress --from --until --at --with-names --no-names -h --help --version'
+    --no-variations --roster -w --width --set --drop --fix-results --plycount --order --to-ply
+    --explain --summary --progress --no-progress --from --until --at --with-names --no-names -h
+    --help --version'
 # Takes out what the program refuses beside an option.
 _pgn_extract_excluded() {
     case $1 in
     --list) _pgn_extract_without --rows --csv --tsv --jsonl --no-header --index --moves --uci \
-        --pack --others --faulty --as-is --set --drop --fix-results --plycount ;;
+        --pack --others --faulty --as-is --set --drop --fix-results --plycount --order --to-ply ;;
     --fen) _pgn_extract_without --rows --csv --tsv --jsonl --no-header --index --moves --uci \
-        --pack --others --faulty --as-is --set --drop --fix-results --plycount ;;
+        --pack --others --faulty --as-is --set --drop --fix-results --plycount --order --to-ply ;;
     --next) _pgn_extract_without --rows --csv --tsv --jsonl --no-header --index --moves --uci \
-        --pack --others --faulty --as-is --set --drop --fix-results --plycount ;;
+        --pack --others --faulty --as-is --set --drop --fix-results --plycount --order --to-ply ;;
     --rows) _pgn_extract_without --list --fen --next --index --moves --uci --pack --others \
-        --faulty --as-is --set --drop --fix-results --plycount ;;
+        --faulty --as-is --set --drop --fix-results --plycount --order --to-ply ;;
     --csv) _pgn_extract_without --list --fen --next --tsv --jsonl --index --moves --uci --pack \
-        --others --faulty --as-is --set --drop --fix-results --plycount ;;
+        --others --faulty --as-is --set --drop --fix-results --plycount --order --to-ply ;;
     --tsv) _pgn_extract_without --list --fen --next --csv --jsonl --index --moves --uci --pack \
-        --others --faulty --as-is --set --drop --fix-results --plycount ;;
+        --others --faulty --as-is --set --drop --fix-results --plycount --order --to-ply ;;
     --jsonl) _pgn_extract_without --list --fen --next --csv --tsv --index --moves --uci --pack \
-        --others --faulty --as-is --set --drop --fix-results --plycount ;;
+        --others --faulty --as-is --set --drop --fix-results --plycount --order --to-ply ;;
     --no-header) _pgn_extract_without --list --fen --next --index --moves --uci --pack --others \
-        --faulty --as-is --set --drop --fix-results --plycount ;;
+        --faulty --as-is --set --drop --fix-results --plycount --order --to-ply ;;
     --packed) _pgn_extract_without --moves --uci --pack --openings --tags-first --others --faulty \
-        --as-is --set --drop --fix-results --plycount --from --until --at --with-names \
-        --no-names ;;
+        --as-is --set --drop --fix-results --plycount --order --to-ply --from --until --at \
+        --with-names --no-names ;;
     --index) _pgn_extract_without --list --fen --next --rows --csv --tsv --jsonl --no-header \
         --moves --uci --pack --tags-first --others --faulty --as-is --set --drop --fix-results \
-        --plycount ;;
+        --plycount --order --to-ply ;;
     --moves) _pgn_extract_without --list --fen --next --rows --csv --tsv --jsonl --no-header \
-        --packed --index --uci --pack --faulty --as-is --set --drop --fix-results --plycount ;;
+        --packed --index --uci --pack --faulty --as-is --set --drop --fix-results --plycount \
+        --order --to-ply ;;
     --uci) _pgn_extract_without --list --fen --next --rows --csv --tsv --jsonl --no-header \
-        --packed --index --moves --pack --faulty --as-is --set --drop --fix-results --plycount ;;
+        --packed --index --moves --pack --faulty --as-is --set --drop --fix-results --plycount \
+        --order --to-ply ;;
     --pack) _pgn_extract_without --list --fen --next --rows --csv --tsv --jsonl --no-header \
         --packed --index --moves --uci --tags-first --faulty --as-is -C --no-comments \
         --keep-commands --strip-commands -N --no-glyphs -V --no-variations --roster -w --width \
-        --set --drop --fix-results --plycount ;;
+        --set --drop --fix-results --plycount --order --to-ply ;;
     --openings) _pgn_extract_without --packed --tags-first ;;
     --tags-first) _pgn_extract_without --packed --index --pack --openings --others --faulty ;;
     --others) _pgn_extract_without --list --fen --next --rows --csv --tsv --jsonl --no-header \
         --packed --index --tags-first --faulty ;;
     --faulty) _pgn_extract_without --list --fen --next --rows --csv --tsv --jsonl --no-header \
         --packed --index --moves --uci --pack --tags-first --others --set --drop --fix-results \
-        --plycount ;;
+        --plycount --order --to-ply ;;
     --as-is) _pgn_extract_without --list --fen --next --rows --csv --tsv --jsonl --no-header \
-        --packed --index --moves --uci --pack --set --drop --fix-results --plycount ;;
+        --packed --index --moves --uci --pack --set --drop --fix-results --plycount --order \
+        --to-ply ;;
     -C | --no-comments) _pgn_extract_without --pack ;;
     --keep-commands) _pgn_extract_without --pack --strip-commands ;;
     --strip-commands) _pgn_extract_without --pack --keep-commands ;;
@@ -85,6 +89,10 @@ _pgn_extract_excluded() {
     --fix-results) _pgn_extract_without --list --fen --next --rows --csv --tsv --jsonl --no-header \
         --packed --index --moves --uci --pack --faulty --as-is ;;
     --plycount) _pgn_extract_without --list --fen --next --rows --csv --tsv --jsonl --no-header \
+        --packed --index --moves --uci --pack --faulty --as-is ;;
+    --order) _pgn_extract_without --list --fen --next --rows --csv --tsv --jsonl --no-header \
+        --packed --index --moves --uci --pack --faulty --as-is ;;
+    --to-ply) _pgn_extract_without --list --fen --next --rows --csv --tsv --jsonl --no-header \
         --packed --index --moves --uci --pack --faulty --as-is ;;
     --progress) _pgn_extract_without --no-progress ;;
     --no-progress) _pgn_extract_without --progress ;;
