@@ -4,7 +4,7 @@ use Rattle.std.specs.Prelude.{Option, ◌-◌, ◌==◌, ◌≤◌, if◌then◌
 use Rattle.std.proofs.lemmas.List.{append_assoc, length-append}
 use Rattle.pgn_game.proofs.Common.{◌≡◌, ℕ, ◌+◌, zero, suc, List, [], ◌∷◌, ◌++◌, refl, sym, ap}
 use Rattle.pgn_game.proofs.Common.{◌∙◌, subst, false, inl, inr, take, State, after, Move, Item}
-use Rattle.pgn_game.proofs.Common.{main_words, IsMainLine, IsPlayed, Replay, AreTurns, IsReplay}
+use Rattle.pgn_game.proofs.Common.{main_words, IsMainLine, IsPlayed, AreTurns}
 use Rattle.pgn_game.proofs.Common.{Lines, Main, All, LineMove, IsSoundGame, Bool, arith, nat_tests}
 use Rattle.pgn_text.specs.Public.Games.{MoveText, GlyphNumber, CommentText, VariationOpen}
 use Rattle.pgn_text.specs.Public.Games.{VariationClose}

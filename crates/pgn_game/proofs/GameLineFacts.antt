@@ -1,6 +1,6 @@
 -- A sound game has one line in each notation, and no other game has it.
 use Rattle.std.specs.Prelude.{Option}
-use Rattle.pgn_game.proofs.Common.{◌≡◌, ℕ, ◌+◌, List, [], ◌∷◌, ◌++◌, refl, sym, ap, ◌∙◌, subst, inr}
+use Rattle.pgn_game.proofs.Common.{◌≡◌, ℕ, List, [], ◌∷◌, ◌++◌, refl, sym, ap, ◌∙◌, subst, inr}
 use Rattle.pgn_game.proofs.Common.{append_assoc, append-nil, AreOnBoard, State, IsSound, after}
 use Rattle.pgn_game.proofs.Common.{Move, men_stay_on_board, Item, MoveText, IsMoveFault}
 use Rattle.pgn_game.proofs.Common.{IsStartText, AreMoveTexts, IsGameLine, AreWritten, HasPutSome}

@@ -1,5 +1,5 @@
 -- A game that has no opening, and one whose main line is faulty.
-use Rattle.pgn_game.proofs.Common.{◌≡◌, ◌<◌, ℕ, List, length, Option, Some, None, refl, sym, ap}
+use Rattle.pgn_game.proofs.Common.{◌≡◌, ◌<◌, List, length, Some, None, refl, ap}
 use Rattle.pgn_game.proofs.Common.{subst, GameText, tag_in, fen_tag, Fault, Main}
 use Rattle.pgn_game.proofs.Common.{IsFault, length-map, Replay}
 use Rattle.std.proofs.lemmas.Option.{slice_get_within}

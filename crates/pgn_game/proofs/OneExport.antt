@@ -2,7 +2,7 @@
 use Rattle.std.specs.Prelude.{Option, Some, None, flat_map}
 use Rattle.pgn_game.proofs.Common.{◌≡◌, ℕ, List, [], ◌∷◌, ◌++◌, sym, ap, ◌∙◌, subst, tag_in}
 use Rattle.pgn_game.proofs.Common.{fen_tag, missing_text, escaped, IsTagText, tag_line, AreLinesOf}
-use Rattle.pgn_game.proofs.Common.{written_names, IsLaid, AreMovetextTokens, GameText, Style}
+use Rattle.pgn_game.proofs.Common.{written_names, IsLaid, GameText, Style}
 use Rattle.pgn_game.specs.Public.Exports.{IsOrderedExport}
 use Rattle.pgn_game.specs.Public.Laws.{GameHasOneExport}
 use Rattle.pgn_game.proofs.laws.LaidOnce.{one_text}

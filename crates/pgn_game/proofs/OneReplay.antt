@@ -6,7 +6,7 @@ use Rattle.pgn_game.proofs.Common.{after, IsOnlyNamed, Move, one_spelling, Item,
 use Rattle.pgn_game.proofs.Common.{IsMainLine, IsValueOf, IsStart, IsBadStart, IsPlayed, ArePlayed}
 use Rattle.pgn_game.proofs.Common.{Fault, IsMoveFault, IsLineFault, HaveFault, HasLineFault}
 use Rattle.pgn_game.proofs.Common.{IsFault, Replay, AreTurns, IsReplay, Lines, Main, All, LineMove}
-use Rattle.chess.specs.Public.Fen.{SpellsPosition, IsRefused}
+use Rattle.chess.specs.Public.Fen.{IsRefused}
 use Rattle.chess.proofs.FenOnce.{read_or_refused}
 use Rattle.pgn_text.proofs.Values.{one_value}
 use Rattle.pgn_game.specs.Public.Laws.{GameHasOneReplay, GameHasOneFault, SoundGameHasNoFault}

@@ -8,14 +8,14 @@ use Rattle.std.specs.FinMap.Entries.{by_order, put}
 use Rattle.std.proofs.lemmas.Cmp.{nat_list_cmp_total, nat_list_eq_equiv}
 use Rattle.std.proofs.lemmas.List.{length-append}
 use Rattle.std.proofs.lemmas.Map.Text.{is_eq-slice_cmp}
-use Rattle.pgn_game.proofs.Common.{IfSome, bytes_eq, if◌then◌else◌, slice_cmp, IsStrictlySortedBy}
-use Rattle.pgn_game.proofs.Common.{nat_cmp, Less, Equal, Greater, flat_map-cons, same_Some}
+use Rattle.pgn_game.proofs.Common.{IfSome, bytes_eq, if◌then◌else◌}
+use Rattle.pgn_game.proofs.Common.{Less, Equal, Greater, flat_map-cons, same_Some}
 use Rattle.pgn_game.proofs.Common.{square_text, after, State, IsNamed, IsCastlingText}
 use Rattle.pgn_game.proofs.Common.{promotion_text, Wing, KingSide, QueenSide, Move, Item, MoveText}
 use Rattle.pgn_game.proofs.Common.{GlyphNumber, CommentText, VariationOpen, VariationClose}
 use Rattle.pgn_game.proofs.Common.{main_words, IsMainLine, name_size, tags_size, AreCodes}
 use Rattle.chess.specs.Public.San.{Spells, Said, letter_text, file_text, rank_text}
-use Rattle.pgn_text.specs.Public.GameTexts.{GameText, IsGameText, IsResult, ShowsGame, tag_names}
+use Rattle.pgn_text.specs.Public.GameTexts.{GameText, IsGameText, IsResult, ShowsGame}
 use Rattle.pgn_text.specs.Public.Games.{is_move_text, glyphs_of_marks, items_of, items_of_part}
 use Rattle.pgn_text.specs.Public.Games.{first_tag}
 use Rattle.pgn_text.specs.Public.Parts.{Part, ByteOrderMark, White, Brace, Line, EscapeLine, Tag}

@@ -5,7 +5,7 @@ use Rattle.std.proofs.lemmas.List.{append-nil, length-append}
 use Rattle.std.specs.List.Sorted.{IsStrictlySortedBy}
 use Rattle.pgn_game.proofs.Common.{slice_cmp, w32, nat_cmp, Less, IsLegal, after, State, king_of}
 use Rattle.pgn_game.proofs.Common.{pawn_of, King, Queen, Rook, Bishop, Knight, Pawn, White, Black}
-use Rattle.pgn_game.proofs.Common.{KingSide, QueenSide, Move, tag_names, largest_offset}
+use Rattle.pgn_game.proofs.Common.{KingSide, QueenSide, Move, largest_offset}
 use Rattle.pgn_game.proofs.Common.{AreLegalMoves, positions_from, and_then, number_at, name_at}
 use Rattle.pgn_game.proofs.Common.{tag_at, follows, next_tag, Tag, PackedGame, FitsRecord, FitsTag}
 use Rattle.pgn_game.proofs.Common.{record_bytes, with_length, tag_bytes, named_number, name_bytes}

@@ -1,9 +1,9 @@
 -- What the definitions refuse: moves that a word does not name or out of their order, a reason that
 -- is not the word's, and a word that is not reached.
 use Rattle.std.proofs.Common.{codes}
-use Rattle.std.specs.Prelude.{Some, None}
+use Rattle.std.specs.Prelude.{None}
 use Rattle.pgn_game.proofs.Common.{◌≡◌, ◌∙◌, ℕ, List, [], ◌∷◌, Bool, true, false, ◌&&◌, ap, subst}
-use Rattle.pgn_game.proofs.Common.{sym, inl, inr, refl, arith, slice_get, State, IsCheck}
+use Rattle.pgn_game.proofs.Common.{sym, inl, inr, refl, arith, State, IsCheck}
 use Rattle.pgn_game.proofs.Common.{IsCastlingText, IsNamed, IsOnlyNamed, Wing, KingSide, QueenSide}
 use Rattle.pgn_game.proofs.Common.{Move, Item, MoveText, GlyphNumber, VariationOpen, is_pass}
 use Rattle.pgn_game.proofs.Common.{IsTurn, NamesNone, AreNamed, IsWhy, IsRefusedFrom, IsReached}

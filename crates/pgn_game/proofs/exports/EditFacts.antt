@@ -3,7 +3,7 @@ use Rattle.std.specs.Prelude.{bytes_eq, if◌then◌else◌, IfSome, option_map}
 use Rattle.std.proofs.lemmas.Option.{slice_get-get_or, slice_get-map}
 use Rattle.pgn_game.proofs.Common.{◌≡◌, ◌<◌, ℕ, List, [], ◌∷◌, ◌++◌, Option, Some}
 use Rattle.pgn_game.proofs.Common.{Bool, true, false, codes, decimal, arith, nat_tests}
-use Rattle.pgn_game.proofs.Common.{None, map, length, refl, sym, ap, ◌∙◌, subst, slice_get, inl}
+use Rattle.pgn_game.proofs.Common.{None, map, length, refl, sym, ap, ◌∙◌, subst, inl}
 use Rattle.pgn_game.proofs.Common.{inr}
 use Rattle.pgn_game.proofs.Common.{State, GameText, tag_in, fen_tag, IsStart, Style}
 use Rattle.pgn_game.proofs.Common.{Bor, IsContents, get_or, take, ◌+◌, ◌≤◌, take_more, take_all}

@@ -1,5 +1,4 @@
 -- The opening of a main line while it is played.
-use Rattle.std.proofs.lemmas.Option.{slice_get_within}
 use Rattle.pgn_game.proofs.Common.{◌≡◌, ℕ, ◌+◌, List, [], ◌∷◌, ◌++◌, length, Option, Some, None}
 use Rattle.std.specs.Prelude.{is_some, true, false}
 use Rattle.pgn_game.proofs.Common.{refl, sym, ap, ◌∙◌, subst, length-append, State, Move, Item}

@@ -4,11 +4,11 @@ use Rattle.std.proofs.lemmas.Option.{slice_get-get_or, slice_get-map, same_Some}
 use Rattle.pgn_game.proofs.Common.{◌≡◌, ℕ, ◌<◌, List, [], ◌∷◌, length, map, Option, Some, None, Bor}
 use Rattle.pgn_game.proofs.Common.{refl, sym, ap, ◌∙◌, subst, get_or, slice_get, IsContents}
 use Rattle.pgn_game.proofs.Common.{GameText}
-use Rattle.pgn_game.proofs.Common.{length-map, arith, ◌++◌, inl, inr}
+use Rattle.pgn_game.proofs.Common.{length-map, ◌++◌, inl, inr}
 use Rattle.pgn_game.proofs.OneMore.{get_more}
 use Rattle.pgn_game.proofs.openings.FilingFacts.{named_push}
 use Rattle.pgn_text.specs.Public.GameTexts.{IsRetagged, tag_in}
-use Rattle.pgn_game.specs.Public.Openings.{NamedLine, HasContents, IsTaggedBy, named_of, tag_by}
+use Rattle.pgn_game.specs.Public.Openings.{NamedLine, HasContents, IsTaggedBy, named_of}
 use Rattle.pgn_game.specs.Public.Openings.{unless_empty}
 use Rattle.pgn_game.specs.Private.Filing.{HaveContents}
 use Rattle.pgn_game.specs.declared.openings.OpeningLine.{OpeningLine}

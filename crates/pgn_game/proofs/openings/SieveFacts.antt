@@ -1,7 +1,6 @@
 -- A place that is put into a sieve: its bit is set, and every other stays.
-use Rattle.pgn_game.proofs.Common.{◌≡◌, ◌<◌, ℕ, ◌+◌, List, length, inl, inr, ap, sym, subst}
-use Rattle.pgn_game.proofs.Common.{◌∙◌, arith}
-use Rattle.std.proofs.Common.{◌⊎◌, ◌^◌, ◌*◌, ◌/◌, ◌%◌, ◌==◌, true, get_or, slice_set, bit_or}
+use Rattle.pgn_game.proofs.Common.{◌≡◌, ◌<◌, ℕ, List, length, inl, inr, ap, sym, ◌∙◌, arith}
+use Rattle.std.proofs.Common.{◌^◌, ◌*◌, ◌/◌, ◌%◌, ◌==◌, true, get_or, slice_set, bit_or}
 use Rattle.std.specs.Int.{bit_at, w64}
 use Rattle.std.proofs.lemmas.List.{get_or-set_same, get_or-set_other}
 use Rattle.std.proofs.lemmas.Nat.Bits.{bit_at_set_same, bit_at_set_other}

@@ -1,6 +1,6 @@
 -- The line of the opening of a game while the game is played. Nothing but the proofs of the export
 -- that finds it cites these.
-use Rattle.std.specs.Prelude.{◌≡◌, ℕ, true, false, List, [], ◌∷◌, ◌++◌, Option, Some, None}
+use Rattle.std.specs.Prelude.{◌≡◌, ℕ, true, false, List, [], ◌∷◌, ◌++◌, Option}
 use Rattle.chess.specs.Public.Positions.{State}
 use Rattle.pgn_game.specs.Public.AllLines.{after_turn}
 use Rattle.pgn_game.specs.Public.Openings.{HasLine, ends_of}

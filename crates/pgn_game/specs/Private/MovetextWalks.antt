@@ -3,12 +3,9 @@
 use Rattle.std.specs.Prelude.{◌≡◌, ◌||◌, ℕ, Bool, true, false, codes, decimal, List, [], ◌∷◌, ◌++◌}
 use Rattle.pgn_text.specs.Public.Games.{MoveText, GlyphNumber, CommentText, VariationOpen}
 use Rattle.pgn_text.specs.Public.Games.{VariationClose}
-use Rattle.chess.specs.Public.Positions.{State}
-use Rattle.pgn_text.specs.Public.GameTexts.{GameText}
 use Rattle.pgn_game.specs.Public.Comments.{shown_tokens}
-use Rattle.pgn_game.specs.Public.Exports.{AreMovetextTokens, number_tokens, IsTurnText, kept}
+use Rattle.pgn_game.specs.Public.Exports.{number_tokens, IsTurnText, kept}
 use Rattle.pgn_game.specs.Public.Exports.{shows}
-use Rattle.pgn_game.specs.Public.TextLines.{IsLaid}
 use Rattle.pgn_game.specs.Private.LineWrappers.{HasPut}
 use Rattle.pgn_game.specs.Private.Steps.{Step, Turned, Beside}
 use Rattle.pgn_game.specs.declared.exports.movetext.MovetextWriter.{MovetextWriter}

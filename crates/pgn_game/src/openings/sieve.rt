@@ -1,5 +1,5 @@
 //! The places of a sieve: a bit a place, so that all of them lie in 8 kB.
-ghost use Rattle.std.specs.Prelude.{◌≡◌, ◌<◌, ◌^◌, ℕ, true, false, IfOk};
+ghost use Rattle.std.specs.Prelude.{◌≡◌, ◌<◌, ◌^◌, ℕ, true};
 ghost use Rattle.pgn_game.specs.Private.Filing.{has_place};
 
 use std::alloc::{AllocError, Global};

@@ -1,5 +1,5 @@
-use Rattle.pgn_game.proofs.Common.{◌≡◌, ◌+◌, ◌∙◌, map, length, subst, arith, length-map}
-use Rattle.pgn_game.proofs.Common.{item_of, IsCounted, IsSearched}
+use Rattle.pgn_game.proofs.Common.{◌≡◌, ◌∙◌, map, length, subst, arith, length-map}
+use Rattle.pgn_game.proofs.Common.{item_of, IsCounted}
 use Rattle.pgn_game.proofs.explain.RefusalSearch.{element_at, search_begins, search_on, search_past}
 use Rattle.pgn_game.proofs.explain.RefusalSearch.{search_ends, search_finds_none}
 use Rattle.pgn_game.proofs.explain.first_refused.Goals.{then-is_played+in_ok-refused+in_default}

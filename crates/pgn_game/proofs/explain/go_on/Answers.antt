@@ -1,5 +1,5 @@
 use Rattle.pgn_game.proofs.Common.{◌∷◌, refl, sym, ap, subst, ◌∙◌, IfSome, false≢true, item_of}
-use Rattle.pgn_game.proofs.Common.{IsRefusedTurn, is_inside, StopsAt, around, IsWhy, fault_of}
+use Rattle.pgn_game.proofs.Common.{StopsAt, fault_of}
 use Rattle.pgn_game.proofs.explain.RefusalSearch.{refused_here}
 use Rattle.pgn_game.proofs.explain.go_on.Goals as goal
 

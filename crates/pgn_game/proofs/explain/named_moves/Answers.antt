@@ -1,5 +1,5 @@
 use Rattle.std.proofs.Common.{◌≡◌, arith}
-use Rattle.pgn_game.proofs.explain.NamedMoves.{HasNamed, named_start, named_more, named_all}
+use Rattle.pgn_game.proofs.explain.NamedMoves.{named_start, named_more, named_all}
 use Rattle.pgn_game.proofs.explain.named_moves.Goals as goal
 
 pub loop-index-init : goal.loop-index-init

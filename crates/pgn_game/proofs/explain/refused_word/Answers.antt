@@ -1,5 +1,5 @@
 use Rattle.pgn_game.proofs.Common.{subst, tag_in, fen_tag, IsStart}
-use Rattle.pgn_game.proofs.explain.RefusalSearch.{IsFoundFrom, found_at}
+use Rattle.pgn_game.proofs.explain.RefusalSearch.{found_at}
 use Rattle.pgn_game.proofs.explain.refused_word.Goals as goal
 
 pub returns : goal.returns

@@ -1,4 +1,4 @@
-use Rattle.std.proofs.Common.{false, sym, ◌∙◌}
+use Rattle.std.proofs.Common.{sym, ◌∙◌}
 use Rattle.pgn_game.proofs.exports.CommentFacts.{kept_word, full}
 use Rattle.pgn_game.proofs.exports.comment.after_kept.Goals as goal
 

@@ -1,5 +1,5 @@
 use Rattle.std.proofs.lemmas.List.{nil_from_length}
-use Rattle.pgn_game.proofs.Common.{◌<◌, ◌∷◌, true, false, length, sym, ap, ◌∙◌, subst, eqb-true}
+use Rattle.pgn_game.proofs.Common.{◌<◌, ◌∷◌, length, sym, ap, ◌∙◌, subst, eqb-true}
 use Rattle.pgn_game.proofs.Common.{words_in, word_front}
 use Rattle.pgn_game.proofs.exports.CommentFacts.{no_word, some_word, full}
 use Rattle.pgn_game.proofs.exports.comment.first_word.Goals as goal

@@ -1,5 +1,5 @@
 use Rattle.pgn_game.proofs.Common.{◌≡◌, ◌+◌, ◌≤◌, ◌++◌, ◌∷◌, [], length, ap, sym, ◌∙◌, arith}
-use Rattle.pgn_game.proofs.Common.{append_assoc, length-append, comment_tokens, HasPut}
+use Rattle.pgn_game.proofs.Common.{append_assoc, length-append, comment_tokens}
 use Rattle.pgn_game.proofs.exports.CommandFacts.{joined_comment}
 use Rattle.pgn_game.proofs.exports.LineWrapperFacts.{put_at_once}
 use Rattle.pgn_game.proofs.exports.comment.put_spaced.Goals as goal

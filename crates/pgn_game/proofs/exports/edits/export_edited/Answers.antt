@@ -1,5 +1,5 @@
 -- The game up to its last ply is sound where the game is, so nothing but memory stands in the way.
-use Rattle.std.specs.Prelude.{◌≤◌, IfSome, Some, None}
+use Rattle.std.specs.Prelude.{◌≤◌, IfSome, Some}
 use Rattle.pgn_game.proofs.Common.{◌≡◌, ◌∙◌, ℕ, List, Item, ap, subst, sym, length, on_ok_weaker}
 use Rattle.pgn_game.proofs.Common.{take, GameText}
 use Rattle.pgn_game.proofs.Common.{IsPaired, IsFault, tag_in, fen_tag, fault_of, IsSoundGame}

@@ -1,6 +1,6 @@
 use Rattle.pgn_game.proofs.Common.{inl, inr, subst, IfSome, IfSome_then, on_ok_weaker}
 use Rattle.pgn_game.proofs.Common.{err_from_is_err_and, IfErr-weaker, tag_in, lines_with}
-use Rattle.pgn_game.proofs.Common.{HasLineFault, IsFault, fault_of, fen_tag, IsStart, IsBadStart}
+use Rattle.pgn_game.proofs.Common.{HasLineFault, IsFault, fault_of, fen_tag, IsBadStart}
 use Rattle.pgn_game.proofs.exports.MovetextLines.{written_sound}
 use Rattle.pgn_game.proofs.exports.exporter.export_played.Goals as goal
 

@@ -1,4 +1,4 @@
-use Rattle.pgn_game.proofs.Common.{on_ok_weaker, item_of, PutsElement}
+use Rattle.pgn_game.proofs.Common.{on_ok_weaker}
 use Rattle.pgn_game.proofs.GameLineFacts.{puts_move}
 use Rattle.pgn_game.proofs.exports.game_line.push_element.Goals as goal
 

@@ -1,7 +1,7 @@
-use Rattle.pgn_game.proofs.Common.{List, ◌++◌, map, refl, ap, ◌∙◌, inr, append_assoc, IfSome}
-use Rattle.pgn_game.proofs.Common.{IfSome_then, on_ok_weaker, IfErr-weaker, item_of, tag_in, Item}
-use Rattle.pgn_game.proofs.Common.{IsFault, IsMoveFault, IsGameLine, AreWritten, main_words}
-use Rattle.pgn_game.proofs.Common.{fault_of, fen_tag, IsStart, Main}
+use Rattle.pgn_game.proofs.Common.{◌++◌, map, refl, ap, ◌∙◌, inr, append_assoc, IfSome}
+use Rattle.pgn_game.proofs.Common.{IfSome_then, on_ok_weaker, IfErr-weaker, item_of, tag_in}
+use Rattle.pgn_game.proofs.Common.{IsFault, IsMoveFault, IsGameLine, main_words}
+use Rattle.pgn_game.proofs.Common.{fault_of, fen_tag, Main}
 use Rattle.pgn_game.proofs.GameLineFacts.{written_line}
 use Rattle.pgn_game.proofs.exports.game_line.push_line.Goals as goal
 

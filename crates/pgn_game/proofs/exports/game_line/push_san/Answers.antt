@@ -1,5 +1,4 @@
 use Rattle.pgn_game.proofs.Common.{refl, ◌∙◌, err_from_is_err_and}
-use Rattle.chess.specs.Public.San.{IsSan}
 use Rattle.pgn_game.proofs.exports.game_line.push_san.Goals as goal
 
 pub returns-in_err-play_named_san-clause-fault : goal.returns-in_err-play_named_san-clause-fault

@@ -1,5 +1,5 @@
 use Rattle.std.specs.Prelude.{not, ◌&&◌}
-use Rattle.pgn_game.proofs.Common.{◌∙◌, ap, sym, map}
+use Rattle.pgn_game.proofs.Common.{◌∙◌, ap, map}
 use Rattle.pgn_game.proofs.TagsInOrder.{among_items}
 use Rattle.pgn_game.specs.Public.TagLines.{is_among}
 use Rattle.pgn_game.proofs.exports.tag_lines.is_other.Goals as goal

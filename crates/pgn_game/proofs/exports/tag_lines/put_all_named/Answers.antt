@@ -1,4 +1,4 @@
-use Rattle.pgn_game.proofs.Common.{◌++◌, arith, common_steps, AreLinesOf}
+use Rattle.pgn_game.proofs.Common.{◌++◌, arith, common_steps}
 use Rattle.pgn_game.proofs.exports.TagLineFacts.{lines_push, names_more}
 use Rattle.pgn_game.proofs.exports.tag_lines.put_all_named.Goals as goal
 

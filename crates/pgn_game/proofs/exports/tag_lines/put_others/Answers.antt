@@ -4,7 +4,7 @@ use Rattle.std.proofs.lemmas.Map.Views.{All-turn}
 use Rattle.pgn_game.proofs.Common.{◌≡◌, ◌++◌, ◌∙◌, ℕ, List, Bool, true, ap, arith, rules, sym}
 use Rattle.pgn_game.proofs.Common.{map, Bor, filter, is_some, slice_cmp, deref_pair, nat_cmp}
 use Rattle.pgn_game.proofs.Common.{common_steps, iter_end, tag_of, tag_in, tag_names, fen_tag}
-use Rattle.pgn_game.proofs.Common.{IsLineOf, AreLinesOf, is_beside}
+use Rattle.pgn_game.proofs.Common.{IsLineOf, is_beside}
 use Rattle.pgn_game.specs.Public.TagLines.{is_among}
 use Rattle.pgn_game.proofs.Tags.{tag_found_in, tag_there}
 use Rattle.pgn_game.proofs.exports.TagLineFacts.{lines_push, shown_names, passed_more}

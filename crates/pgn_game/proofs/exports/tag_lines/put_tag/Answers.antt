@@ -1,5 +1,4 @@
-use Rattle.std.proofs.Common.{option_map}
-use Rattle.pgn_game.proofs.Common.{arith, refl, common_steps, IsTagText, tag_line}
+use Rattle.pgn_game.proofs.Common.{arith, refl, common_steps, tag_line}
 use Rattle.pgn_game.proofs.exports.tag_lines.put_tag.Goals as goal
 
 pub returns-clause-line : goal.returns-clause-line

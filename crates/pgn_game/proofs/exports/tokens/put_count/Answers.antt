@@ -1,7 +1,5 @@
-use Rattle.std.proofs.Common.{◌∷◌, ◌++◌, List, ℕ, [], OnOk}
 use Rattle.std.proofs.lemmas.Fmt.{decimal_digit}
 use Rattle.itoa.proofs.Decimal.{decimal_two}
-use Rattle.pgn_game.specs.Private.LineWrappers.{HasPut}
 use Rattle.pgn_game.proofs.exports.tokens.put_count.Goals as goal
 
 pub returns-then-number-lt10-clause-text : goal.returns-then-number-lt10-clause-text

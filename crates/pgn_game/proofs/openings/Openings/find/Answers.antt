@@ -1,5 +1,5 @@
 -- Where the sieve has no such pawns, no line ends.
-use Rattle.pgn_game.proofs.Common.{◌≡◌, ◌∙◌, ap, sym, subst, None}
+use Rattle.pgn_game.proofs.Common.{◌∙◌, ap, sym, subst, None}
 use Rattle.std.proofs.Common.{map}
 use Rattle.pgn_game.specs.Private.Filing.{has_place}
 use Rattle.pgn_game.specs.Public.Openings.{ends_of, named_of, IsFirstIn}

@@ -1,5 +1,5 @@
 -- Where the sieve has no such key, no line ends; else the map has the first line, if one does.
-use Rattle.pgn_game.proofs.Common.{◌≡◌, ◌∙◌, ap, sym, subst, None}
+use Rattle.pgn_game.proofs.Common.{◌∙◌, ap, sym, subst, None}
 use Rattle.std.proofs.Common.{map}
 use Rattle.pgn_game.specs.Private.Filing.{has_place}
 use Rattle.pgn_game.specs.Public.Openings.{ends_of, named_of, IsFirstIn}

@@ -1,6 +1,6 @@
 -- A move of the main line may have an opening after it, and another element changes nothing.
 use Rattle.pgn_game.proofs.Common.{◌++◌, ◌∷◌, [], map, refl, subst, sym, arith, item_of, main_words}
-use Rattle.pgn_game.proofs.Common.{err_from_is_err_and, State}
+use Rattle.pgn_game.proofs.Common.{err_from_is_err_and}
 use Rattle.pgn_game.specs.Public.Openings.{ends_of}
 use Rattle.pgn_game.proofs.WalkFacts.{walk_begins, stuck_at, walk_ends, items_step, items_end}
 use Rattle.pgn_game.proofs.openings.Following.{HasFollowed, none_at_first, followed_step}

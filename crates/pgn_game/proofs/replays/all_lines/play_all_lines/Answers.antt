@@ -1,5 +1,5 @@
 use Rattle.pgn_game.proofs.Common.{[], ◌∙◌, map, subst, IfSome_then, err_from_is_err_and}
-use Rattle.pgn_game.proofs.Common.{item_of, ArePlayed, Stops, main_words, IsMainLine}
+use Rattle.pgn_game.proofs.Common.{item_of, Stops, main_words}
 use Rattle.pgn_game.proofs.replays.KeptSteps.{kept_all}
 use Rattle.pgn_game.proofs.OneReplay.{line_length}
 use Rattle.pgn_game.proofs.RunFacts.{runs_played, stops_faulty}

@@ -1,5 +1,5 @@
 use Rattle.std.proofs.Common.{◌+◌, ◌∷◌, [], drop, inl, inr, refl, map, sym, subst, ap, ◌∙◌, arith}
-use Rattle.pgn_game.proofs.Common.{err_from_is_err_and, item_of, main_words, HasWalked, KeepsLine}
+use Rattle.pgn_game.proofs.Common.{err_from_is_err_and, item_of, main_words, KeepsLine}
 use Rattle.pgn_game.proofs.OneReplay.{line_length}
 use Rattle.pgn_game.proofs.WalkFacts.{walk_begins, stuck_at, items_step, items_end}
 use Rattle.pgn_game.proofs.replays.main_line.play_beginning.Goals as goal

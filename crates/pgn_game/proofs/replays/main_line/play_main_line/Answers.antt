@@ -1,5 +1,5 @@
 use Rattle.pgn_game.proofs.Common.{◌+◌, ◌∷◌, [], drop, map, sym, subst, ap, ◌∙◌, arith, append-nil}
-use Rattle.pgn_game.proofs.Common.{err_from_is_err_and, item_of, main_words, IsMainLine, HasWalked}
+use Rattle.pgn_game.proofs.Common.{err_from_is_err_and, item_of, main_words, IsMainLine}
 use Rattle.pgn_game.proofs.Common.{KeepsLine}
 use Rattle.pgn_game.proofs.OneReplay.{line_length}
 use Rattle.pgn_game.proofs.WalkFacts.{walk_begins, stuck_at, items_step, items_end}

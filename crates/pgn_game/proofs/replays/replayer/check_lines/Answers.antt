@@ -1,7 +1,7 @@
-use Rattle.std.proofs.Common.{List, [], MatchResult, refl, subst, sym, inr}
-use Rattle.pgn_game.proofs.Common.{IfSome, IfSome_then, MatchResult-weaker, err_from_is_err_and}
-use Rattle.pgn_game.proofs.Common.{tag_in, Item, main_words, IsMainLine, ArePlayed, fen_tag}
-use Rattle.pgn_game.proofs.Common.{IsStart, IsFault, IsMoveFault, HaveFault, IsSoundGame, fault_of}
+use Rattle.std.proofs.Common.{List, [], refl, subst, sym, inr}
+use Rattle.pgn_game.proofs.Common.{IfSome_then, MatchResult-weaker, err_from_is_err_and}
+use Rattle.pgn_game.proofs.Common.{tag_in, Item, ArePlayed, fen_tag}
+use Rattle.pgn_game.proofs.Common.{HaveFault, IsSoundGame, fault_of}
 use Rattle.pgn_game.proofs.AnAnswer.{played_sound}
 use Rattle.pgn_game.proofs.replays.replayer.check_lines.Goals as goal
 

@@ -1,5 +1,5 @@
-use Rattle.pgn_game.proofs.Common.{[], refl, inr, IfSome_then, MatchResult-weaker, tag_in}
-use Rattle.pgn_game.proofs.Common.{main_words, IsMainLine, fen_tag, IsStart, IsMoveFault, fault_of}
+use Rattle.pgn_game.proofs.Common.{[], refl, inr, IfSome_then, MatchResult-weaker}
+use Rattle.pgn_game.proofs.Common.{fault_of}
 use Rattle.pgn_game.proofs.replays.replayer.count_plies.Goals as goal
 
 pub returns : goal.returns

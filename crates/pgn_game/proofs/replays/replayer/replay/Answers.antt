@@ -1,6 +1,6 @@
 use Rattle.pgn_game.proofs.Common.{sym, subst, inr, MatchResult, IfSome, IfSome_then}
-use Rattle.pgn_game.proofs.Common.{MatchResult-weaker, tag_in, main_words, IsMainLine, ArePlayed}
-use Rattle.pgn_game.proofs.Common.{fen_tag, IsStart, IsMoveFault, HaveFault, IsFault, IsReplay}
+use Rattle.pgn_game.proofs.Common.{MatchResult-weaker, tag_in, ArePlayed}
+use Rattle.pgn_game.proofs.Common.{fen_tag, HaveFault, IsFault, IsReplay}
 use Rattle.pgn_game.proofs.Common.{fault_of}
 use Rattle.pgn_game.proofs.replays.replayer.replay.Goals as goal
 

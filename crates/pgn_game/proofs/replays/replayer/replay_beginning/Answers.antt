@@ -1,5 +1,5 @@
-use Rattle.pgn_game.proofs.Common.{inr, IfSome_then, MatchResult-weaker, tag_in, main_words}
-use Rattle.pgn_game.proofs.Common.{IsBeginning, fen_tag, IsStart, IsMoveFault, fault_of}
+use Rattle.pgn_game.proofs.Common.{inr, IfSome_then, MatchResult-weaker}
+use Rattle.pgn_game.proofs.Common.{fault_of}
 use Rattle.pgn_game.proofs.replays.replayer.replay_beginning.Goals as goal
 
 pub returns : goal.returns

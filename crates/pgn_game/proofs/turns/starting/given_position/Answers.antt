@@ -1,4 +1,4 @@
-use Rattle.pgn_game.proofs.Common.{refl, IsRefused}
+use Rattle.pgn_game.proofs.Common.{refl}
 use Rattle.pgn_game.proofs.turns.starting.given_position.Goals as goal
 
 pub returns : goal.returns

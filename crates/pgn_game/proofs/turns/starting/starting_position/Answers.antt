@@ -1,6 +1,5 @@
 use Rattle.std.specs.Prelude.{Some, None}
-use Rattle.pgn_game.proofs.Common.{◌≡◌, IfSome, MatchResult, fen_tag, IsStart}
-use Rattle.pgn_game.proofs.Common.{IsBadStart, BadStart, fault_of}
+use Rattle.pgn_game.proofs.Common.{fen_tag}
 use Rattle.pgn_game.proofs.Tags.{tag_found}
 use Rattle.pgn_game.proofs.turns.starting.starting_position.Goals as goal
 

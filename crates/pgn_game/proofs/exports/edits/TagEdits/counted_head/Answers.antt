@@ -1,7 +1,6 @@
 -- The edit of PlyCount is the last one, where plies are counted.
 use Rattle.std.proofs.lemmas.Result.{IfOk-weaker}
-use Rattle.std.specs.Prelude.{option_map}
-use Rattle.pgn_game.proofs.Common.{◌≡◌, ◌∙◌, [], sym, ap, subst, Some, codes, tag_in, fen_tag}
+use Rattle.pgn_game.proofs.Common.{◌∙◌, [], sym, ap, subst, Some, codes}
 use Rattle.pgn_game.proofs.Common.{length, main_words, IsContents, decimal}
 use Rattle.pgn_game.specs.Public.Edits.{AreEditable, Edits, IsEditedBy, all_edits, ply_count}
 use Rattle.pgn_text.specs.Public.GameTexts.{GameText, IsRetagged}

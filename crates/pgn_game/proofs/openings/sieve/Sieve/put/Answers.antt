@@ -1,5 +1,5 @@
 -- The bit of the place is set in its word.
-use Rattle.pgn_game.proofs.Common.{◌∙◌, ap, sym, subst, arith, ◌≡◌, ◌<◌, ℕ, length}
+use Rattle.pgn_game.proofs.Common.{◌∙◌, ap, sym, subst, arith, ◌≡◌, ◌<◌, length}
 use Rattle.std.proofs.Common.{◌^◌, ◌*◌, ◌/◌, ◌%◌, true, slice_set, bit_or}
 use Rattle.std.proofs.lemmas.List.{get_or_default}
 use Rattle.pgn_game.specs.Private.Filing.{has_place}

@@ -1,5 +1,4 @@
-use Rattle.pgn_game.proofs.Common.{refl, inl, IfSome, IfSome_then, err_from_is_err_and}
-use Rattle.pgn_game.proofs.Common.{IsMoveFault, PlayedLine, fault_of}
+use Rattle.pgn_game.proofs.Common.{refl, inl, IfSome_then, err_from_is_err_and}
 use Rattle.pgn_game.proofs.replays.played_line.MainLine.push_next.Goals as goal
 
 pub returns-in_err-m-clause-fault : goal.returns-in_err-m-clause-fault
