@@ -340,9 +340,9 @@ const EDITS: &[Choice] = &[
     ),
     choice!(
         "order",
-        Takes::Text("TAG,TAG.."),
-        "Write these tags first after the roster, in this\n\
-         order, where a game has them",
+        Takes::Text("TAGS"),
+        "Write these tags, with commas between, first after\n\
+         the roster, in this order, where a game has them",
     ),
     choice!(
         "to-ply",
