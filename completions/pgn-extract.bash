@@ -11,7 +11,8 @@ _pgn_extract() {
         _pgn_extract_criteria "$word"
         return
         ;;
-    --min-ply | --max-ply | --from | --until | --set | --drop | -w | --width) return ;;
+    --min-ply | --max-ply | --from | --until | --set | --drop | --order | --to-ply | \
+        -w | --width) return ;;
     esac
     if [[ $word == -* ]]; then
         mapfile -t COMPREPLY < <(compgen -W "$_pgn_extract_options" -- "$word")

@@ -13,7 +13,8 @@ CALL = re.compile(r"(\w+::|\.)?\b(\w+)(?:::<[^()]*>)?\(")
 
 @dataclass(frozen=True)
 class Caller:
-    """A function that calls another: its crate, its name, whether it has a contract, whether it is an example, and whether it is a test."""
+    """A function that calls another: its crate, its name, and whether it has a contract, is an
+    example, or is a test."""
     crate: str
     name: str
     is_proved: bool
@@ -63,15 +64,20 @@ def each_with_callers(tree, calls):
             if function.trait in ("", "trait"):
                 is_call = is_call_of_member if function.owner else is_call_of_function
                 found = [it for it in calls.by_name.get(function.name, []) if it.function is not function and is_call(calls, crate, file, function, it)]
-                by_name = {name_of(tree.crates.get(it.crate, tree.tests), it.file, it.function): it for it in found}
-                yield (crate, file, function), [caller(tree, name, it) for name, it in sorted(by_name.items())]
+                by_name = {}
+                for it in found:
+                    by_name[name_of(tree.crates.get(it.crate, tree.tests), it.file, it.function)] = it
+                callers = [caller(tree, name, it) for name, it in sorted(by_name.items())]
+                yield (crate, file, function), callers
 
 
 def caller(tree, name, call):
-    """Who makes the call; a function that a trait asks for has the contract that stands there, but for one of a test."""
+    """Who makes the call; a function that a trait asks for has the contract that stands there, but
+    for one of a test."""
     is_test = call.crate == tree.tests.name
-    is_proved = not is_test and (bool(call.function.clauses) or call.function.trait not in ("", "trait"))
-    return Caller(call.crate, name, is_proved, not is_test and call.file.module == EXAMPLES, is_test)
+    has_contract = bool(call.function.clauses) or call.function.trait not in ("", "trait")
+    is_example = not is_test and call.file.module == EXAMPLES
+    return Caller(call.crate, name, not is_test and has_contract, is_example, is_test)
 
 
 def is_call_of_member(calls, crate, file, function, call):
@@ -108,7 +114,9 @@ def wants(function):
 
 
 def unproved(tree):
-    """The names of public functions that want something of their callers, and that tests alone call."""
+    """The names of public functions that want something of their callers, and that tests alone
+    call."""
     for (crate, file, function), callers in callers_by_function(tree):
-        if wants(function) and callers and all(it.is_test for it in callers) and file.module != EXAMPLES:
+        are_tests = callers and all(it.is_test for it in callers)
+        if wants(function) and are_tests and file.module != EXAMPLES:
             yield name_of(crate, file, function)
