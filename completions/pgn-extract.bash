@@ -29,53 +29,59 @@ _pgn_extract_options='--list --fen --next --rows --csv --tsv --jsonl --no-header
     --moves --uci --pack --criteria --where --openings --min-ply --max-ply --first --tags-first
     --others --faulty --as-is -C --no-comments --keep-commands --strip-commands -N --no-glyphs -V
     --no-variations --roster -w --width --set --drop --fix-results --plycount --order --to-ply
-    --explain --summary --progress --no-progress --from --until --at --with-names --no-names -h
-    --help --version'
+    --from-position --explain --summary --progress --no-progress --from --until --at --with-names
+    --no-names -h --help --version'
 # Takes out what the program refuses beside an option.
 _pgn_extract_excluded() {
     case $1 in
     --list) _pgn_extract_without --rows --csv --tsv --jsonl --no-header --index --moves --uci \
-        --pack --others --faulty --as-is --set --drop --fix-results --plycount --order --to-ply ;;
+        --pack --others --faulty --as-is --set --drop --fix-results --plycount --order --to-ply \
+        --from-position ;;
     --fen) _pgn_extract_without --rows --csv --tsv --jsonl --no-header --index --moves --uci \
-        --pack --others --faulty --as-is --set --drop --fix-results --plycount --order --to-ply ;;
+        --pack --others --faulty --as-is --set --drop --fix-results --plycount --order --to-ply \
+        --from-position ;;
     --next) _pgn_extract_without --rows --csv --tsv --jsonl --no-header --index --moves --uci \
-        --pack --others --faulty --as-is --set --drop --fix-results --plycount --order --to-ply ;;
+        --pack --others --faulty --as-is --set --drop --fix-results --plycount --order --to-ply \
+        --from-position ;;
     --rows) _pgn_extract_without --list --fen --next --index --moves --uci --pack --others \
-        --faulty --as-is --set --drop --fix-results --plycount --order --to-ply ;;
+        --faulty --as-is --set --drop --fix-results --plycount --order --to-ply --from-position ;;
     --csv) _pgn_extract_without --list --fen --next --tsv --jsonl --index --moves --uci --pack \
-        --others --faulty --as-is --set --drop --fix-results --plycount --order --to-ply ;;
+        --others --faulty --as-is --set --drop --fix-results --plycount --order --to-ply \
+        --from-position ;;
     --tsv) _pgn_extract_without --list --fen --next --csv --jsonl --index --moves --uci --pack \
-        --others --faulty --as-is --set --drop --fix-results --plycount --order --to-ply ;;
+        --others --faulty --as-is --set --drop --fix-results --plycount --order --to-ply \
+        --from-position ;;
     --jsonl) _pgn_extract_without --list --fen --next --csv --tsv --index --moves --uci --pack \
-        --others --faulty --as-is --set --drop --fix-results --plycount --order --to-ply ;;
+        --others --faulty --as-is --set --drop --fix-results --plycount --order --to-ply \
+        --from-position ;;
     --no-header) _pgn_extract_without --list --fen --next --index --moves --uci --pack --others \
-        --faulty --as-is --set --drop --fix-results --plycount --order --to-ply ;;
-    --packed) _pgn_extract_without --moves --uci --pack --openings --tags-first --others --faulty \
-        --as-is --set --drop --fix-results --plycount --order --to-ply --from --until --at \
+        --faulty --as-is --set --drop --fix-results --plycount --order --to-ply --from-position ;;
+    --packed) _pgn_extract_without --moves --uci --pack --tags-first --others --faulty --as-is \
+        --set --drop --fix-results --plycount --order --to-ply --from-position --from --until --at \
         --with-names --no-names ;;
     --index) _pgn_extract_without --list --fen --next --rows --csv --tsv --jsonl --no-header \
         --moves --uci --pack --tags-first --others --faulty --as-is --set --drop --fix-results \
-        --plycount --order --to-ply ;;
+        --plycount --order --to-ply --from-position ;;
     --moves) _pgn_extract_without --list --fen --next --rows --csv --tsv --jsonl --no-header \
         --packed --index --uci --pack --faulty --as-is --set --drop --fix-results --plycount \
-        --order --to-ply ;;
+        --order --to-ply --from-position ;;
     --uci) _pgn_extract_without --list --fen --next --rows --csv --tsv --jsonl --no-header \
         --packed --index --moves --pack --faulty --as-is --set --drop --fix-results --plycount \
-        --order --to-ply ;;
+        --order --to-ply --from-position ;;
     --pack) _pgn_extract_without --list --fen --next --rows --csv --tsv --jsonl --no-header \
         --packed --index --moves --uci --tags-first --faulty --as-is -C --no-comments \
         --keep-commands --strip-commands -N --no-glyphs -V --no-variations --roster -w --width \
-        --set --drop --fix-results --plycount --order --to-ply ;;
-    --openings) _pgn_extract_without --packed --tags-first ;;
+        --set --drop --fix-results --plycount --order --to-ply --from-position ;;
+    --openings) _pgn_extract_without --tags-first ;;
     --tags-first) _pgn_extract_without --packed --index --pack --openings --others --faulty ;;
     --others) _pgn_extract_without --list --fen --next --rows --csv --tsv --jsonl --no-header \
-        --packed --index --tags-first --faulty ;;
+        --packed --index --tags-first --faulty --from-position ;;
     --faulty) _pgn_extract_without --list --fen --next --rows --csv --tsv --jsonl --no-header \
         --packed --index --moves --uci --pack --tags-first --others --set --drop --fix-results \
-        --plycount --order --to-ply ;;
+        --plycount --order --to-ply --from-position ;;
     --as-is) _pgn_extract_without --list --fen --next --rows --csv --tsv --jsonl --no-header \
         --packed --index --moves --uci --pack --set --drop --fix-results --plycount --order \
-        --to-ply ;;
+        --to-ply --from-position ;;
     -C | --no-comments) _pgn_extract_without --pack ;;
     --keep-commands) _pgn_extract_without --pack --strip-commands ;;
     --strip-commands) _pgn_extract_without --pack --keep-commands ;;
@@ -95,6 +101,8 @@ _pgn_extract_excluded() {
         --packed --index --moves --uci --pack --faulty --as-is ;;
     --to-ply) _pgn_extract_without --list --fen --next --rows --csv --tsv --jsonl --no-header \
         --packed --index --moves --uci --pack --faulty --as-is ;;
+    --from-position) _pgn_extract_without --list --fen --next --rows --csv --tsv --jsonl \
+        --no-header --packed --index --moves --uci --pack --others --faulty --as-is ;;
     --progress) _pgn_extract_without --no-progress ;;
     --no-progress) _pgn_extract_without --progress ;;
     --from) _pgn_extract_without --packed ;;

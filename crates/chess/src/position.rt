@@ -194,7 +194,7 @@ impl<B: Board> Position<B> {
     }
 
     /// The halfmove clock.
-    pub(crate) fn clock(&self) -> u32
+    pub fn clock(&self) -> u32
         ensures { result ≡ self.now.halfmove_clock }
     {
         self.halfmove_clock

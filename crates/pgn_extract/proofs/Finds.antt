@@ -12,7 +12,8 @@ use Rattle.pgn_extract.proofs.Common.{meets_at, Aim, GameId, IsWanted, IsEntry, 
 use Rattle.pgn_extract.proofs.Common.{AreListed, none, keep, leave, Entry, entry_line}
 use Rattle.pgn_extract.proofs.Common.{listing, IsOfGame, AsksFor, named_mark, AddsEntries}
 use Rattle.pgn_extract.proofs.Common.{StopsAtFault, MeetsHere, GoesTo, IsNeverMet, HandsOn}
-use Rattle.pgn_extract.proofs.Common.{NoneBefore, Stands, marked_lines, or_some}
+use Rattle.pgn_extract.proofs.Common.{NoneBefore, Stands, marked_lines, or_some, None}
+use Rattle.pgn_extract.specs.Private.Lines.{first_ply}
 use Rattle.pgn_extract.specs.Private.Lines.{EachReplay, Finds}
 use Rattle.pgn_extract.specs.Public.Listing.{Shown, IsShownOf}
 use Rattle.pgn_extract.proofs.Chosen.{entry_at}
@@ -350,6 +351,30 @@ some_chosen id P S ply (Q ∷ positions) entries (leave own all chosen fails mor
       | inl under ↦ (n, omega (arith, under), omega (arith, high), is)
       | inr over ↦ let same : n ≡ ply = omega (arith, low, over) in absurd (fails (subst P same is))
     ]
+
+-- this number is one within the bounds that has the fact, or none has it
+abbrev pub IsFirstOf : (ℕ → Type 0) → ℕ → ℕ → Option ℕ → Type 0
+IsFirstOf P low high None = (n : ℕ) → low ≤ n → n < high → P n → ⊥
+IsFirstOf P low high (Some n) = (low ≤ n) × (n < high) × P n
+
+-- the first entry that is chosen is one, and where none is chosen none has the fact
+pub first_chosen : (id : GameId) (P : ℕ → Type 0) (S : ℕ → Shown → Type 0) (ply : ℕ)
+    (positions : List State) (entries : List Entry)
+    → AreChosen id P S (plies_of ply positions) entries
+    → IsFirstOf P ply (ply + length positions) (first_ply None entries)
+first_chosen id P S ply [] entries none = λ n low high is. omega (arith, low, high)
+first_chosen id P S ply (Q ∷ positions) entries (keep own shown all chosen is shows more) =
+    (omega arith, omega arith, is)
+first_chosen id P S ply (Q ∷ positions) entries (leave own all chosen fails more) =
+    by (first_ply None entries) (first_chosen id P S (ply + 1) positions chosen more)
+  where
+    by : (found : Option ℕ) → IsFirstOf P (ply + 1) (ply + 1 + length positions) found
+        → IsFirstOf P ply (ply + length (Q ∷ positions)) found
+    by None without = λ n low high is. elim (cases_lt ply n) [
+      | inl under ↦ without n (omega (arith, under)) (omega (arith, high)) is
+      | inr over ↦ let same : n ≡ ply = omega (arith, low, over) in fails (subst P same is)
+    ]
+    by (Some n) (low, high, is) = (omega (arith, low), omega (arith, high), is)
 
 -- a result of which both is known
 pub on_result : {T E : Type 0} (r : Result T E) (P : Type 0) (Q : E → Type 0) → OnOk r P → IfErr r Q

@@ -1,9 +1,11 @@
 -- The main line of a game is one, whichever replay of the game is taken.
-use Rattle.pgn_extract.proofs.Common.{◌≡◌, ◌↔◌, ℕ, ◌+◌, ◌≤◌, Bool, List, ◌∷◌, ◌++◌, [], length}
-use Rattle.pgn_extract.proofs.Common.{Option, None, IsTrue, refl, sym, ap, ◌∙◌, subst, arith, State}
+use Rattle.pgn_extract.proofs.Common.{◌≡◌, ℕ, ◌+◌, ◌<◌, ◌≤◌, List, ◌∷◌, ◌++◌, [], length}
+use Rattle.pgn_extract.proofs.Common.{MatchOption, Option, None, Some, refl, sym, ap, ◌∙◌, subst}
+use Rattle.pgn_extract.proofs.Common.{arith, State}
 use Rattle.pgn_extract.proofs.Common.{GameText, tag_in, Fault, IsFault, main_words, IsMainLine}
 use Rattle.pgn_extract.proofs.Common.{Replay, IsReplay, Main, fen_tag, Conditions, heading_of, Aim}
-use Rattle.pgn_extract.proofs.Common.{IsMet, HasEntry, IsOfGame, Stands}
+use Rattle.pgn_extract.proofs.Common.{IsMet, IsWanted, IsOfGame, Stands}
+use Rattle.pgn_extract.specs.Public.Exports.{IsFirstOrNone}
 use Rattle.pgn_game.proofs.OneReplay.{line_length, no_fault, one_line, one_start}
 
 -- the main line of a game is the same in each replay
@@ -24,24 +26,16 @@ pub stands_main : (game : GameText) (replay : Replay)
 stands_main game replay is before P rest parts other own =
     (rest, sym (one_main game replay other (Main, is) own).0 ∙ parts)
 
--- without criteria each ply within the bounds is wanted
-pub within_entry : (aim : Aim) (game : GameText) (replay other : Replay) (plies : ℕ) (found : Bool)
-    → aim.criteria ≡ None
+-- without criteria the first ply within the bounds is the first that is wanted
+pub first_within : (aim : Aim) (game : GameText) (replay other : Replay) (plies : ℕ)
+    (found : Option ℕ) → aim.criteria ≡ None
     → IsReplay Main (tag_in fen_tag game.tags) game.elements replay → length replay.played ≡ plies
     → IsOfGame game other
-    → (IsTrue found ↔ ((ply : ℕ) × (ply ≤ plies) × (aim.min_ply ≤ ply) × (ply ≤ aim.max_ply)))
-    → IsTrue found ↔ HasEntry aim (heading_of game) other
-within_entry aim game replay other plies found plain is count own within = (
-  (λ yes. let (ply, low, least, most) = within.0 yes in (
-    aim.min_ply,
-    omega (arith, size, count, low, least),
-    (
-      (omega arith, omega (arith, least, most), met aim.min_ply),
-      (λ only before less wanted. let low = wanted.0 in omega (arith, less, low)),
-    ),
-  )),
-  (λ has. within.1 (has.0, omega (arith, size, count, has.1), has.2.0.0, has.2.0.1)),
-)
+    → MatchOption found
+    ((ply : ℕ) → ply ≤ plies → aim.min_ply ≤ ply → ply ≤ aim.max_ply → ⊥)
+    (λ first. (first ≡ aim.min_ply) × (first ≤ plies) × (first ≤ aim.max_ply))
+    → IsFirstOrNone aim (heading_of game) other found
+first_within aim game replay other plies found plain is count own = by found
   where
     size : length other.positions ≡ length replay.played + 1
     size = ap length (sym (one_main game replay other (Main, is) own).0)
@@ -51,6 +45,18 @@ within_entry aim game replay other plies found plain is count own within = (
     met ply =
         subst (λ (criteria : Option (List Conditions)).
         IsMet criteria (heading_of game) other ply) (sym plain) (record {})
+
+    by : (first : Option ℕ) → MatchOption first
+        ((ply : ℕ) → ply ≤ plies → aim.min_ply ≤ ply → ply ≤ aim.max_ply → ⊥)
+        (λ own. (own ≡ aim.min_ply) × (own ≤ plies) × (own ≤ aim.max_ply))
+        → IsFirstOrNone aim (heading_of game) other first
+    by None none = λ ply less wanted.
+        none ply (omega (arith, size, count, less)) wanted.0 wanted.1
+    by (Some ply) (least, few, most) = (
+      omega (arith, size, count, few),
+      (omega (arith, least), most, met ply),
+      λ before less wanted. let low = wanted.0 in omega (arith, least, less, low),
+    )
 
 -- a game whose main line has a fault is sound in none of its lines
 pub main_fault : (game : GameText) (fault : Fault)

@@ -9,7 +9,10 @@ use Rattle.pgn_game.specs.Public.Replays.{Replay}
 use Rattle.pgn_game.specs.declared.openings.Opening.{Opening}
 use Rattle.pgn_game.specs.declared.replays.replayer.Lines.TheVariants.{Main}
 use Rattle.pgn_game.proofs.laws.OneOpening.{one_or_none}
+use Rattle.pgn_game.specs.Public.PackReading.{RawRecord}
+use Rattle.pgn_game.specs.Public.PackedGames.{PackedGame}
 use Rattle.pgn_extract.specs.Private.Finding.{IsOfGame}
+use Rattle.pgn_extract.specs.Private.Packed.{EachOfRecord, IsOfRecord}
 use Rattle.pgn_extract.specs.Public.Rows.{IsOpeningBy, IsOpeningCell, opening_cell}
 use Rattle.pgn_extract.proofs.OneMain.{one_main}
 use Rattle.pgn_extract.proofs.SomeCounted.{some_opening}
@@ -42,3 +45,13 @@ pub opening_there : (lines : List NamedLine) (game : GameText) (opening : Option
 opening_there lines game opening (other, is, found) replay of =
     subst (λ ps. IsOpeningIn (ends_of lines) ps opening)
     (one_main game other replay (Main, is) of).0 found
+
+-- and that of a record that of each replay of the games that have it
+pub opening_of_record : (raw : RawRecord) (lines : List NamedLine) (opening : Option Opening)
+    → EachOfRecord raw (λ game replay packed. IsOpeningBy (Some lines) replay.positions opening)
+    → (game : GameText) (replay : Replay) (packed : PackedGame)
+    → IsOfRecord raw game replay packed → (other : Replay) → IsOfGame game other
+    → IsOpeningBy (Some lines) other.positions opening
+opening_of_record raw lines opening found game replay packed own other of =
+    subst (λ ps. IsOpeningIn (ends_of lines) ps opening)
+    (one_main game replay other (Main, own.is_replay) of).0 (found game replay packed own)

@@ -15,7 +15,8 @@ use Rattle.pgn_extract.proofs.Common.{IsOfRecord, HasNoText, EachOfRecord, NoneI
 use Rattle.pgn_extract.proofs.Common.{true, AreRecordLines, IsOfNoGame, IsRecordListing, Mode}
 use Rattle.pgn_game.proofs.RecordFacts.{plies_size}
 use Rattle.pgn_game.proofs.RecordWriting.{codes_count}
-use Rattle.pgn_extract.specs.Private.Packed.{PutsRecord, HasItsMarks, Grows, ListsRecord}
+use Rattle.pgn_extract.specs.Private.Packed.{PutsRecord, HasItsMarks, Grows, ListsCounted}
+use Rattle.pgn_extract.specs.Private.Packed.{ListsRecord}
 use Rattle.pgn_extract.specs.Private.Packed.{HasNoEntry, bare_aim}
 use Rattle.pgn_extract.specs.Public.Listing.{IsShownOf, IsShownBy, Shown, AfterPly, AsRow}
 use Rattle.pgn_extract.specs.Private.Lines.{is_bare}
@@ -161,7 +162,7 @@ none_listed aim raw fields line lists game replay packed own n within entry =
     no_lines raw.name (raw_id raw) (IsEntry aim (heading_of game) replay)
     (IsShownOf (record_aim aim raw) (raw_id raw) game replay)
     (λ ply shown is. is_marked aim.line fields line
-    (place_of raw.name None (raw_id raw) game replay ply) shown is)
+    (place_of raw.name aim.openings (raw_id raw) game replay ply) shown is)
     (plies_of 0 replay.positions) entries listed (sym text)
     (some.1 (n, omega arith, omega (arith, within), entry))
 
@@ -206,9 +207,9 @@ listed_lines aim packed text (inl list) listed =
 listed_lines aim packed text (inr export) listed =
     subst (λ (m : Mode). AreRecordLines m aim packed text) (sym export) listed
 
--- the lines of each game that has the record are the lines of the record
+-- the lines of each game that has the record, as it counts, are the lines of the record
 pub puts_record : (aim : Aim) (raw : RawRecord) (old new : List ℕ)
-    → (aim.mode ≡ modes.List) ⊎ (aim.mode ≡ modes.Export) → ListsRecord aim raw old new
+    → (aim.mode ≡ modes.List) ⊎ (aim.mode ≡ modes.Export) → ListsCounted aim raw old new
     → PutsRecord aim raw old new
 puts_record aim raw old new mode lists = (
   lists.0.0,
@@ -218,11 +219,13 @@ puts_record aim raw old new mode lists = (
       record { fits = fits; shows = shows; text = text; is_replay = is_replay; kept = kept } in
       let of = lists.1 game replay packed own in
       let there : (entries : List Entry)
-      × AreListed (record_aim aim (raw_of packed)) (raw_id (raw_of packed)) game replay entries
+      × AreListed (record_aim aim (raw_of packed)) (raw_id (raw_of packed)) of.0 replay entries
       × (new ≡ old ++ listing (raw_of packed).name entries) =
       subst (λ (r : RawRecord). (entries : List Entry)
-      × AreListed (record_aim aim r) (raw_id r) game replay entries
-      × (new ≡ old ++ listing r.name entries)) (sym shows) of in (
+      × AreListed (record_aim aim r) (raw_id r) of.0 replay entries
+      × (new ≡ old ++ listing r.name entries)) (sym shows) (of.2, of.3, of.4) in (
+        of.0,
+        of.1,
         there.0,
         there.1,
         appended_same old lists.0.0 (listing packed.name there.0) (sym lists.0.1 ∙ there.2),

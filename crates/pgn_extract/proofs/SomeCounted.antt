@@ -214,4 +214,4 @@ pub some_counted : (openings : Option (List NamedLine)) (parts : List Part) (gam
 some_counted None parts game made = (game, made)
 some_counted (Some lines) parts game made =
     let some = some_classified lines game made.0 in
-    (some.0, (game, made, some.1, some.2))
+    (some.0, (game, made, (some.1, some.2)))

@@ -53,7 +53,7 @@ found tags name (Some text) wanted = get-insert nat_list_cmp_total tags name tex
     ∙ ap (λ v. cond v (Some text) (get tags wanted)) (same_name name wanted)
     ∙ as_if (bytes_eq name wanted) (Some text) (get tags wanted)
 
-some_retagged : (game : GameText) (name : List ℕ) (contents : Option (List ℕ)) → IsGameText game
+pub some_retagged : (game : GameText) (name : List ℕ) (contents : Option (List ℕ)) → IsGameText game
     → IsTrue (list_all is_name_byte name) → IfSome contents IsContents
     → (other : GameText) × IsGameText other × IsRetagged name contents game other
 some_retagged game name contents good named given =
@@ -77,7 +77,7 @@ some_retagged game name contents good named given =
 
 -- ---- tags edited one after another
 
-first_edited : (edit : EditedTag) (edits : List EditedTag) (game one two : GameText)
+pub first_edited : (edit : EditedTag) (edits : List EditedTag) (game one two : GameText)
     → IsRetagged edit.name edit.contents game one → IsEditedBy edits one two
     → IsEditedBy (edit ∷ edits) game two
 first_edited edit edits game one two first is = record {

@@ -11,6 +11,10 @@ use Rattle.pgn_extract.proofs.Common.{IsGameText, ShowsGame, tag_in, Part, spell
 use Rattle.pgn_extract.proofs.Common.{Lines, Main, fen_tag, id_of, IfChosen, is_chosen}
 use Rattle.pgn_extract.proofs.Common.{fault_text, mark_line, IsGameOf, listing, plies_of}
 use Rattle.pgn_extract.proofs.Common.{cause_text, IsReplayOf, Form, Standard, AsItStands}
+use Rattle.pgn_extract.proofs.Common.{FromEntry, None, Some}
+use Rattle.pgn_extract.proofs.FieldTexts.{some_position}
+use Rattle.pgn_extract.proofs.LaterGames.{main_sound, some_later}
+use Rattle.pgn_game.proofs.BegunGames.{later_sound}
 use Rattle.pgn_extract.proofs.Common.{Line, Record, line_with, lines_in, written_lines, HasEntry}
 use Rattle.pgn_extract.proofs.Common.{IsTextOf, IsWritten, selected, unselected, as_it_stands}
 use Rattle.pgn_extract.proofs.Common.{faulty_text, Verdict, SoundGame, FaultyGame, IsOutput}
@@ -96,17 +100,18 @@ wanted_or_not aim tags replay ply met = elim (cases_lt ply aim.min_ply) [
   ]
 ]
 
--- none before a ply is wanted, or one is
+-- none before a ply is wanted, or one is first
 pub none_before : (aim : Aim) (tags : Heading) (replay : Replay) (ply : ℕ)
     → ((n : ℕ) → n < ply → IsMet aim.criteria tags replay n
     ⊎ (IsMet aim.criteria tags replay n → ⊥)) → ((n : ℕ) → n < ply → IsWanted aim tags replay n → ⊥)
-    ⊎ ((n : ℕ) × (n < ply) × IsWanted aim tags replay n)
+    ⊎ ((n : ℕ) × (n < ply) × IsWanted aim tags replay n
+    × ((m : ℕ) → m < n → IsWanted aim tags replay m → ⊥))
 none_before aim tags replay zero met = inl (λ n less wanted. omega arith)
 none_before aim tags replay (suc ply) met =
     elim (none_before aim tags replay ply (λ n less. met n (omega arith))) [
-      | inr (n, less, wanted) ↦ inr (n, omega arith, wanted)
+      | inr (n, less, wanted, least) ↦ inr (n, omega arith, wanted, least)
       | inl none ↦ elim (wanted_or_not aim tags replay ply (met ply (omega arith))) [
-        | inl wanted ↦ inr (ply, omega arith, wanted)
+        | inl wanted ↦ inr (ply, omega arith, wanted, none)
         | inr fails ↦ inl (λ n less wanted. elim (cases_lt n ply) [
           | inl under ↦ none n under wanted
           | inr above ↦ let same : n ≡ ply = omega arith in
@@ -127,7 +132,7 @@ entry_or_not aim tags replay ply met =
         | inr every ↦ inl (wanted, λ first before less earlier. both_ways aim.first every first)
         | inl first ↦ elim (none_before aim tags replay ply (λ n less. met n (omega arith))) [
           | inl none ↦ inl (wanted, λ only. none)
-          | inr (n, less, earlier) ↦ inr (λ entry. entry.1 first n less earlier)
+          | inr (n, less, earlier, least) ↦ inr (λ entry. entry.1 first n less earlier)
         ]
       ]
     ]
@@ -175,6 +180,23 @@ module _ (aim : Aim) (decided : IsDecided aim) (id : GameId) (game : GameText)
       → (own : List ℕ) × IsTextOf form aim id game own
   some_text Standard replay is =
       some_edited_export aim.edits aim.style game text (replay, is)
+  some_text FromEntry replay is =
+      let (main, own) =
+      main_sound (lines_with aim.style.variations) (tag_in fen_tag game.tags) game.elements
+      (replay, is) in
+      elim (none_before aim (heading_of game) main (length main.positions) (λ n less.
+      decided Main game main own n less)) [
+        | inl none ↦
+            let some = some_edited_export aim.edits aim.style game text (replay, is) in
+            (some.0, (main, None, game, own, none, refl, some.1))
+        | inr (ply, less, wanted, least) ↦
+            let there = some_position main.positions ply less in
+            let (later, good, begins) = some_later game ply text (there.0, (main, own, there.1)) in
+            let some =
+            some_edited_export aim.edits aim.style later good
+            (later_sound (lines_with aim.style.variations) ply game later (replay, is) begins) in
+            (some.0, (main, Some ply, later, own, (less, wanted, least), begins, some.1))
+      ]
   some_text AsItStands replay is = (as_it_stands game.text, refl)
   some_text (Line notation) replay is =
       let own = some_line notation (tag_in fen_tag game.tags) game.elements (replay, is) in

@@ -1,4 +1,5 @@
 pub mod KeptPackedFacts
 pub mod PackListed
+pub mod Renamed
 pub mod SearchFacts
 pub mod WalkedLines

@@ -1,5 +1,6 @@
 //! The entries of a game, found while its main line is played, or once it is kept.
 ghost use Rattle.std.specs.Prelude.{◌≡◌, ◌≤◌, ◌↔◌, ℕ, true, IsTrue, MatchResult, IfOk, IfSome};
+ghost use Rattle.std.specs.Prelude.{MatchOption};
 ghost use Rattle.pgn_text.specs.Public.GameTexts.{tag_in};
 ghost use Rattle.pgn_game.specs.Public.Faults.{IsFault};
 ghost use Rattle.pgn_game.specs.Public.Replays.{IsSoundGame, fault_of};
@@ -26,7 +27,7 @@ mod sink;
 mod ten_lines;
 
 use crate::entries::finding::Finder;
-use crate::entries::kept::{find_kept, has_kept};
+use crate::entries::kept::{find_kept, first_kept};
 use crate::entries::line_maker::LineMaker;
 use crate::entries::played::{Anything, find_played};
 use crate::entries::row_game::RowGame;
@@ -108,13 +109,18 @@ pub fn push_entries<'a>(
     find_played(&finder, alloc, game, question, text)
 }
 
-/// Whether a main line with so many plies has one within the bounds.
-fn is_within(settings: &Settings, plies: usize) -> bool
-    ensures { IsTrue result
-        ↔ ((ply : ℕ) × (ply ≤ plies) × (settings.now.min_ply ≤ ply)
-        × (ply ≤ settings.now.max_ply)) }
+/// The least of so many plies within the bounds; none where none is.
+fn first_within(settings: &Settings, plies: usize) -> Option<usize>
+    ensures { MatchOption result
+        ((ply : ℕ) → ply ≤ plies → settings.now.min_ply ≤ ply → ply ≤ settings.now.max_ply → ⊥)
+        (λ first. (first ≡ settings.now.min_ply) × (first ≤ plies)
+        × (first ≤ settings.now.max_ply)) }
 {
-    settings.min_ply <= settings.max_ply && settings.min_ply as usize <= plies
+    let first = settings.min_ply as usize;
+    if settings.min_ply <= settings.max_ply && first <= plies {
+        return Some(first);
+    }
+    None
 }
 
 /// Whether by its tags and its result a game can have no entry: they meet those conditions of no
@@ -146,22 +152,22 @@ pub fn is_ruled_out<'a>(settings: &'a Settings, game: &RawGame<'a>) -> bool
         && has_no_chance(&settings.criteria, game)
 }
 
-/// Whether a game has an entry, or the fault of its main line.
-pub fn has_entry<'a>(
+/// The ply of the first entry of a game, none where it has none; or the fault of its main line.
+pub fn first_entry<'a>(
     alloc: Global,
     settings: &'a Settings,
     game: &RawGame<'a>,
-) -> Result<bool, GameFault<'a>>
+) -> Result<Option<usize>, GameFault<'a>>
     ensures { MatchResult result
         (IsChosen (aim_of settings.now) game.now)
         (λ fault.
         IfSome (fault_of fault) (IsFault Main (tag_in fen_tag game.now.tags) game.now.elements)) }
 {
     let Some(criteria) = &settings.criteria else {
-        return Ok(is_within(settings, count_plies(alloc, game)?));
+        return Ok(first_within(settings, count_plies(alloc, game)?));
     };
     let Some(question) = criteria.watch(alloc, game)? else {
-        return has_kept(alloc, settings, criteria, game);
+        return first_kept(alloc, settings, criteria, game);
     };
     let finder = Finder {
         settings,
@@ -170,7 +176,7 @@ pub fn has_entry<'a>(
         mark: Vec::new(alloc),
         is_sound: false,
     };
-    let mut found = false;
-    find_played(&finder, alloc, game, question, &mut found)?;
-    Ok(found)
+    let mut first = None;
+    find_played(&finder, alloc, game, question, &mut first)?;
+    Ok(first)
 }

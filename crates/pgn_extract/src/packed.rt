@@ -1,5 +1,5 @@
 //! The entries of a packed game: a walk over the codes of its plies shows its positions.
-ghost use Rattle.std.specs.Prelude.{◌≡◌, ◌≢◌, ◌++◌, true, false, Some, None, codes};
+ghost use Rattle.std.specs.Prelude.{◌≡◌, ◌≢◌, ◌<◌, ◌++◌, true, false, Some, None, codes, length};
 ghost use Rattle.std.specs.Prelude.{MatchOption, OnOk, IfOk, IfErr, IfSome};
 ghost use Rattle.pgn_text.specs.Public.GameTexts.{tag_in};
 ghost use Rattle.pgn_game.specs.Public.Faults.{Fault};
@@ -19,9 +19,11 @@ ghost use Rattle.pgn_extract.specs.Private.Packed.{HasNoText, ShowsInitial, Star
 ghost use Rattle.pgn_extract.specs.Private.Packed.{StartsWith, bare_aim, aim_making, HasNoEntry};
 ghost use Rattle.pgn_extract.specs.Private.Lines.{IsEnoughFor, MakesLines};
 ghost use Rattle.pgn_extract.specs.Private.Packed.{NoneInRecord, StandsInRecord, ListsRecord};
+ghost use Rattle.pgn_extract.specs.Private.Packed.{ListsCounted};
+ghost use Rattle.pgn_extract.specs.Public.Rows.{IsOpeningBy};
 ghost use Rattle.pgn_extract.specs.Private.WalkedLines.{AreMetWith, IsMarkedWith};
 
-mod kept_packed;
+pub(crate) mod kept_packed;
 mod marked;
 pub(crate) mod searching;
 mod walked;
@@ -32,14 +34,14 @@ use crate::entries::line_maker::LineMaker;
 use crate::entries::listing::push_lines;
 use crate::marks::GameId;
 use crate::output::texts::{MARK_ROOM, push_mark};
-use crate::packed::kept_packed::{push_kept_record, start_of};
+use crate::packed::kept_packed::{push_kept_record, record_opening, start_of};
 use crate::packed::marked::Marked;
 use crate::packed::walked::Walked;
 use crate::settings::{Fields, Mode, Settings};
 use chess::{Bits, Board, Side};
 use pgn_criteria::{Criteria, MarkSet, Search, Seen, Walk};
-use pgn_game::pack::{CodesError, RawRecord};
-use pgn_game::{GameFault, GamePosition, given_position};
+use pgn_game::pack::{CodesError, RawRecord, read};
+use pgn_game::{GameFault, GamePosition, Opening, Openings, given_position};
 use pgn_text::is_contents;
 use std::alloc::{AllocError, Global};
 
@@ -163,7 +165,8 @@ fn push_found<L: Line + Drop>(
     requires valid { L.Valid start }
     requires shows { IsEnoughFor L.Shows lines }
     requires makes { EachOfRecord context.record.now (λ game replay packed.
-        MakesLines lines context.record.now.name None (raw_id context.record.now) game) }
+        MakesLines lines context.record.now.name context.settings.now.openings
+        (raw_id context.record.now) game) }
     requires stands { StandsInRecord (L.At start) (aim_making context.settings.now lines)
         context.record.now }
     ensures { OnOk result (ListsRecord (aim_making context.entry.settings.now lines.entry)
@@ -544,6 +547,69 @@ fn push_entries<'a>(
     }
 }
 
+/// Adds the lines of the entries of the packed game with this record, which is that of another one
+/// with the tags of its opening. Where that is found to be the record of no game, nothing is added.
+fn push_named<'a>(
+    text: &mut Vec<u8>,
+    context: RecordContext<'a, '_, 'a>,
+    openings: &'a Openings,
+    opening: Opening,
+) -> Result<(), PackedFault>
+    requires held { has_annotations context.settings.now.line ≡ false }
+    requires shows { IsRawOfGame context.record.now }
+    requires openings { context.settings.now.openings ≡ Some openings.now }
+    requires within { opening.line < length openings.now }
+    requires found { EachOfRecord context.record.now (λ game replay packed.
+        IsOpeningBy (Some openings.now) replay.positions (Some opening)) }
+    ensures ok { OnOk result (ListsCounted (aim_of context.entry.settings.now)
+        context.entry.record.now text.old.items text.new.items) }
+    ensures err { IfErr result (λ fault. fault ≡ PackedFault.NoGame
+        → (text.new.items ≡ text.old.items) × HasNoText context.entry.record.now) }
+{
+    let RecordContext {
+        alloc,
+        settings,
+        record,
+    } = context;
+    let bytes = match openings.named_record(alloc, record, opening.line) {
+        Ok(Some(bytes)) => bytes,
+        Ok(None) => return Err(PackedFault::NoGame),
+        Err(_) => return Err(PackedFault::OutOfMemory),
+    };
+    let Ok((own, _)) = read(&bytes) else {
+        unreachable!();
+    };
+    let context = RecordContext {
+        alloc,
+        settings,
+        record: &own,
+    };
+    push_entries(text, context)
+}
+
+/// Adds the lines of the entries of a packed game as it counts by these lines of openings: with the
+/// tags of its opening, which is found first. Where it is found to be the record of no game,
+/// nothing is added.
+fn push_counted<'a>(
+    text: &mut Vec<u8>,
+    context: RecordContext<'a, '_, 'a>,
+    openings: &'a Openings,
+) -> Result<(), PackedFault>
+    requires held { has_annotations context.settings.now.line ≡ false }
+    requires shows { IsRawOfGame context.record.now }
+    requires openings { context.settings.now.openings ≡ Some openings.now }
+    ensures ok { OnOk result (ListsCounted (aim_of context.entry.settings.now)
+        context.entry.record.now text.old.items text.new.items) }
+    ensures err { IfErr result (λ fault. fault ≡ PackedFault.NoGame
+        → (text.new.items ≡ text.old.items) × HasNoText context.entry.record.now) }
+{
+    match record_opening(context.alloc, context.record, openings) {
+        Ok(Some(opening)) => push_named(text, context, openings, opening),
+        Ok(None) => push_entries(text, context),
+        Err(fault) => Err(fault),
+    }
+}
+
 /// Adds the line of a packed game in the index. Its plies are not read.
 fn push_record_line(text: &mut Vec<u8>, record: &RawRecord<'_>) -> Result<(), AllocError>
     ensures { OnOk result (text.new.items ≡ text.old.items
@@ -579,6 +645,9 @@ pub fn push_packed<'a>(
             push_record_line(text, record)?;
             Ok(())
         }
-        Mode::List | Mode::Export => push_entries(text, context),
+        Mode::List | Mode::Export => match &settings.openings {
+            Some(openings) => push_counted(text, context, openings),
+            None => push_entries(text, context),
+        },
     }
 }

@@ -82,6 +82,8 @@ impl EntryLine {
 pub enum Form {
     /// In the standard's format for export.
     Standard,
+    /// In the standard's format, from the position of its first entry on; whole, where it has none.
+    FromEntry,
     /// As it stands, followed by two line feeds.
     AsItStands,
     /// On a line of its own: its mark, the position that it starts from, and the moves of its main

@@ -133,15 +133,16 @@ replayed_none start bytes = record {
 }
 
 -- what is left begins with the move that the code there tells
-record IsNextTold (here : State) (played : List Move) (c : PlyCode) (codes : List PlyCode)
+pub record IsNextTold (here : State) (played : List Move) (c : PlyCode) (codes : List PlyCode)
     (moves : List Move) : Type 0 where
-  m : Move
-  rest : List Move
-  parts : moves ≡ played ++ m ∷ rest
-  legal : IsLegal here m
-  is_told : m ≡ told_move here c
-  later : AreLegalMoves (after here m) rest
-  are : AreCodes (after here m) rest codes
+  pub m : Move
+  pub rest : List Move
+  pub parts : moves ≡ played ++ m ∷ rest
+  pub legal : IsLegal here m
+  pub is_told : m ≡ told_move here c
+  pub code : IsCode here m c
+  pub later : AreLegalMoves (after here m) rest
+  pub are : AreCodes (after here m) rest codes
 
 first_left : (here : State) (played rest : List Move) (c : PlyCode) (codes : List PlyCode)
     (moves : List Move) → moves ≡ played ++ rest → AreLegalMoves here rest
@@ -156,13 +157,14 @@ first_left here played (m ∷ rest) c codes moves parts legal (d, more, is, code
       is_told =
           told here m c legal.0.pseudo_legal
           (subst (IsCode here m) (sym (same_first c d codes more is)) code);
+      code = subst (IsCode here m) (sym (same_first c d codes more is)) code;
       later = legal.1;
       are = subst (AreCodes (after here m) rest) (sym (same_rest c d codes more is)) are;
     }
 
 module _ {start : State} {bytes : List ℕ} {ply : ℕ} {before : List State} {here : State}
     {played : List Move} (at : HasReplayed start bytes ply before here played) where
-  next_told : (moves : List Move) (line : IsCodedLine start bytes moves)
+  pub next_told : (moves : List Move) (line : IsCodedLine start bytes moves)
       → 3 * ply + 2 < length bytes
       → IsNextTold here played (code_at bytes ply) (drop (ply + 1) line.codes) moves
   next_told moves line within =

@@ -28,6 +28,8 @@ pub mod RecordFacts
 pub mod RecordWriting
 pub mod EditedTags
 pub mod FirstPlies
+pub mod LaterPlies
+pub mod BegunGames
 pub mod TagsInOrder
 pub mod examples
 pub mod OneExport
@@ -38,3 +40,5 @@ pub mod SomeRecord
 pub mod CodeLineFacts
 pub mod PackStreamFacts
 pub mod TagSearch
+pub mod TagFilling
+pub mod HeadedRecords

@@ -226,7 +226,7 @@ pub front_put : (old sized numbered new size number offset : List ℕ) → sized
 front_put old sized numbered new size number offset first second third =
     rw (third, second, first) (simp append_assoc refl)
 
-body_length : (packed : PackedGame) → length (body_bytes packed)
+pub body_length : (packed : PackedGame) → length (body_bytes packed)
     ≡ body_size packed.name packed.tags (length packed.plies)
 body_length packed =
     omega (

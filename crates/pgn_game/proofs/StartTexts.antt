@@ -5,9 +5,9 @@ use Rattle.pgn_game.proofs.Common.{◌≡◌, ◌≢◌, suc, ◌+◌, ◌-◌, 
 use Rattle.pgn_game.proofs.Common.{◌∙◌, ℕ, Bool, true, false, List, ◌++◌, length, subst, arith}
 use Rattle.pgn_game.proofs.Common.{length-append, nat_tests, and_parts, bytes_eq-Decides, ◌==◌}
 use Rattle.pgn_game.proofs.Common.{if◌then◌else◌, bytes_eq, codes, decimal, OnOk, list_all, Place}
-use Rattle.pgn_game.proofs.Common.{Placement, State, IsSound, initial, IsFen, Man, Kind, King, Side}
+use Rattle.pgn_game.proofs.Common.{Placement, State, IsSound, initial, IsFen, Man, Kind, Side}
 use Rattle.pgn_game.proofs.Common.{White, Black, one_spelling, initial_kept, initial_fen, IsStart}
-use Rattle.pgn_game.proofs.Common.{unspaced, IsStartText, as_initial, as_fen}
+use Rattle.pgn_game.proofs.Common.{unspaced, IsStartText, as_initial, as_fen, kind_letter}
 use Rattle.chess.specs.Public.Positions.{FitsEnPassant}
 use Rattle.chess.specs.Public.Letters.{man_letter}
 use Rattle.chess.specs.Public.Fen.{IsSquares, SpellsRank, SpellRanks, row, side_text, is_digit}
@@ -19,7 +19,7 @@ use Rattle.chess.proofs.FenOneText.{one_fen, some_fen}
 use Rattle.chess.proofs.FenReadBack.{fen_spells}
 use Rattle.chess.proofs.SoundRead.{read_sound}
 use Rattle.chess.proofs.examples.StartText.{initial_has_fen}
-use Rattle.pgn_game.proofs.PlainTokens.{AllOf, all_append, AreDigits, decimal_digits}
+use Rattle.pgn_game.proofs.PlainTokens.{AllOf, all_append, AreDigits, decimal_digits, kind_high}
 
 -- ---- a position that FEN may give: its text is read back
 
@@ -126,96 +126,141 @@ one_start_text P x y (as_fen other fen spells a) (as_initial is b) = absurd (oth
 one_start_text P x y (as_fen other fen spells a) (as_fen others more also b) =
     a ∙ ap (map unspaced) (one_fen P fen more spells also) ∙ sym b
 
--- ---- no `_` stands in the text of a position
+-- ---- the bytes of the text of a position: no `_`, and none that has to be escaped in a string
 
-abbrev IsLined : ℕ → Type 0
-IsLined b = b ≢ 95
+pub record IsFenByte (b : ℕ) : Type 0 where
+  pub low : 32 ≤ b
+  pub high : b ≤ 126
+  pub quote : b ≢ 34
+  pub comma : b ≢ 44
+  pub backslash : b ≢ 92
+  pub lined : b ≢ 95
 
-abbrev AreLined : List ℕ → Type 0
-AreLined x = AllOf IsLined x
+abbrev AreFenBytes : List ℕ → Type 0
+AreFenBytes x = AllOf IsFenByte x
 
-lined_joined : (separator : ℕ) → IsLined separator → (xs : List (List ℕ)) → AllOf AreLined xs
-    → AreLined (joined separator xs)
-lined_joined separator free [] all = record {}
-lined_joined separator free (x ∷ []) all = all.0
-lined_joined separator free (x ∷ y ∷ more) all =
-    all_append IsLined x (separator ∷ joined separator (y ∷ more)) all.0 (
-      free,
-      lined_joined separator free (y ∷ more) all.1,
+-- digits and capital letters, and small letters
+capital : (b : ℕ) → 45 ≤ b → b ≤ 90 → IsFenByte b
+capital b least most = record {
+  low = omega arith;
+  high = omega arith;
+  quote = omega arith;
+  comma = omega arith;
+  backslash = omega arith;
+  lined = omega arith;
+}
+
+small : (b : ℕ) → 97 ≤ b → b ≤ 122 → IsFenByte b
+small b least most = record {
+  low = omega arith;
+  high = omega arith;
+  quote = omega arith;
+  comma = omega arith;
+  backslash = omega arith;
+  lined = omega arith;
+}
+
+blank : IsFenByte 32
+blank = record {
+  low = omega arith;
+  high = omega arith;
+  quote = omega arith;
+  comma = omega arith;
+  backslash = omega arith;
+  lined = omega arith;
+}
+
+joined_bytes : (separator : ℕ) → IsFenByte separator → (xs : List (List ℕ)) → AllOf AreFenBytes xs
+    → AreFenBytes (joined separator xs)
+joined_bytes separator own [] all = record {}
+joined_bytes separator own (x ∷ []) all = all.0
+joined_bytes separator own (x ∷ y ∷ more) all =
+    all_append IsFenByte x (separator ∷ joined separator (y ∷ more)) all.0 (
+      own,
+      joined_bytes separator own (y ∷ more) all.1,
     )
 
-lined_man : (side : Side) (kind : Kind) → IsLined (man_letter (record { side = side; kind = kind }))
-lined_man White King = omega arith
-lined_man Black King = omega arith
-lined_man _ _ = omega arith
+man_byte : (side : Side) (kind : Kind)
+    → IsFenByte (man_letter (record { side = side; kind = kind }))
+man_byte White kind =
+    let (low, high) = kind_high kind in capital (kind_letter kind) (omega arith) (omega arith)
+man_byte Black kind =
+    let (low, high) = kind_high kind in small (kind_letter kind + 32) (omega arith) (omega arith)
 
-lined_byte : (b : ℕ) (squares : List (Option Man)) → IsSquares b squares → IsLined b
-lined_byte b squares (letter man) = lined_man man.side man.kind
-lined_byte b squares (step n low high) = omega arith
+squares_byte : (b : ℕ) (squares : List (Option Man)) → IsSquares b squares → IsFenByte b
+squares_byte b squares (letter man) = man_byte man.side man.kind
+squares_byte b squares (step n low high) = capital (48 + n) (omega arith) (omega arith)
 
-lined_rank : (x : List ℕ) (squares : List (Option Man)) → SpellsRank x squares → AreLined x
-lined_rank [] squares spells = record {}
-lined_rank (b ∷ x) squares (own, more, parted, is, rest) =
-    (lined_byte b own is, lined_rank x more rest)
+rank_bytes : (x : List ℕ) (squares : List (Option Man)) → SpellsRank x squares → AreFenBytes x
+rank_bytes [] squares spells = record {}
+rank_bytes (b ∷ x) squares (own, more, parted, is, rest) =
+    (squares_byte b own is, rank_bytes x more rest)
 
-lined_ranks : (p : Placement) (n : ℕ) (xs : List (List ℕ)) → SpellRanks p n xs → AllOf AreLined xs
-lined_ranks p n [] spells = record {}
-lined_ranks p n (x ∷ more) spells =
-    (lined_rank x (row p n) spells.1, lined_ranks p (n - 1) more spells.2)
+ranks_bytes : (p : Placement) (n : ℕ) (xs : List (List ℕ)) → SpellRanks p n xs
+    → AllOf AreFenBytes xs
+ranks_bytes p n [] spells = record {}
+ranks_bytes p n (x ∷ more) spells =
+    (rank_bytes x (row p n) spells.1, ranks_bytes p (n - 1) more spells.2)
 
-lined_side : (side : Side) → AreLined (side_text side)
-lined_side White = (omega arith, record {})
-lined_side Black = (omega arith, record {})
+side_bytes : (side : Side) → AreFenBytes (side_text side)
+side_bytes White = (small 119 (omega arith) (omega arith), record {})
+side_bytes Black = (small 98 (omega arith) (omega arith), record {})
 
-lined_if : (held : Bool) (b : ℕ) → IsLined b → AreLined (if held then b ∷ [] else [])
-lined_if true b free = (free, record {})
-lined_if false b free = record {}
+bytes_if : (held : Bool) (b : ℕ) → IsFenByte b → AreFenBytes (if held then b ∷ [] else [])
+bytes_if true b own = (own, record {})
+bytes_if false b own = record {}
 
-lined_or_dash : (x : List ℕ) → AreLined x → AreLined (or_dash x)
-lined_or_dash [] all = (omega arith, record {})
-lined_or_dash (b ∷ x) all = all
+bytes_or_dash : (x : List ℕ) → AreFenBytes x → AreFenBytes (or_dash x)
+bytes_or_dash [] all = (capital 45 (omega arith) (omega arith), record {})
+bytes_or_dash (b ∷ x) all = all
 
-lined_rights : (r : CastlingRights) → AreLined (or_dash (rights_letters r))
-lined_rights r =
-    lined_or_dash (rights_letters r)
-    (all_append IsLined (if r.white_king_side then 75 ∷ []
-    else []) _ (lined_if r.white_king_side 75 (omega arith))
-    (all_append IsLined (if r.white_queen_side then 81 ∷ []
-    else []) _ (lined_if r.white_queen_side 81 (omega arith))
-    (all_append IsLined (if r.black_king_side then 107 ∷ []
-    else []) _ (lined_if r.black_king_side 107 (omega arith))
-    (lined_if r.black_queen_side 113 (omega arith)))))
+rights_bytes : (r : CastlingRights) → AreFenBytes (or_dash (rights_letters r))
+rights_bytes r =
+    bytes_or_dash (rights_letters r)
+    (all_append IsFenByte (if r.white_king_side then 75 ∷ []
+    else []) _ (bytes_if r.white_king_side 75 (capital 75 (omega arith) (omega arith)))
+    (all_append IsFenByte (if r.white_queen_side then 81 ∷ []
+    else []) _ (bytes_if r.white_queen_side 81 (capital 81 (omega arith) (omega arith)))
+    (all_append IsFenByte (if r.black_king_side then 107 ∷ []
+    else []) _ (bytes_if r.black_king_side 107 (small 107 (omega arith) (omega arith)))
+    (bytes_if r.black_queen_side 113 (small 113 (omega arith) (omega arith))))))
 
-lined_passed : (P : State) (passed : Option Place) → (P.en_passant ≡ passed) → IsSound P
-    → AreLined (en_passant_text passed)
-lined_passed P None is sound = (omega arith, record {})
-lined_passed P (Some s) is sound =
+passed_bytes : (P : State) (passed : Option Place) → (P.en_passant ≡ passed) → IsSound P
+    → AreFenBytes (en_passant_text passed)
+passed_bytes P None is sound = (capital 45 (omega arith) (omega arith), record {})
+passed_bytes P (Some s) is sound =
     let fits : FitsEnPassant P.men P.turn s = rw is at sound.en_passant in
-    let high = fits.on_board.rank_high in
-    (omega arith, (omega arith, record {}))
+    let a = fits.on_board.file_low in let b = fits.on_board.file_high in
+    let c = fits.on_board.rank_low in let d = fits.on_board.rank_high in (
+      small (96 + s.file) (omega arith) (omega arith),
+      (capital (48 + s.rank) (omega arith) (omega arith), record {}),
+    )
 
-lined_digits : (x : List ℕ) → AreDigits x → AreLined x
-lined_digits [] all = record {}
-lined_digits (b ∷ x) all = let high = all.0.1 in (omega arith, lined_digits x all.1)
+digits_bytes : (x : List ℕ) → AreDigits x → AreFenBytes x
+digits_bytes [] all = record {}
+digits_bytes (b ∷ x) all =
+    let low = all.0.0 in let high = all.0.1 in
+    (capital b (omega arith) (omega arith), digits_bytes x all.1)
 
-pub lined_fen : (P : State) (x : List ℕ) → IsSound P → IsFen P x → AreLined x
-lined_fen P x sound is =
+pub fen_bytes : (P : State) (x : List ℕ) → IsSound P → IsFen P x → AreFenBytes x
+fen_bytes P x sound is =
     let fields : List (List ℕ) =
     joined 47 is.ranks ∷ side_text P.turn ∷ or_dash (rights_letters P.rights)
     ∷ en_passant_text P.en_passant ∷ decimal P.halfmove_clock ∷ decimal P.fullmove_number ∷ []
     in
-    let all : AllOf AreLined fields = (
-      lined_joined 47 (omega arith) is.ranks (lined_ranks P.men 8 is.ranks is.spelled),
+    let all : AllOf AreFenBytes fields = (
+      joined_bytes 47 (capital 47 (omega arith) (omega arith)) is.ranks
+          (ranks_bytes P.men 8 is.ranks is.spelled),
       (
-        lined_side P.turn,
+        side_bytes P.turn,
         (
-          lined_rights P.rights,
+          rights_bytes P.rights,
           (
-            lined_passed P P.en_passant refl sound,
+            passed_bytes P P.en_passant refl sound,
             (
-              lined_digits (decimal P.halfmove_clock) (decimal_digits P.halfmove_clock),
+              digits_bytes (decimal P.halfmove_clock) (decimal_digits P.halfmove_clock),
               (
-                lined_digits (decimal P.fullmove_number) (decimal_digits P.fullmove_number),
+                digits_bytes (decimal P.fullmove_number) (decimal_digits P.fullmove_number),
                 record {},
               ),
             ),
@@ -223,20 +268,21 @@ lined_fen P x sound is =
         ),
       ),
     ) in
-    subst AreLined (sym is.text) (lined_joined 32 (omega arith) fields all)
+    subst AreFenBytes (sym is.text) (joined_bytes 32 blank fields all)
 
 -- so it is found again when its spaces are
-unspaced_once : (a b : ℕ) → IsLined a → IsLined b → unspaced a ≡ unspaced b → a ≡ b
+unspaced_once : (a b : ℕ) → IsFenByte a → IsFenByte b → unspaced a ≡ unspaced b → a ≡ b
 unspaced_once a b free also same = by (a == 32) (b == 32) refl refl same
   where
     by : (c d : Bool) → (a == 32) ≡ c → (b == 32) ≡ d
         → (if c then 95 else a) ≡ (if d then 95 else b) → a ≡ b
     by true true x y same = grind (arith, nat_tests)
-    by true false x y same = absurd (also (sym same))
-    by false true x y same = absurd (free same)
+    by true false x y same = absurd (also.lined (sym same))
+    by false true x y same = absurd (free.lined same)
     by false false x y same = same
 
-texts_once : (x y : List ℕ) → AreLined x → AreLined y → map unspaced x ≡ map unspaced y → x ≡ y
+texts_once : (x y : List ℕ) → AreFenBytes x → AreFenBytes y → map unspaced x ≡ map unspaced y
+    → x ≡ y
 texts_once [] [] free also same = refl
 texts_once [] (b ∷ y) free also same = absurd (cc)
 texts_once (a ∷ x) [] free also same = absurd (cc)
@@ -276,7 +322,7 @@ same_start P Q x p q (as_fen other fen spells a) (as_initial is b) =
     absurd (no_dash P fen spells (sym b ∙ a))
 same_start P Q x p q (as_fen other fen spells a) (as_fen others more also b) =
     let same : fen ≡ more =
-    texts_once fen more (lined_fen P fen p.sound spells) (lined_fen Q more q.sound also) (sym a
+    texts_once fen more (fen_bytes P fen p.sound spells) (fen_bytes Q more q.sound also) (sym a
     ∙ b) in
     same_fen P Q more p q (subst (IsFen P) same spells) also
 

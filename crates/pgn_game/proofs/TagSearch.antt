@@ -27,7 +27,7 @@ tag_again t rest fits =
       text_again t.1 rest fits.contents,
     ) refl
 
-tag_here : (tags : List Tag) (i : ℕ) → i < length tags → AllByRecursion FitsTag tags
+pub tag_here : (tags : List Tag) (i : ℕ) → i < length tags → AllByRecursion FitsTag tags
     → (t : Tag) × (drop i tags ≡ t ∷ drop (i + 1) tags) × FitsTag t
 tag_here [] i lt fits = absurd (omega arith)
 tag_here (t ∷ tags) zero lt fits = (t, refl, fits.0)
@@ -46,7 +46,7 @@ record IsNext (wanted : List ℕ) (game : PackedGame) (i : ℕ) (rest : List ℕ
   sought : tag_in wanted game.tags
       ≡ (if bytes_eq wanted tag.0 then Some tag.1 else tag_in wanted (drop (i + 1) game.tags))
 
-count_is : (raw : RawRecord) (game : PackedGame) → FitsRecord game → raw ≡ raw_of game
+pub count_is : (raw : RawRecord) (game : PackedGame) → FitsRecord game → raw ≡ raw_of game
     → raw.head / 32 ≡ length game.tags
 count_is raw game fits shows = ap (λ (r : RawRecord). r.head / 32) shows
     ∙ (head_shows game fits).count
@@ -102,7 +102,7 @@ goes_on wanted raw i rest name contents after lt all read other game fits shows 
           else tag_in wanted (drop (i + 1) game.tags)) own;
     }
 
-no_error : {A : Type 0} (e : RecordError) (x : A) → Err e ≡ Ok x → ⊥
+pub no_error : {A : Type 0} (e : RecordError) (x : A) → Err e ≡ Ok x → ⊥
 no_error e x is = absurd cc
 
 -- each tag of a record is read

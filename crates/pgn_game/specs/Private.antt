@@ -16,3 +16,5 @@ pub mod CodeWords
 pub mod Filing
 pub mod Following
 pub mod Editing
+pub mod RecordHeads
+pub mod PawnWalks

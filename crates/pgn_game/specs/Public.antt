@@ -13,6 +13,7 @@ pub mod TextLines
 pub mod Comments
 pub mod Exports
 pub mod Edits
+pub mod LaterPlies
 pub mod GameLines
 pub mod PlyCodes
 pub mod CodeLines
@@ -20,3 +21,4 @@ pub mod PackedGames
 pub mod PackReading
 pub mod PackStreams
 pub mod Laws
+pub mod NamedRecords

@@ -5,6 +5,7 @@ pub mod edits;
 pub(crate) mod exporter;
 pub mod following;
 pub(crate) mod game_line;
+pub mod later;
 mod line_wrapper;
 mod movetext;
 pub(crate) mod notation;

@@ -9,6 +9,7 @@ ghost use Rattle.pgn_game.specs.Public.TextLines.{TokensHaveAText, TokensHaveOne
 ghost use Rattle.pgn_game.specs.Public.GameLines.{SoundGameHasALine, GameHasOneLine, LineIsTheGame};
 ghost use Rattle.pgn_game.specs.Public.Laws.{EachMoveIsNamed, MainLineIsTheLine, EachMoveHasATurn};
 ghost use Rattle.pgn_game.specs.Public.Laws.{EachMainMoveIsAPly, FirstPliesAreABeginning};
+ghost use Rattle.pgn_game.specs.Public.Laws.{LaterPliesAreReplayed, LaterPliesAreTheRest};
 ghost use Rattle.pgn_game.specs.Public.Laws.{SameNamesInOrder};
 ghost use Rattle.pgn_game.specs.Public.Laws.{GameHasOneReplay, GameHasOneBeginning};
 ghost use Rattle.pgn_game.specs.Public.Laws.{GameHasOneOpening, OpeningIsOneOrNone, OpeningIsThere};
@@ -39,6 +40,13 @@ pub fn one_main_line()
 pub fn edited_games()
     ensures plies { FirstPliesAreABeginning }
     ensures order { SameNamesInOrder }
+{}
+
+/// The elements of a game after so many plies have the other moves of its main line; and a replay
+/// of the game gives one of them, from the position that stands there on.
+pub fn later_games()
+    ensures rest { LaterPliesAreTheRest }
+    ensures replayed { LaterPliesAreReplayed }
 {}
 
 /// Where all lines are replayed, there is one turn for each move text.

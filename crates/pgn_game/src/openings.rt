@@ -1,9 +1,12 @@
 //! Lines of a file of openings, and which of them a game came to.
-ghost use Rattle.std.specs.Prelude.{◌≡◌, ◌<◌, ◌^◌, ◌++◌, ◌∷◌, [], List, IfOk, IfSome};
+ghost use Rattle.std.specs.Prelude.{◌≡◌, ◌+◌, ◌/◌, ◌<◌, ◌≤◌, ◌^◌, ◌++◌, ◌∷◌, [], List};
+ghost use Rattle.std.specs.Prelude.{IfOk, IfSome};
 ghost use Rattle.std.specs.Prelude.{MatchResult};
-ghost use Rattle.std.specs.Prelude.{Some, length, map, option_map};
+ghost use Rattle.std.specs.Prelude.{None, Some, false, length, map, option_map};
 ghost use Rattle.std.specs.List.{slice_get};
+ghost use Rattle.chess.specs.Public.Keys.{ArePawns};
 ghost use Rattle.chess.specs.Public.Positions.{State};
+ghost use Rattle.chess.specs.declared.moves.Move.{Move};
 ghost use Rattle.pgn_text.specs.Public.Elements.{item_of};
 ghost use Rattle.pgn_text.specs.Public.GameTexts.{tag_in};
 ghost use Rattle.pgn_game.specs.Public.Faults.{IsFault, IsMoveFault};
@@ -11,15 +14,23 @@ ghost use Rattle.pgn_game.specs.Public.MainLines.{main_words};
 ghost use Rattle.pgn_game.specs.Public.Openings.{NamedLine, named_of, ends_of, IsFirstIn};
 ghost use Rattle.pgn_game.specs.Public.Openings.{IsOpeningIn, HasOpening, IsTaggedBy, IsClassified};
 ghost use Rattle.pgn_game.specs.Public.Openings.{HasContents, HasLineOf, unless_empty};
+ghost use Rattle.pgn_game.specs.Public.NamedRecords.{NamesRecord};
+ghost use Rattle.pgn_game.specs.Public.CodeLines.{IsCodedLine, positions_from};
+ghost use Rattle.pgn_game.specs.Public.PackReading.{raw_of};
+ghost use Rattle.pgn_game.specs.Public.PackedGames.{FitsRecord, PackedGame};
 ghost use Rattle.pgn_game.specs.Public.Replays.{HasPlies, fault_of};
 ghost use Rattle.pgn_game.specs.Public.Starts.{fen_tag};
 ghost use Rattle.pgn_game.specs.Private.Filing.{HasOpeningFrom, key_place, mixed, pawns_place};
 ghost use Rattle.pgn_game.specs.Private.Following.{FindsLine};
+ghost use Rattle.pgn_game.specs.Private.PawnWalks.{EndNoneFrom};
 ghost use Rattle.pgn_game.specs.declared.replays.replayer.Lines.TheVariants.{Main};
 
+mod pawns;
 mod sieve;
 
+use crate::openings::pawns::{may_change, pawns_after};
 use crate::openings::sieve::Sieve;
+use crate::pack::{PackError, RawRecord, put_headed, told_move};
 use crate::replays::main_line::MainWalk;
 use crate::turns::fault::GameFault;
 use crate::turns::replayed::GamePosition;
@@ -70,9 +81,9 @@ fn mixed(sum: u64, word: u64) -> u64
 #[inline(always)]
 fn pawns_place(pawns: [u64; 2]) -> usize
     ensures place { result ≡ pawns_place pawns }
-    ensures within { result < 2 ^ 16 }
+    ensures within { result < 2 ^ 32 }
 {
-    (mixed(mixed(0, pawns[0]), pawns[1]) >> 48) as usize
+    (mixed(mixed(0, pawns[0]), pawns[1]) >> 32) as usize
 }
 
 /// The place in a sieve of a key, by the bitboards of all men but pawns: any place would do here
@@ -80,11 +91,11 @@ fn pawns_place(pawns: [u64; 2]) -> usize
 #[inline(always)]
 fn key_place(key: &[u64; 13]) -> usize
     ensures place { result ≡ key_place key.now }
-    ensures within { result < 2 ^ 16 }
+    ensures within { result < 2 ^ 32 }
 {
     let white = mixed(mixed(mixed(mixed(key[0], key[1]), key[2]), key[3]), key[4]);
     let black = mixed(mixed(mixed(mixed(key[6], key[7]), key[8]), key[9]), key[10]);
-    (mixed(white, black) >> 48) as usize
+    (mixed(white, black) >> 32) as usize
 }
 
 /// A game as it counts, and the number of plies of its main line where that is sound.
@@ -178,12 +189,21 @@ impl Openings {
         self.places.get(&key).copied()
     }
 
+    /// Whether some line may end with pawns on these bitboards: where it may not, none does.
+    #[inline(always)]
+    fn may_end_with(&self, pawns: [u64; 2]) -> bool
+        ensures { result ≡ false → (P : State) → ArePawns P pawns
+            → IsFirstIn (ends_of self.now) P None }
+    {
+        self.pawns.has(pawns_place(pawns))
+    }
+
     /// The first line that ends in the position, or none.
     #[inline(always)]
     pub fn find(&self, position: &GamePosition) -> Option<usize>
         ensures { IsFirstIn (ends_of self.now) position.now result }
     {
-        if !self.pawns.has(pawns_place(position.pawns())) {
+        if !self.may_end_with(position.pawns()) {
             return None;
         }
         self.find_by_key(position)
@@ -218,6 +238,58 @@ impl Openings {
             Some(line) => Some(line),
             None => found,
         }
+    }
+
+    /// How many positions of the line that the bytes of codes tell lead up to the last with pawns
+    /// with which some line ends: 0 where there is none. Nothing but the pawns is moved.
+    #[inline(always)]
+    fn count_with_pawns(&self, start: &GamePosition, plies: &[u8]) -> usize
+        ensures within { result ≤ length plies.now / 3 + 1 }
+        ensures none { (moves : List Move) → IsCodedLine start.now plies.now moves
+            → EndNoneFrom (ends_of self.now) (positions_from start.now moves) result }
+    {
+        let mut pawns = start.pawns();
+        let mut may_end = self.may_end_with(pawns);
+        let mut count = may_end as usize;
+        for ply in 0..plies.len() / 3 {
+            let (a, b, d) = (plies[3 * ply], plies[3 * ply + 1], plies[3 * ply + 2]);
+            if may_change(pawns, a, b, d) {
+                let next = pawns_after(pawns, a, b, d);
+                may_end = self.may_end_with(next);
+                pawns = next;
+            }
+            if may_end {
+                count = ply + 2;
+            }
+        }
+        count
+    }
+
+    /// The opening of the line that the bytes of codes tell from the position, or none. Each move
+    /// that a code tells is asked to be legal, up to the last position whose pawns those of some
+    /// line may be; no position is kept.
+    pub fn opening_of_codes(&self, start: GamePosition, plies: &[u8]) -> Option<Opening>
+        ensures found { (moves : List Move) → IsCodedLine start plies.now moves
+            → IsOpeningIn (ends_of self.now) (positions_from start moves) result }
+        ensures within { IfSome result (λ opening. opening.line < length self.now) }
+    {
+        let mut here = start;
+        let count = self.count_with_pawns(&here, plies);
+        if count == 0 {
+            return None;
+        }
+        let mut found = self.after(None, 0, &here);
+        for ply in 0..count - 1 {
+            let (a, b, d) = (plies[3 * ply], plies[3 * ply + 1], plies[3 * ply + 2]);
+            let m = &told_move(&here, a, b, d);
+            if !here.is_legal(*m) {
+                return found;
+            }
+            let next = here.play(*m);
+            found = self.after(found, ply + 1, &next);
+            here = next;
+        }
+        found
     }
 
     /// The main line that is played from this start, with its opening; or its fault.
@@ -275,6 +347,29 @@ impl Openings {
         let game = game.retagged(b"Variation", unless_empty(&line.variation))?;
         let game = game.retagged(b"Opening", unless_empty(&line.name))?;
         game.retagged(b"ECO", unless_empty(&line.code))
+    }
+
+    /// The record of a packed game with the tags of the line at that place; none where no game of
+    /// a text has the tags of the record.
+    pub fn named_record<'a>(
+        &'a self,
+        alloc: Global,
+        raw: &RawRecord<'a>,
+        place: usize,
+    ) -> Result<Option<Vec<u8>>, PackError>
+        requires { place < length self.now }
+        ensures { IfOk result (λ bytes. (game : PackedGame) → FitsRecord game
+            → raw.now ≡ raw_of game
+            → NamesRecord self.now place game (option_map (λ own. own.items) bytes)) }
+    {
+        let Some(head) = raw.head(alloc)? else {
+            return Ok(None);
+        };
+        let head = self.named(head, place)?;
+        head.invariant();
+        let mut bytes = Vec::new(alloc);
+        put_headed(raw, &head, &mut bytes)?;
+        Ok(Some(bytes))
     }
 
     /// The game as it counts, the line of whose opening is at that place: with its tags, or as it

@@ -17,6 +17,7 @@
 
 mod error;
 mod fields;
+mod heading;
 mod origin;
 mod ply;
 mod pushing;
@@ -30,5 +31,7 @@ pub use origin::GameOrigin;
 pub use pushing::push_record;
 pub use reading::{RawRecord, read};
 pub use records::{Records, RecordsError};
+pub(crate) use replaying::told_move;
 pub use replaying::{numbered_castle, numbered_man, replay_codes};
+pub(crate) use writing::put_headed;
 pub use writing::put_record;

@@ -10,6 +10,7 @@ ghost use Rattle.std.specs.Ordering.{nat_cmp};
 ghost use Rattle.pgn_text.specs.Public.Bytes.{is_name_byte};
 ghost use Rattle.pgn_text.specs.Public.Elements.{item_of, tags_of};
 ghost use Rattle.pgn_text.specs.Public.GameTexts.{GameText, HoldStrings, IsGameText, IsPaired};
+ghost use Rattle.pgn_text.specs.Public.GameTexts.{IsResult};
 ghost use Rattle.pgn_text.specs.Public.GameTexts.{ShowsGame, IsRetagged, tag_names};
 ghost use Rattle.pgn_text.specs.Public.Games.{Item};
 ghost use Rattle.pgn_text.specs.Public.Limits.{depth_limit};
@@ -104,6 +105,26 @@ fn own_tags<'a: 'b, 'b>(
 }
 
 impl<'a> RawGame<'a> {
+    /// A game with this result, and without text, tags and elements: it may be given tags.
+    pub fn of_result(alloc: Global, ending: &'a [u8]) -> Self
+        requires { IsResult ending.now }
+        ensures { result ≡ record {
+          at = 0;
+          text = [];
+          tags = [];
+          elements = [];
+          result = ending.now;
+        } }
+    {
+        RawGame {
+            at: 0,
+            text: b"",
+            tags: BTreeMap::new(alloc),
+            elements: Vec::new(alloc),
+            result: ending,
+        }
+    }
+
     /// The place of the game's first byte in the block.
     pub fn at(&self) -> usize
         ensures { result ≡ self.now.at }
@@ -175,6 +196,22 @@ impl<'a> RawGame<'a> {
     {
         let mut own = self.head(alloc)?;
         own.elements.extend_from_slice(&self.elements[..count])?;
+        Ok(own)
+    }
+
+    /// The game with these elements in place of its own, which end each variation that they begin.
+    /// Its tags may be given contents that live as long as this borrow.
+    pub fn with_elements<'b>(
+        &'b self,
+        alloc: Global,
+        elements: Vec<Element<'b>>,
+    ) -> Result<RawGame<'b>, AllocError>
+        requires { IsPaired 0 (map item_of elements.items) }
+        ensures { IfOk result (λ own.
+            own ≡ record self.entry.now { elements = map item_of elements.entry.items }) }
+    {
+        let mut own = self.head(alloc)?;
+        own.elements = elements;
         Ok(own)
     }
 

@@ -21,5 +21,6 @@ pub use io::buffer::Buffer;
 pub use io::limits::{BLOCK_LIMIT, LARGEST_OFFSET, MAX_DEPTH};
 pub use io::skip::Skip;
 pub use io::tally::Tally;
+pub use lex::class::are_name_bytes;
 pub use lex::quoted::{is_contents, value};
 pub use lex::unquoted::Value;

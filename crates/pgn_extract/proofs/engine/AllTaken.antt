@@ -4,24 +4,25 @@ use Rattle.std.specs.Prelude.{Result, Ok, Err, OnOk, OnErr, IfErr, IfSome, Match
 use Rattle.pgn_extract.proofs.Common.{◌≡◌, ℕ, ◌+◌, ◌<◌, List, [], length, Option, refl, sym, subst}
 use Rattle.pgn_extract.proofs.Common.{◌∙◌, append-nil, arith, IfSome_then, GameText, Fault}
 use Rattle.pgn_extract.proofs.Common.{main_words, Replay, Lines, Main, line_length, heading_of}
-use Rattle.pgn_extract.proofs.Common.{Heading, Conditions, Aim, GameId, IsMet, by_itself, StopsIn}
+use Rattle.pgn_extract.proofs.Common.{Conditions, Aim, GameId, IsMet, IsOfGame, Some, by_itself}
+use Rattle.pgn_extract.proofs.Common.{StopsIn}
+use Rattle.pgn_extract.specs.Public.Exports.{IsFirstOrNone}
 use Rattle.pgn_extract.proofs.Common.{AddsEntries, HasEntry, IsSelected, IsTextOf, IsWritten}
 use Rattle.pgn_extract.proofs.Common.{selected, lines_in, written_lines, IsFaultOf, IsReplayOf}
 use Rattle.pgn_extract.proofs.Common.{listing, AreEntryLines, IsOutput, replayed_lines, Form, Mode}
 use Rattle.pgn_extract.specs.Private.Blockwise.{TakesAll, AddsOutput, AddsSound, PutsText}
 
--- ply 0 is an entry
-first_is_entry : (aim : Aim) (tags : Heading) (replay : Replay) → TakesAll aim
-    → 0 < length replay.positions → HasEntry aim tags replay
-first_is_entry aim tags replay all some =
+-- ply 0 is the first entry
+pub first_is_entry : (aim : Aim) (game : GameText) → TakesAll aim → (replay : Replay)
+    → IsOfGame game replay → IsFirstOrNone aim (heading_of game) replay (Some 0)
+first_is_entry aim game all replay (lines, is) =
+    let count : length replay.positions ≡ length replay.played + 1 =
+    line_length is.start (main_words game.elements 0) replay.positions replay.played is.line in
     let met = subst (λ (criteria : Option (List Conditions)).
-    IsMet criteria tags replay 0) (sym all.criteria) (record {}) in (
-      0,
-      some,
-      (
-        (omega (arith, all.from_start), omega arith, met),
-        (λ only before less. absurd (omega (arith, less))),
-      ),
+    IsMet criteria (heading_of game) replay 0) (sym all.criteria) (record {}) in (
+      omega (arith, count),
+      (omega (arith, all.from_start), omega arith, met),
+      λ before less. absurd (omega (arith, less)),
     )
 
 pub all_written : (aim : Aim) (id : GameId) (game : GameText) (replay : Replay) (text : List ℕ)
@@ -29,12 +30,10 @@ pub all_written : (aim : Aim) (id : GameId) (game : GameText) (replay : Replay) 
     → IsTextOf aim.form aim id (by_itself game) text → IsWritten aim id (by_itself game) replay text
 all_written aim id game replay text all is given =
     let tags = heading_of game in
-    let count : length replay.positions ≡ length replay.played + 1 =
-    line_length is.start (main_words game.elements 0) replay.positions replay.played is.line in
-    let some : 0 < length replay.positions = omega (arith, count) in
+    let (within, wanted, least) = first_is_entry aim game all replay (written_lines aim, is) in
     selected
     (subst (λ select. IsSelected select (HasEntry aim tags replay)) (sym all.select)
-    (first_is_entry aim tags replay all some)) given
+    (0, within, (wanted, λ only. least))) given
 
 -- what an export that is played promises, in one
 pub put_or_left : {T E : Type 0} {Sound Text Left Done : Type 0} {Fails : E → Type 0} {Stops : E

@@ -14,7 +14,7 @@ use Rattle.pgn_game.specs.Public.Faults.{IsFault}
 use Rattle.pgn_game.specs.Public.Openings.{NamedLine, IsClassified, tag_by}
 use Rattle.pgn_game.specs.Public.Replays.{HasPlies, IsReplay, IsSoundGame}
 use Rattle.pgn_game.proofs.OneReplay.{no_fault}
-use Rattle.pgn_extract.specs.Private.Blockwise.{AddsCounted, AddsSearched, CountsAs, ExportsAll}
+use Rattle.pgn_extract.specs.Private.Blockwise.{AddsCounted, AddsSearched, ExportsAll}
 use Rattle.pgn_extract.specs.declared.settings.Mode.TheVariants as modes
 use Rattle.pgn_extract.specs.declared.settings.Select.{Select}
 use Rattle.pgn_extract.proofs.GameExport.{own_export}
@@ -22,25 +22,11 @@ use Rattle.pgn_extract.proofs.SomeCounted.{some_classified}
 use Rattle.pgn_extract.proofs.TagsFirst.{no_met, none_chosen, played_verdict, ruled_out_or_not}
 use Rattle.pgn_extract.proofs.TagsFirst.{unplayed_verdict}
 use Rattle.pgn_extract.specs.Private.Finding.{ListsNone}
-use Rattle.pgn_extract.specs.Public.Listing.{IsShownOf, listing}
+use Rattle.pgn_extract.specs.Public.Listing.{CountsAs, IsShownOf, listing}
+use Rattle.pgn_extract.proofs.Counting.{of_counted}
 use Rattle.pgn_extract.proofs.Common.{Main, IsEntry, inl, inr, plies_of, AddsEntries, ◌++◌, IfSome}
 use Rattle.pgn_extract.proofs.Common.{StopsAtFault}
 use Rattle.pgn_extract.proofs.engine.AllTaken.{all_written}
-
--- a line of openings names no start
-start_stays : (line : Option NamedLine) (own : Option (List ℕ)) → tag_by line fen_tag own ≡ own
-start_stays None own = refl
-start_stays (Some line) own = refl
-
--- what holds of the start and the elements of a game holds of those of the game as it counts
-of_counted : (Fact : Option (List ℕ) → List Item → Type 0) (lines : List NamedLine)
-    (game other : GameText) → IsClassified lines game other
-    → Fact (tag_in fen_tag game.tags) game.elements
-    → Fact (tag_in fen_tag other.tags) other.elements
-of_counted Fact lines game other (line, has, is) fact =
-    subst (λ items. Fact (tag_in fen_tag other.tags) items) (sym is.elements)
-    (subst (λ fen. Fact fen game.elements) (sym (is.tags fen_tag
-    ∙ start_stays line (tag_in fen_tag game.tags))) fact)
 
 module _ (aim : Aim) (all : ExportsAll aim) where
   same_lines : lines_with aim.style.variations ≡ written_lines aim

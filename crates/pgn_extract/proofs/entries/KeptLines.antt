@@ -9,13 +9,15 @@ use Rattle.pgn_extract.proofs.Common.{positions_from, main_words, Replay, IsRepl
 use Rattle.pgn_extract.proofs.Common.{line_legal, line_positions, heading_of, Heading, Meets, Aim}
 use Rattle.pgn_extract.proofs.Common.{GameId, IsMet, IsWanted, IsEntry}
 use Rattle.pgn_extract.proofs.Common.{IsOfGame, GoesTo}
-use Rattle.pgn_extract.proofs.Common.{MeetsHere, HandsOn, or_some, false≢true}
-use Rattle.pgn_extract.proofs.Common.{MatchOption, IsSan, Conditions, HasEntry}
+use Rattle.pgn_extract.proofs.Common.{MeetsHere, HandsOn}
+use Rattle.pgn_extract.proofs.Common.{MatchOption, IsSan, Conditions}
 use Rattle.pgn_game.specs.Public.CodeLines.{AreLegalMoves, IsLegalLine}
 use Rattle.pgn_criteria.specs.Public.Meeting.{IsFirst}
 use Rattle.pgn_extract.specs.Private.KeptLines.{IsKeptWith}
 use Rattle.pgn_extract.specs.Private.Finding.{IsChosen}
-use Rattle.pgn_extract.proofs.Finds.{some_chosen}
+use Rattle.pgn_extract.specs.Private.Lines.{first_ply}
+use Rattle.pgn_extract.specs.Public.Exports.{IsFirstOrNone}
+use Rattle.pgn_extract.proofs.Finds.{IsFirstOf, first_chosen}
 use Rattle.pgn_extract.proofs.PackedFacts.{line_begins}
 use Rattle.pgn_extract.proofs.OneMain.{one_main, stands_main}
 use Rattle.pgn_criteria.proofs.BeginningFacts.{met_alike}
@@ -186,20 +188,22 @@ module _ (kept : Replay) (met : List Bool) (ply : ℕ) (aim : Aim) (game : GameT
         absurd (omega (arith, same, size, count, end, low, within)),
   )
 
--- replays with the same positions and moves have the same entries
+-- in replays with the same positions and moves the same plies are wanted, and are entries
+wanted_alike : (aim : Aim) (game : GameText) (one two : Replay) → IsOfGame game one
+    → IsOfGame game two → (m : ℕ) → IsWanted aim (heading_of game) one m
+    → IsWanted aim (heading_of game) two m
+wanted_alike aim game one two is of m (low, high, met) =
+    let same = one_main game one two is of in
+    (low, high, met_there aim.criteria (heading_of game) one two same.0 same.1 m met)
+
 entry_alike : (aim : Aim) (game : GameText) (kept other : Replay) → IsOfGame game kept
     → IsOfGame game other → (n : ℕ)
     → IsEntry aim (heading_of game) kept n → IsEntry aim (heading_of game) other n
 entry_alike aim game kept other own also n entry = (
-  wanted kept other own also n entry.0,
-  λ first m less earlier. entry.1 first m less (wanted other kept also own m earlier),
+  wanted_alike aim game kept other own also n entry.0,
+  λ first m less earlier.
+      entry.1 first m less (wanted_alike aim game other kept also own m earlier),
 )
-  where
-    wanted : (one two : Replay) → IsOfGame game one → IsOfGame game two → (m : ℕ)
-        → IsWanted aim (heading_of game) one m → IsWanted aim (heading_of game) two m
-    wanted one two is of m (low, high, met) =
-        let same = one_main game one two is of in
-        (low, high, met_there aim.criteria (heading_of game) one two same.0 same.1 m met)
 
 -- where no number is the least that has a fact, none has it
 none_least : (P : ℕ → Type 0) (size : ℕ)
@@ -211,47 +215,46 @@ none_least P size least (suc most) n less within holds =
     (λ m under. none_least P size least most m (omega (arith, less, under))
     (omega (arith, under, within)))
 
-so_true : (b : Bool) → (b ≡ false → ⊥) → IsTrue b
-so_true true never = refl
-so_true false never = absurd (never refl)
-
--- the first entry that is handed on tells whether the game has one
-pub tells_some : (aim : Aim) (id : GameId) (game : GameText) (found : Bool)
-    → HandsOn (record aim { first = true }) id game (λ got. found ≡ or_some false got)
+-- the first entry that is handed on is the first of the game
+pub tells_first : (aim : Aim) (id : GameId) (game : GameText) (found : Option ℕ)
+    → HandsOn (record aim { first = true }) id game (λ got. found ≡ first_ply None got)
     → IsChosen aim game found
-tells_some aim id game found (replay, is, entries, listed, told) = (
+tells_first aim id game found (replay, is, entries, listed, told) = (
   (replay, is),
   λ other own.
-      let same = one_main game replay other (Main, is) own in (
-        λ t. let (n, low, high, entry) = some.0 (subst IsTrue told t) in (
-          n,
-          subst (λ ps. n < length ps) same.0 (omega (arith, high)),
-          entry_alike aim game replay other (Main, is) own n (entry.0, λ only. entry.1 refl),
-        ),
-        λ (n, within, entry). so_true found (λ fails.
-            none_least (IsWanted aim (heading_of game) replay) (length replay.positions)
-            (λ m less wanted first.
-            let t = some.1 (m, omega arith, omega (arith, less), (wanted, λ only. first)) in
-            false≢true (sym fails ∙ told ∙ t))
-            (n + 1) n (omega arith)
-            (let less = subst (λ ps. n < length ps) (sym same.0) within in omega (arith, less))
-            (entry_alike aim game other replay own (Main, is) n entry).0),
-      ),
+      by other own found (subst (IsFirstOf (IsEntry only (heading_of game) replay) 0
+      (0 + length replay.positions)) (sym told)
+      (first_chosen id (IsEntry only (heading_of game) replay) (IsShownOf only id game replay) 0
+      replay.positions entries listed)),
 )
   where
-    some : IsTrue (or_some false entries)
-        ↔ ((n : ℕ) × (0 ≤ n) × (n < 0 + length replay.positions)
-        × IsEntry (record aim { first = true }) (heading_of game) replay n)
-    some =
-        some_chosen id (IsEntry (record aim { first = true }) (heading_of game) replay)
-        (IsShownOf aim id game replay) 0 replay.positions entries listed
+    only : Aim
+    only = record aim { first = true }
 
--- the first ply that meets the criteria is an entry, and where none does the game has none
+    by : (other : Replay) → IsOfGame game other → (first : Option ℕ)
+        → IsFirstOf (IsEntry only (heading_of game) replay) 0 (0 + length replay.positions) first
+        → IsFirstOrNone aim (heading_of game) other first
+    by other own None none = λ n within wanted.
+        let same = one_main game replay other (Main, is) own in
+        none_least (IsWanted aim (heading_of game) replay) (length replay.positions)
+        (λ m less also least. none m (omega arith) (omega (arith, less)) (also, λ only. least))
+        (n + 1) n (omega arith)
+        (let less = subst (λ ps. n < length ps) (sym same.0) within in omega (arith, less))
+        (wanted_alike aim game other replay own (Main, is) n wanted)
+    by other own (Some n) (low, high, entry) =
+        let same = one_main game replay other (Main, is) own in
+        let there = entry_alike only game replay other (Main, is) own n entry in (
+          subst (λ ps. n < length ps) same.0 (omega (arith, high)),
+          there.0,
+          there.1 refl,
+        )
+
+-- the first ply that meets the criteria is the first entry, and where none does the game has none
 pub first_entry : (aim : Aim) (game : GameText) (kept other : Replay) → IsOfGame game kept
     → IsOfGame game other → (alternatives : List Conditions)
     → aim.criteria ≡ Some alternatives → (found : Option ℕ)
     → IsFirst (λ n. Meets (heading_of game) kept n alternatives) aim.min_ply aim.max_ply found
-    → IsTrue (is_some found) ↔ HasEntry aim (heading_of game) other
+    → IsFirstOrNone aim (heading_of game) other found
 first_entry aim game kept other own also alternatives given found first = of found first
   where
     here : (n : ℕ) → Meets (heading_of game) kept n alternatives
@@ -276,21 +279,10 @@ first_entry aim game kept other own also alternatives given found first = of fou
 
     of : (found : Option ℕ)
         → IsFirst (λ n. Meets (heading_of game) kept n alternatives) aim.min_ply aim.max_ply found
-        → IsTrue (is_some found) ↔ HasEntry aim (heading_of game) other
-    of None none = (
-      λ t. absurd (false≢true t),
-      λ has. let wanted = has.2.0 in
-          absurd (none has.0 wanted.0 wanted.1 (back has.0 wanted.2)),
-    )
+        → IsFirstOrNone aim (heading_of game) other found
+    of None none = λ ply within wanted. none ply wanted.0 wanted.1 (back ply wanted.2)
     of (Some n) least = (
-      λ t. (
-        n,
-        there n least.2,
-        (
-          (least.0, least.1, here n least.2),
-          λ only m less wanted.
-              least.3 m wanted.0 less (back m wanted.2),
-        ),
-      ),
-      λ has. refl,
+      there n least.2,
+      (least.0, least.1, here n least.2),
+      λ m less wanted. least.3 m wanted.0 less (back m wanted.2),
     )

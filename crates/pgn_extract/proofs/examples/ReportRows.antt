@@ -75,7 +75,13 @@ lines_are_asked request = refl
 
 bytes_are_asked : (request : Request)
     → asked_form (record request { pack = false; moves = false; uci = false; as_is = true })
-    ∷ asked_form (record request { pack = false; moves = false; uci = false; as_is = false }) ∷ []
+    ∷ asked_form (record request {
+      pack = false;
+      moves = false;
+      uci = false;
+      as_is = false;
+      from_position = false;
+    }) ∷ []
     ≡ AsItStands ∷ Standard ∷ []
 bytes_are_asked request = refl
 

@@ -9,7 +9,8 @@ use Rattle.pgn_extract.proofs.Common.{◌∷◌, ◌++◌, None, Some, codes, ap
 use Rattle.pgn_extract.proofs.Common.{sym, ◌∙◌, Aim}
 use Rattle.pgn_extract.proofs.Common.{game_id, bad_mark, begin_of, end_of, first_line}
 use Rattle.pgn_extract.proofs.Common.{is_one_line, option_refusals, refused, text_refusals, Request}
-use Rattle.pgn_extract.proofs.Common.{Standard, AsItStands, Line, Record, Matching, Others, Faulty}
+use Rattle.pgn_extract.proofs.Common.{Standard, AsItStands, FromEntry, Line, Record, Matching}
+use Rattle.pgn_extract.proofs.Common.{Others, Faulty}
 use Rattle.pgn_extract.specs.Public.GivenMarks.{mark_in}
 use Rattle.pgn_extract.specs.Public.Requests.{asked, asks_names, gives_mark, has_several_files}
 use Rattle.pgn_extract.specs.Public.Requests.{is_stretch, IsInPacks, HasItsLines}
@@ -66,6 +67,7 @@ plain request = record request {
   plycount = false;
   order = None;
   to_ply = None;
+  from_position = false;
   width = None;
   openings = None;
   min_ply = 0;
@@ -99,7 +101,7 @@ packs_give_lines = codes "pgn-extract: --packed goes with --list, --rows or --in
 
 abbrev packs_are_plain : List ℕ
 packs_are_plain = codes
-    "pgn-extract: --packed goes with none of --from, --until, --at, --with-names, --no-names and --openings\n"
+    "pgn-extract: --packed goes with none of --from, --until, --at, --with-names and --no-names\n"
 
 abbrev rows_alone : List ℕ
 rows_alone =
@@ -230,7 +232,7 @@ packs_show_positions request no_sets no_drops =
 
 abbrev no_tags_written : List ℕ
 no_tags_written = codes
-    "pgn-extract: --set, --drop, --order, --fix-results, --plycount and --to-ply go with none of --list, --index, --rows, --moves, --uci, --pack, --as-is and --faulty\n"
+    "pgn-extract: --set, --drop, --order, --fix-results, --plycount, --to-ply and --from-position go with none of --list, --index, --rows, --moves, --uci, --pack, --as-is and --faulty\n"
 
 -- tags are edited where games are written in the standard's form
 edits_of_games : (request : Request) (text : Bor (List ℕ))
@@ -248,6 +250,22 @@ edits_of_games : (request : Request) (text : Bor (List ℕ))
     × RefusedWith (record (plain request) { plycount = true; list = true }) no_tags_written
 edits_of_games request text =
     (refl, refl, refl, refl, refl, refl, refl, refl, refl, refl, refl, refl)
+
+-- and games begin with a position where they are, and have one
+positions_of_games : (request : Request) → request.sets.items ≡ [] → request.drops.items ≡ []
+    → IsTaken (record (plain request) { from_position = true })
+    × RefusedWith (record (plain request) { from_position = true; list = true }) no_tags_written
+    × RefusedWith (record (plain request) { from_position = true; as_is = true }) no_tags_written
+    × RefusedWith (record (plain request) { from_position = true; faulty = true }) no_tags_written
+    × RefusedWith (record (plain request) { from_position = true; others = true })
+    (codes "pgn-extract: --from-position and --others exclude each other\n")
+positions_of_games request no_sets no_drops = (
+  refl,
+  rw (no_sets, no_drops) refl,
+  rw (no_sets, no_drops) refl,
+  rw (no_sets, no_drops) refl,
+  refl,
+)
 
 edits_that_set : (request : Request) (text : Bor (List ℕ)) → request.sets.items ≡ text ∷ []
     → RefusedWith (record (plain request) { list = true }) no_tags_written
@@ -383,7 +401,7 @@ one_file : (request : Request) → has_several_files request ≡ false → gives
     → first_line (option_refusals (marked request)) ≡ None
 one_file request one mark = rw (mark, one) refl
 
--- packs have neither marks nor openings
+-- packs have no marks
 abbrev listed_pack : Request → Request
 listed_pack request = record (plain request) { list = true; packed = true }
 
@@ -391,8 +409,12 @@ packs_have_no_marks : (request : Request) (text : Bor (List ℕ))
     → RefusedWith (record (listed_pack request) { from = Some text }) packs_are_plain
     × RefusedWith (record (listed_pack request) { until = Some text }) packs_are_plain
     × RefusedWith (record (listed_pack request) { at = Some text }) packs_are_plain
-    × RefusedWith (record (listed_pack request) { openings = Some text }) packs_are_plain
-packs_have_no_marks request text = (refl, refl, refl, refl)
+packs_have_no_marks request text = (refl, refl, refl)
+
+-- and are searched by openings
+packs_have_openings : (request : Request) (text : Bor (List ℕ)) → request.sets.items ≡ []
+    → request.drops.items ≡ [] → IsTaken (record (listed_pack request) { openings = Some text })
+packs_have_openings request text no_sets no_drops = rw (no_sets, no_drops) refl
 
 each_option_gives_a_mark : (request : Request) (text : Bor (List ℕ))
     → (gives_mark (record (plain request) { from = Some text }) ≡ true)
@@ -483,6 +505,7 @@ each_asked : (request : Request)
     × ((asked_alone (record (plain request) { others = true })).select ≡ Others)
     × ((asked_alone (record (plain request) { faulty = true })).select ≡ Faulty)
     × ((asked_alone (record (plain request) { as_is = true })).form ≡ AsItStands)
+    × ((asked_alone (record (plain request) { from_position = true })).form ≡ FromEntry)
     × ((asked_alone (record (plain request) { moves = true })).form ≡ Line San)
     × ((asked_alone (record (plain request) { uci = true })).form ≡ Line Uci)
     × ((asked_alone (record (plain request) { pack = true })).form ≡ Record)
@@ -499,6 +522,7 @@ each_asked : (request : Request)
     × ((asked true (plain request) no_given).explain ≡ true)
     × ((asked false (plain request) (record no_given { chosen = Some [] })).chosen ≡ Some [])
 each_asked request = (
+  refl,
   refl,
   refl,
   refl,

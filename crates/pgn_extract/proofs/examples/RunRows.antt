@@ -28,7 +28,7 @@ use Rattle.pgn_text.specs.Public.Complete.{AreCompleteBlocks}
 use Rattle.pgn_text.specs.Public.Tallies.{Tallied}
 use Rattle.pgn_extract.specs.Public.Exports.IsGameExport.{sound as sound_export}
 use Rattle.pgn_extract.specs.Public.Exports.IsGameExport.{faulty as faulty_export}
-use Rattle.pgn_extract.specs.Public.Listing.{IsMainReplayOf}
+use Rattle.pgn_extract.specs.Public.Listing.{CountsAs, IsMainReplayOf}
 use Rattle.pgn_extract.specs.Public.Requests.{option_refusals, refusals, text_refusals}
 use Rattle.pgn_extract.specs.Public.Resuming.{WritesRest, IsMarkAmong}
 use Rattle.pgn_extract.specs.Public.Runs.{AreWritten, Completed, OnInput, stream_of, IsCompleteOf}
@@ -494,16 +494,16 @@ no_other_lines_of_a_record : (aim : Aim) (packed : PackedGame) (text : List ℕ)
     → ((entries : List Entry) → text ≡ listing packed.name entries → ⊥)
     → IsRecordListing aim packed text → ⊥
 no_other_lines_of_a_record aim packed text game replay sound is_replay is_packed none is =
-    let lines = is game replay sound is_replay is_packed in none lines.0 lines.2
+    let lines = is game replay sound is_replay is_packed in none lines.2 lines.4
 
 no_other_entries_of_a_record : (aim : Aim) (packed : PackedGame) (text : List ℕ)
     (game : GameText) (replay : Replay) → IsGameText game → IsReplayOf Main game replay
     → IsPacked packed.name packed.number packed.offset game replay packed
-    → ((entries : List Entry)
-    → AreListed (named packed.name (of_all aim)) (game_id packed.number packed.offset) game replay
+    → ((own : GameText) → CountsAs aim.openings game own → (entries : List Entry)
+    → AreListed (named packed.name (of_all aim)) (game_id packed.number packed.offset) own replay
     entries → ⊥) → IsRecordListing aim packed text → ⊥
 no_other_entries_of_a_record aim packed text game replay sound is_replay is_packed none is =
-    let lines = is game replay sound is_replay is_packed in none lines.0 lines.1
+    let lines = is game replay sound is_replay is_packed in none lines.0 lines.1 lines.2 lines.3
 
 no_other_listing_is_found : (aim : Aim) (whole : List ℕ) (out out' : Option (List ℕ))
     (name : Option (List ℕ)) (number : ℕ) (pieces : List MarkedPiece) (entries : List Entry)

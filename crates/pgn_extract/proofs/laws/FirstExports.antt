@@ -7,6 +7,7 @@ use Rattle.pgn_extract.proofs.Common.{Aim, GameId, IsWanted, AreExports, HasEntr
 use Rattle.pgn_extract.proofs.Common.{IsPieceExport, IsTextOf, IsWritten, faulty, sound, selected}
 use Rattle.pgn_extract.proofs.Common.{unselected, written_lines, IsReplayOf, id_of, is_chosen}
 use Rattle.pgn_extract.proofs.Common.{heading_of, Form, Standard, AsItStands, Line, Record}
+use Rattle.pgn_extract.proofs.Common.{FromEntry}
 use Rattle.pgn_extract.specs.Public.Laws.{FirstChangesNoExport, with_first}
 use Rattle.pgn_extract.proofs.ChoiceFacts.{choice_of}
 use Rattle.pgn_extract.proofs.Decided.{all_decided}
@@ -18,6 +19,7 @@ text_of_any : (aim : Aim) (id : GameId) (game : GameText) (text : List ℕ) (for
     (first other : Bool) → IsTextOf form (with_first first aim) id game text
     → IsTextOf form (with_first other aim) id game text
 text_of_any aim id game text Standard first other own = own
+text_of_any aim id game text FromEntry first other own = own
 text_of_any aim id game text AsItStands first other own = own
 text_of_any aim id game text (Line notation) first other own = own
 text_of_any aim id game text Record first other own = own
@@ -25,20 +27,19 @@ text_of_any aim id game text Record first other own = own
 module _ (aim : Aim) (id : GameId) (game : GameText) (replay : Replay)
     (is : IsReplayOf (written_lines aim) game replay) where
   -- of the plies up to one that is wanted there is a first
-  first_wanted : (fuel ply : ℕ) → ply < fuel → ply < length replay.positions
+  first_wanted : (ply : ℕ) → ply < length replay.positions
       → IsWanted aim (heading_of game) replay ply
       → HasEntry (with_first true aim) (heading_of game) replay
-  first_wanted zero ply within less wanted = absurd (omega arith)
-  first_wanted (suc fuel) ply within less wanted =
+  first_wanted ply less wanted =
       elim (none_before aim (heading_of game) replay ply (λ n below.
       all_decided aim (written_lines aim) game replay is n (omega arith))) [
         | inl none ↦ (ply, less, (wanted, λ only before earlier holds. none before earlier holds))
-        | inr (n, below, earlier) ↦ first_wanted fuel n (omega arith) (omega arith) earlier
+        | inr (n, below, earlier, least) ↦ (n, omega arith, (earlier, λ only. least))
       ]
 
   some_first : HasEntry (with_first false aim) (heading_of game) replay
       → HasEntry (with_first true aim) (heading_of game) replay
-  some_first (ply, less, entry) = first_wanted (ply + 1) ply (omega arith) less entry.0
+  some_first (ply, less, entry) = first_wanted ply less entry.0
 
   first_of_all : HasEntry (with_first true aim) (heading_of game) replay
       → HasEntry (with_first false aim) (heading_of game) replay

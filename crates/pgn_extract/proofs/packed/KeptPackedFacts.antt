@@ -4,7 +4,10 @@ use Rattle.pgn_extract.proofs.Common.{GameText, tag_in, positions_from, IsCodedL
 use Rattle.pgn_extract.proofs.Common.{main_words, IsMainLine, RawRecord, PackedGame, AreCodes}
 use Rattle.pgn_extract.proofs.Common.{Replay, fen_tag, IsStart, line_legal, line_positions}
 use Rattle.pgn_extract.proofs.Common.{one_start, IsOfRecord, HasNoText}
-use Rattle.pgn_extract.proofs.Common.{IsOfGame, Main}
+use Rattle.pgn_extract.proofs.Common.{IsOfGame, Main, Option, Some, ℕ, EachOfRecord}
+use Rattle.pgn_game.specs.Public.Openings.{NamedLine, IsOpeningIn, ends_of}
+use Rattle.pgn_game.specs.declared.openings.Opening.{Opening}
+use Rattle.pgn_extract.specs.Public.Rows.{IsOpeningBy}
 use Rattle.pgn_game.specs.Public.CodeLines.{AreLegalMoves, IsLegalLine}
 use Rattle.pgn_game.proofs.OneReplay.{line_head}
 use Rattle.pgn_extract.specs.Private.KeptPacked.{IsStartOf, IsKeptOf}
@@ -77,3 +80,14 @@ pub none_of : (raw : RawRecord) (start : State) → IsStartOf raw start
     → ((moves : List Move) → IsCodedLine start raw.plies moves → ⊥) → HasNoText raw
 none_of raw start is none game replay packed own =
     none replay.played (coded_line own start (is game replay packed own))
+
+-- the opening of the line that the bytes spell is that of each game that has the record
+pub opening_of : (raw : RawRecord) (start : State) (lines : List NamedLine)
+    (opening : Option Opening) (bytes : List ℕ) → bytes ≡ raw.plies → IsStartOf raw start
+    → ((moves : List Move) → IsCodedLine start bytes moves
+    → IsOpeningIn (ends_of lines) (positions_from start moves) opening)
+    → EachOfRecord raw (λ game replay packed. IsOpeningBy (Some lines) replay.positions opening)
+opening_of raw start lines opening bytes same is found game replay packed own =
+    let line = each_line own start (is game replay packed own) replay (Main, own.is_replay) in
+    subst (λ ps. IsOpeningIn (ends_of lines) ps opening) (sym line.0.positions)
+    (found replay.played (subst (λ b. IsCodedLine start b replay.played) (sym same) line.1))

@@ -5,7 +5,7 @@ use Rattle.pgn_extract.proofs.Common.{sym, ap, ap₂, ◌∙◌, subst, append_a
 use Rattle.pgn_extract.proofs.Common.{IsGameText, tag_in, PieceKind, ReadableGame, UnreadableRest}
 use Rattle.pgn_extract.proofs.Common.{TooLongBlock, MarkedPiece, Part, no_fault, PackedGame}
 use Rattle.pgn_extract.proofs.Common.{IsPacked, pack_bytes, fen_tag, Main, Aim, GameId}
-use Rattle.pgn_extract.proofs.Common.{AreGameEntries, ArePieceEntries, AreEntryRows, AreListed}
+use Rattle.pgn_extract.proofs.Common.{ArePieceEntries, AreEntryRows, AreListed}
 use Rattle.pgn_extract.proofs.Common.{IsReplayOf, mark_line, Entry, AreEntries, IsGameOf, listing}
 use Rattle.pgn_extract.proofs.Common.{AreGameRecords, AreRecordLines, IsSoundPiece, AreRecords}
 use Rattle.pgn_extract.proofs.Common.{IsPackOf, of_all, ArePieceRecords, IsRecordListing}
@@ -14,6 +14,8 @@ use Rattle.pgn_extract.proofs.Common.{game_id, id_of}
 use Rattle.pgn_game.proofs.PackOnce.{one_pack}
 use Rattle.pgn_extract.specs.Private.EntryRows.{sound as sound_rows, faulty as faulty_rows}
 use Rattle.pgn_extract.specs.Public.Searching.{named, faulty, sound, keep, leave, none as no_pieces}
+use Rattle.pgn_extract.proofs.Common.{by_itself}
+use Rattle.pgn_extract.proofs.Counting.{counted_replay, counts_there, faulty_counts}
 use Rattle.pgn_extract.proofs.ExactEntries.{are_entries}
 use Rattle.pgn_extract.proofs.GameExport.{one_game}
 use Rattle.pgn_extract.proofs.ModeOutputs.{listing-append}
@@ -49,14 +51,14 @@ one_more_record aim (first ∷ before) packed text own (lines, others, parted, h
   one_more_record aim before packed others own listed of,
 )
 
--- what is listed of a record is listed of the game
+-- what is listed of a record is listed of the game as it counts
 game_rows : (aim : Aim) → aim.mode ≡ modes.List
-    → (name : Option (List ℕ)) (id : GameId) (game : GameText) → IsGameText game
-    → (own : List PackedGame) (text : List ℕ)
+    → (name : Option (List ℕ)) (id : GameId) (parts : List Part) (game : GameText)
+    → IsGameOf parts game → (own : List PackedGame) (text : List ℕ)
     → AreGameRecords name id game own → ArePackLines aim own text
-    → (rows : List Entry) × AreGameEntries (named name (of_all aim)) id game rows
+    → (rows : List Entry) × ArePieceEntries (named name (of_all aim)) (ReadableGame parts) id rows
     × (text ≡ listing name rows)
-game_rows aim list name id game good own text (sound replay packed is packs one) listed =
+game_rows aim list name id parts game made own text (sound replay packed is packs one) listed =
     let (lines, others, parted, of, none) = subst (λ r. ArePackLines aim r text) one listed in
     let own_mark : IsPacked packed.name packed.number packed.offset game replay packed = record {
       name = refl;
@@ -71,20 +73,32 @@ game_rows aim list name id game good own text (sound replay packed is packs one)
     } in
     let here : IsRecordListing aim packed lines =
     subst (λ (m : Mode). AreRecordLines m aim packed lines) list of in
-    let found = here game replay good is own_mark in
-    let marked : AreListed (named name (of_all aim)) id game replay found.0 =
-    subst (λ (i : GameId). AreListed (named name (of_all aim)) i game replay found.0)
+    let (other, counts, entries, found, spelled) = here game replay made.0 is own_mark in
+    let marked : AreListed (named name (of_all aim)) id other replay entries =
+    subst (λ (i : GameId). AreListed (named name (of_all aim)) i other replay entries)
     (ap₂ game_id packs.number packs.offset)
     (subst (λ (title : Option (List ℕ)).
-    AreListed (named title (of_all aim)) (game_id packed.number packed.offset) game replay found.0)
-    packs.name found.1) in (
-      found.0,
-      sound_rows replay is marked,
-      parted ∙ ap (λ t. lines ++ t) none ∙ append-nil lines ∙ found.2
-          ∙ ap (λ (title : Option (List ℕ)). listing title found.0) packs.name,
+    AreListed (named title (of_all aim)) (game_id packed.number packed.offset) other replay entries)
+    packs.name found) in (
+      entries,
+      (
+        by_itself other,
+        counts_there aim.openings parts game other made.0 made.1 counts,
+        sound_rows replay (counted_replay aim.openings game other replay counts is) marked,
+      ),
+      parted ∙ ap (λ t. lines ++ t) none ∙ append-nil lines ∙ spelled
+          ∙ ap (λ (title : Option (List ℕ)). listing title entries) packs.name,
     )
-game_rows aim list name id game good own text (faulty fault is none) listed =
-    ([], faulty_rows fault is refl, subst (λ r. ArePackLines aim r text) none listed)
+game_rows aim list name id parts game made own text (faulty fault is none) listed = (
+  [],
+  (
+    by_itself game,
+    counts_there aim.openings parts game game made.0 made.1
+        (faulty_counts aim.openings game fault made.0 is),
+    faulty_rows fault is refl,
+  ),
+  subst (λ r. ArePackLines aim r text) none listed,
+)
 
 piece_rows : (aim : Aim) → aim.mode ≡ modes.List
     → (name : Option (List ℕ)) (kind : PieceKind) (id : GameId) (own : List PackedGame)
@@ -92,8 +106,7 @@ piece_rows : (aim : Aim) → aim.mode ≡ modes.List
     → (rows : List Entry) × ArePieceEntries (named name (of_all aim)) kind id rows
     × (text ≡ listing name rows)
 piece_rows aim list name (ReadableGame parts) id own text (game, made, are) listed =
-    let rows = game_rows aim list name id game made.0 own text are listed in
-    (rows.0, (game, made, rows.1), rows.2)
+    game_rows aim list name id parts game made own text are listed
 piece_rows aim list name (UnreadableRest bytes) id own text none listed =
     ([], refl, subst (λ r. ArePackLines aim r text) none listed)
 piece_rows aim list name TooLongBlock id own text none listed =

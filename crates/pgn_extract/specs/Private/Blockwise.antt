@@ -6,7 +6,7 @@ use Rattle.std.specs.Prelude.{decimal, if◌then◌else◌, ◌==◌}
 use Rattle.std.specs.Io.KnownBytes.{Appends}
 use Rattle.pgn_text.specs.Public.GameTexts.{GameText, IsGameText, ShowsGame}
 use Rattle.pgn_game.specs.Public.Faults.{Fault}
-use Rattle.pgn_game.specs.Public.Openings.{NamedLine, IsClassified}
+use Rattle.pgn_game.specs.Public.Openings.{NamedLine}
 use Rattle.pgn_game.specs.Public.Replays.{Replay}
 use Rattle.pgn_game.specs.declared.replays.replayer.Lines.{Lines}
 use Rattle.pgn_extract.specs.Public.Exports.{IsTextOf, IsWritten, faulty_text, written_lines}
@@ -41,7 +41,7 @@ use Rattle.pgn_extract.specs.declared.output.outcome.Summary.{Summary}
 use Rattle.pgn_extract.specs.Public.Aims.{Aim, GameId}
 use Rattle.pgn_extract.specs.Public.Choices.{IfChosen, is_chosen}
 use Rattle.pgn_text.specs.Public.LeftMarks.{mark_place}
-use Rattle.pgn_extract.specs.Public.Listing.{Entry, listing}
+use Rattle.pgn_extract.specs.Public.Listing.{CountsAs, Entry, listing}
 use Rattle.pgn_extract.specs.declared.settings.Form.TheVariants.{Standard}
 use Rattle.pgn_extract.specs.declared.settings.Mode.{Mode}
 use Rattle.pgn_extract.specs.declared.settings.Mode.TheVariants as modes
@@ -155,12 +155,6 @@ abbrev pub AddsSearched : Mode → Aim → Report → Report → GameId → Game
 AddsSearched mode aim old new id game = (verdict : Verdict)
     × IsGameVerdict aim.tags_first mode aim id (by_itself game) verdict
     × AddsVerdict old new verdict 0
-
--- the game counts as the other one: where lines of openings are given, with the tags of its
--- opening
-abbrev pub CountsAs : Option (List NamedLine) → GameText → GameText → Type 0
-CountsAs None game other = other ≡ game
-CountsAs (Some lines) game other = IsGameText other × IsClassified lines game other
 
 -- what the mode reports of a game as which it counts is added
 abbrev pub AddsCounted : Mode → Aim → Report → Report → GameId → GameText → Type 0

@@ -19,7 +19,7 @@ use Rattle.pgn_criteria.specs.Public.Meeting.{Heading, heading_of, Meets}
 use Rattle.pgn_criteria.specs.Public.Conditions.{Conditions}
 use Rattle.pgn_extract.specs.Public.Aims.{Aim, GameId, HasNoChance, IsMet}
 use Rattle.pgn_extract.specs.declared.settings.Mode.TheVariants as modes
-use Rattle.pgn_extract.specs.Public.Exports.{HasEntry}
+use Rattle.pgn_extract.specs.Public.Exports.{IsFirstOrNone}
 use Rattle.pgn_extract.specs.Public.GameReports.{AreListed}
 use Rattle.pgn_extract.specs.Public.Index.{mark, titled}
 use Rattle.pgn_extract.specs.Public.Listing.{Entry, listing}
@@ -99,9 +99,9 @@ pub record ListsNone (aim : Aim) (heading : Heading) : Type 0 where
   pub mode : aim.mode ≡ modes.List
   pub no_chance : HasNoChance aim.criteria heading
 
--- the main line of the game is sound, and has an entry or has none
-abbrev pub IsChosen : Aim → GameText → Bool → Type 0
-IsChosen aim game has =
+-- the main line of the game is sound, and this is its least ply that is listed, or none
+abbrev pub IsChosen : Aim → GameText → Option ℕ → Type 0
+IsChosen aim game first =
     IsSoundGame Main (tag_in fen_tag game.tags) game.elements
     × ((replay : Replay) → IsOfGame game replay
-    → IsTrue has ↔ HasEntry aim (heading_of game) replay)
+    → IsFirstOrNone aim (heading_of game) replay first)

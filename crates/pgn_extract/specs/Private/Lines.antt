@@ -1,7 +1,7 @@
 -- The main line of a game, whose positions are asked one after the other: what is known where it
 -- stands, and what a finder hands on.
 use Rattle.std.specs.Prelude.{◌≡◌, ◌↔◌, ◌<◌, ◌≤◌, ◌+◌, ◌++◌, ◌∷◌, ℕ, Bool, true, false, List, []}
-use Rattle.std.specs.Prelude.{length, Option, IsTrue}
+use Rattle.std.specs.Prelude.{length, Option, None, Some, IsTrue}
 use Rattle.chess.specs.Public.Positions.{State}
 use Rattle.pgn_text.specs.Public.GameTexts.{GameText, tag_in}
 use Rattle.pgn_game.specs.Public.Faults.{Fault, IsFault}
@@ -247,6 +247,12 @@ marked_lines mark (entry ∷ more) = marked_line mark entry ++ marked_lines mark
 abbrev pub or_some : Bool → List Entry → Bool
 or_some found [] = found
 or_some found (entry ∷ more) = true
+
+-- the ply of one before, or of the first that was handed on
+abbrev pub first_ply : Option ℕ → List Entry → Option ℕ
+first_ply (Some ply) entries = Some ply
+first_ply None [] = None
+first_ply None (entry ∷ more) = Some entry.ply
 
 -- it looks for what is asked of the game, and makes the lines of it; that it is sound may be known
 pub record IsFinderOf (asked : Settings) (id : GameId) (game : GameText) (known : Bool)

@@ -19,7 +19,7 @@ use Rattle.pgn_extract.specs.declared.settings.Settings.{Settings}
 use Rattle.pgn_extract.specs.Private.Lines.{NoneBefore, made_line}
 use Rattle.pgn_extract.specs.declared.entries.line_maker.LineMaker.{LineMaker}
 use Rattle.pgn_extract.specs.Public.GameReports.{AreListed}
-use Rattle.pgn_extract.specs.Public.Listing.{Entry, listing}
+use Rattle.pgn_extract.specs.Public.Listing.{CountsAs, Entry, listing}
 use Rattle.pgn_extract.specs.Public.Searching.{AreRecordLines, IsOfNoGame}
 use Rattle.pgn_extract.specs.Public.GivenMarks.{game_id}
 
@@ -59,9 +59,9 @@ EachOfRecord raw So = (game : GameText) (replay : Replay) (packed : PackedGame)
 abbrev pub HasNoText : RawRecord → Type 0
 HasNoText raw = EachOfRecord raw (λ game replay packed. ⊥)
 
--- the aim, with the name that the record has, by no lines of openings
+-- the aim, with the name that the record has
 abbrev pub record_aim : Aim → RawRecord → Aim
-record_aim aim raw = record aim { name = raw.name; openings = None }
+record_aim aim raw = record aim { name = raw.name }
 
 -- what the settings ask for, with the lines that are made; and with the mark and the ply alone
 abbrev pub aim_making : Settings → LineMaker → Aim
@@ -103,6 +103,14 @@ abbrev pub ListsRecord : Aim → RawRecord → List ℕ → List ℕ → Type 0
 ListsRecord aim raw old new =
     Grows old new × EachOfRecord raw (λ game replay packed.
     (entries : List Entry) × AreListed (record_aim aim raw) (raw_id raw) game replay entries
+    × (new ≡ old ++ listing raw.name entries))
+
+-- the same of each game as it counts
+abbrev pub ListsCounted : Aim → RawRecord → List ℕ → List ℕ → Type 0
+ListsCounted aim raw old new =
+    Grows old new × EachOfRecord raw (λ game replay packed.
+    (own : GameText) × CountsAs aim.openings game own × (entries : List Entry)
+    × AreListed (record_aim aim raw) (raw_id raw) own replay entries
     × (new ≡ old ++ listing raw.name entries))
 
 -- the line stands at a position of each game that has the record, and none is wanted before it

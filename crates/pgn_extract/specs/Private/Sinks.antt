@@ -1,5 +1,6 @@
 -- What a sink has of the entries that are handed to it.
-use Rattle.std.proofs.Common.{◌≡◌, ◌++◌, ◌∷◌, ℕ, Bool, List, [], length, refl, sym, ap, ◌∙◌}
+use Rattle.std.proofs.Common.{◌≡◌, ◌++◌, ◌∷◌, ℕ, Option, None, Some, List, [], length, refl, sym}
+use Rattle.std.proofs.Common.{ap, ◌∙◌}
 use Rattle.std.proofs.Common.{append-nil, append_assoc}
 use Rattle.chess.specs.Public.Positions.{State}
 use Rattle.pgn_text.specs.Public.GameTexts.{GameText}
@@ -7,7 +8,7 @@ use Rattle.pgn_extract.specs.Public.Aims.{Aim, GameId}
 use Rattle.pgn_extract.specs.Public.Listing.{Entry, Shown}
 use Rattle.pgn_extract.specs.declared.entries.line_maker.LineMaker.{LineMaker}
 use Rattle.pgn_extract.specs.Private.Lines.{Where, Makes, ShowsLine, marked_line, marked_lines}
-use Rattle.pgn_extract.specs.Private.Lines.{or_some}
+use Rattle.pgn_extract.specs.Private.Lines.{first_ply}
 
 -- the entry where the line stands is handed on, with what is shown there
 abbrev pub PutsHere : {S : Type 0} → (List Entry → S → Type 0)
@@ -35,11 +36,15 @@ lines_more mark a b c xs ys first then =
     ∙ append_assoc a (marked_lines mark xs) (marked_lines mark ys)
     ∙ ap (λ t. a ++ t) (sym (joined_lines mark xs ys))
 
-pub some_more : (a b c : Bool) (xs ys : List Entry) → b ≡ or_some a xs → c ≡ or_some b ys
-    → c ≡ or_some a (xs ++ ys)
-some_more a b c [] ys first then = then ∙ ap (λ r. or_some r ys) first
-some_more a b c (x ∷ xs) [] first then = then ∙ first
-some_more a b c (x ∷ xs) (y ∷ ys) first then = then
+pub first_none : (found : Option ℕ) → found ≡ first_ply found []
+first_none None = refl
+first_none (Some ply) = refl
+
+pub first_more : (a b c : Option ℕ) (xs ys : List Entry) → b ≡ first_ply a xs
+    → c ≡ first_ply b ys → c ≡ first_ply a (xs ++ ys)
+first_more (Some ply) b c xs ys first then = then ∙ ap (λ found. first_ply found ys) first
+first_more None b c [] ys first then = then ∙ ap (λ found. first_ply found ys) first
+first_more None b c (x ∷ xs) ys first then = then ∙ ap (λ found. first_ply found ys) first
 
 pub grows_none : (text : List ℕ) → (some : List ℕ) × (text ≡ text ++ some)
 grows_none text = ([], sym (append-nil text))

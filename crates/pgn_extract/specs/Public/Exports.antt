@@ -2,10 +2,12 @@
 -- the standard's form for export. Or those that have none, or its faulty pieces; or each game as it
 -- stands, on a line of its own, or as the record of a pack.
 use Rattle.std.specs.Prelude.{◌≡◌, ℕ, ◌+◌, ◌<◌, List, [], ◌∷◌, ◌++◌, length, codes, Option}
+use Rattle.std.specs.Prelude.{Some, None}
 use Rattle.pgn_text.specs.Public.GameTexts.{GameText, tag_in}
 use Rattle.pgn_text.specs.Public.Marks.{PieceKind, ReadableGame, UnreadableRest, TooLongBlock}
 use Rattle.pgn_text.specs.Public.Marks.{MarkedPiece}
 use Rattle.pgn_game.specs.Public.Edits.{IsEditedExport}
+use Rattle.pgn_game.specs.Public.LaterPlies.{IsLater}
 use Rattle.pgn_game.specs.Public.Exports.{lines_with}
 use Rattle.pgn_game.specs.Public.Faults.{Fault}
 use Rattle.pgn_game.specs.Public.GameLines.{IsGameLine}
@@ -16,13 +18,14 @@ use Rattle.pgn_game.specs.declared.replays.replayer.Lines.{Lines}
 use Rattle.pgn_game.specs.declared.replays.replayer.Lines.TheVariants.{Main}
 use Rattle.pgn_game.specs.declared.exports.style.Style.{Style}
 use Rattle.pgn_criteria.specs.Public.Meeting.{Heading, heading_of}
-use Rattle.pgn_extract.specs.Public.Aims.{Aim, GameId, IsEntry}
+use Rattle.pgn_extract.specs.Public.Aims.{Aim, GameId, IsEntry, IsWanted}
 use Rattle.pgn_extract.specs.Public.Choices.{id_of, IfChosen, is_chosen}
 use Rattle.pgn_extract.specs.Public.Index.{mark, titled}
 use Rattle.pgn_extract.specs.Public.GameReports.{IsReplayOf, IsFaultOf}
 use Rattle.pgn_extract.specs.Public.Listing.{IsCounted}
 use Rattle.pgn_extract.specs.declared.settings.Form.{Form}
 use Rattle.pgn_extract.specs.declared.settings.Form.TheVariants.{Standard, AsItStands, Line, Record}
+use Rattle.pgn_extract.specs.declared.settings.Form.TheVariants.{FromEntry}
 use Rattle.pgn_extract.specs.declared.settings.Mode.{Mode}
 use Rattle.pgn_extract.specs.declared.settings.Mode.TheVariants as modes
 use Rattle.pgn_extract.specs.declared.settings.Select.{Select}
@@ -31,6 +34,7 @@ use Rattle.pgn_extract.specs.declared.settings.Select.TheVariants.{Matching, Oth
 -- the lines of a game that must be sound in a form: all that are written
 abbrev pub lines_in : Form → Style → Lines
 lines_in Standard style = lines_with style.variations
+lines_in FromEntry style = lines_with style.variations
 lines_in AsItStands style = lines_with style.variations
 lines_in (Line notation) style = Main
 lines_in Record style = Main
@@ -41,6 +45,20 @@ written_lines aim = lines_in aim.form aim.style
 -- some ply of the main line is listed
 abbrev pub HasEntry : Aim → Heading → Replay → Type 0
 HasEntry aim tags replay = (ply : ℕ) × (ply < length replay.positions) × IsEntry aim tags replay ply
+
+-- this is the first ply of the main line that is wanted, and so the least that is listed; or none
+-- where none is
+abbrev pub IsFirstOrNone : Aim → Heading → Replay → Option ℕ → Type 0
+IsFirstOrNone aim tags replay None =
+    (ply : ℕ) → ply < length replay.positions → IsWanted aim tags replay ply → ⊥
+IsFirstOrNone aim tags replay (Some ply) =
+    (ply < length replay.positions) × IsWanted aim tags replay ply
+    × ((before : ℕ) → before < ply → IsWanted aim tags replay before → ⊥)
+
+-- the other game is the game from its first entry on; whole where it has none
+abbrev pub IsFromEntry : Option ℕ → GameText → GameText → Type 0
+IsFromEntry None game other = other ≡ game
+IsFromEntry (Some ply) game other = IsLater ply game other
 
 -- bytes of a text as they stand there, and two line feeds
 abbrev pub as_it_stands : List ℕ → List ℕ
@@ -58,10 +76,14 @@ IsSelected Faulty entry = ⊥
 abbrev pub line_with : Option (List ℕ) → GameId → List ℕ → List ℕ
 line_with name id own = (titled (codes ":") name ++ mark id) ++ 32 ∷ own ++ 10 ∷ []
 
--- the text of a game that is selected: its export with the edits, or the game as it stands, or its
--- line, or its record
+-- the text of a game that is selected: its export with the edits, or that of the game from its
+-- first entry on, or the game as it stands, or its line, or its record
 abbrev pub IsTextOf : Form → Aim → GameId → GameText → List ℕ → Type 0
 IsTextOf Standard aim id game text = IsEditedExport aim.edits aim.style game text
+IsTextOf FromEntry aim id game text =
+    (replay : Replay) × (first : Option ℕ) × (own : GameText) × IsReplayOf Main game replay
+    × IsFirstOrNone aim (heading_of game) replay first × IsFromEntry first game own
+    × IsEditedExport aim.edits aim.style own text
 IsTextOf AsItStands aim id game text = text ≡ as_it_stands game.text
 IsTextOf (Line notation) aim id game text =
     (own : List ℕ) × IsGameLine notation (tag_in fen_tag game.tags) game.elements own

@@ -107,12 +107,18 @@ IsShownOf aim id game replay ply shown =
 abbrev pub IsGameOf : List Part → GameText → Type 0
 IsGameOf parts game = IsGameText game × ShowsGame game 0 parts
 
+-- the game counts as the other one: where lines of openings are given, with the tags of its
+-- opening
+abbrev pub CountsAs : Option (List NamedLine) → GameText → GameText → Type 0
+CountsAs None game other = other ≡ game
+CountsAs (Some lines) game other = IsGameText other × IsClassified lines game other
+
 -- the game as which these parts count: the one that they make; where lines of openings are given,
 -- with the tags of its opening
 abbrev pub IsCounted : Option (List NamedLine) → List Part → GameText → Type 0
 IsCounted None parts game = IsGameOf parts game
-IsCounted (Some lines) parts game = (own : GameText) × IsGameOf parts own × IsGameText game
-    × IsClassified lines own game
+IsCounted (Some lines) parts game =
+    (own : GameText) × IsGameOf parts own × CountsAs (Some lines) own game
 
 -- the main line of the game is sound, and this is its replay
 abbrev pub IsMainReplayOf : GameText → Replay → Type 0

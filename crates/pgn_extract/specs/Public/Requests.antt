@@ -22,6 +22,7 @@ use Rattle.pgn_extract.specs.declared.settings.EntryLine.{EntryLine}
 use Rattle.pgn_extract.specs.declared.settings.EntryLine.TheVariants.{Marked, InColumns}
 use Rattle.pgn_extract.specs.declared.settings.Form.{Form}
 use Rattle.pgn_extract.specs.declared.settings.Form.TheVariants.{Standard, AsItStands, Line, Record}
+use Rattle.pgn_extract.specs.declared.settings.Form.TheVariants.{FromEntry}
 use Rattle.pgn_extract.specs.declared.settings.Mode.{Mode}
 use Rattle.pgn_extract.specs.declared.settings.Mode.TheVariants as modes
 use Rattle.pgn_extract.specs.declared.settings.Select.{Select}
@@ -41,13 +42,14 @@ asked_select request = if request.others then Others
     else (if request.faulty then Faulty else Matching)
 
 -- how a game is written: as a record, on a line with its moves, as it stands, or in the standard's
--- form
+-- form, from its first entry on or whole
 abbrev pub asked_form : Request → Form
 asked_form request =
     if request.pack then Record else
     (if request.moves then Line San else
     (if request.uci then Line Uci else
-    (if request.as_is then AsItStands else Standard)))
+    (if request.as_is then AsItStands else
+    (if request.from_position then FromEntry else Standard))))
 
 -- what becomes of the commands of comments
 abbrev pub asked_commands : Request → Commands
@@ -219,9 +221,13 @@ asks_no_form request = (request.list || request.index || is_some request.rows)
 abbrev pub edit_refusals : Request → List Refusal
 edit_refusals request =
     record {
-      applies = asks_no_form request && has_edits request;
+      applies = asks_no_form request && (has_edits request || request.from_position);
       line = codes
-          "pgn-extract: --set, --drop, --order, --fix-results, --plycount and --to-ply go with none of --list, --index, --rows, --moves, --uci, --pack, --as-is and --faulty\n";
+          "pgn-extract: --set, --drop, --order, --fix-results, --plycount, --to-ply and --from-position go with none of --list, --index, --rows, --moves, --uci, --pack, --as-is and --faulty\n";
+    }
+    ∷ record {
+      applies = request.from_position && request.others;
+      line = codes "pgn-extract: --from-position and --others exclude each other\n";
     }
     ∷ record {
       applies = request.keep_commands && request.strip_commands;
@@ -316,10 +322,9 @@ other_refusals request =
     }
     ∷ record {
       applies = request.packed
-          && (gives_mark request || request.with_names || request.no_names
-          || is_some request.openings);
+          && (gives_mark request || request.with_names || request.no_names);
       line = codes
-          "pgn-extract: --packed goes with none of --from, --until, --at, --with-names, --no-names and --openings\n";
+          "pgn-extract: --packed goes with none of --from, --until, --at, --with-names and --no-names\n";
     }
     ∷ record {
       applies = has_fields request && not request.list;

@@ -22,7 +22,7 @@ use Rattle.pgn_extract.specs.declared.settings.Mode.{Mode}
 use Rattle.pgn_extract.specs.declared.settings.Mode.TheVariants as modes
 use Rattle.pgn_extract.specs.declared.settings.Select.TheVariants.{Matching}
 use Rattle.pgn_extract.specs.Public.GameReports.{AreListed, IsReplayOf, IsFaultOf}
-use Rattle.pgn_extract.specs.Public.Listing.{Entry, AreEntries, IsGameOf, listing}
+use Rattle.pgn_extract.specs.Public.Listing.{CountsAs, Entry, AreEntries, IsGameOf, listing}
 use Rattle.pgn_extract.specs.Public.Outcomes.{AppendsFront}
 use Rattle.pgn_extract.specs.declared.packed.searching.SearchError.{SearchError}
 use Rattle.pgn_extract.specs.declared.packed.searching.SearchError.TheVariants.{Read, OutOfMemory}
@@ -98,22 +98,22 @@ PackedTextIsAPack =
 
 -- What is found in a pack.
 
--- the aim that passes over no game, and takes each as it stands: neither marks nor openings are
--- looked for in packs
+-- the aim that passes over no game: marks are not looked for in packs
 abbrev pub of_all : Aim → Aim
-of_all aim = record aim { chosen = None; openings = None }
+of_all aim = record aim { chosen = None }
 
 -- the aim whose lines have this name of a file
 abbrev pub named : Option (List ℕ) → Aim → Aim
 named name aim = record aim { name = name }
 
--- the listing of a record: of whatever game it is kept, the lines of the entries of that game
+-- the listing of a record: of whatever game it is kept, the lines of the entries of that game as it
+-- counts
 abbrev pub IsRecordListing : Aim → PackedGame → List ℕ → Type 0
 IsRecordListing aim packed text =
     (game : GameText) (replay : Replay) → IsGameText game → IsReplayOf Main game replay
     → IsPacked packed.name packed.number packed.offset game replay packed
-    → (entries : List Entry)
-    × AreListed (named packed.name (of_all aim)) (game_id packed.number packed.offset) game replay
+    → (own : GameText) × CountsAs aim.openings game own × (entries : List Entry)
+    × AreListed (named packed.name (of_all aim)) (game_id packed.number packed.offset) own replay
     entries
     × (text ≡ listing packed.name entries)
 

@@ -51,6 +51,8 @@ pub struct Request<'a> {
     pub order: Option<&'a str>,
     /// The number after `--to-ply`.
     pub to_ply: Option<u32>,
+    /// `--from-position` was given.
+    pub from_position: bool,
     /// The number after `-w`.
     pub width: Option<u16>,
     /// The path after `--openings`.
@@ -349,6 +351,11 @@ const EDITS: &[Choice] = &[
         Takes::Ply,
         "End each game after N plies of its main line",
     ),
+    choice!(
+        "from-position",
+        "Begin each game with its first position that is\n\
+         looked for",
+    ),
 ];
 
 /// What goes to standard error.
@@ -511,6 +518,7 @@ pub fn read_arguments<'a>(alloc: Global, arguments: &'a [String]) -> Result<Requ
         plycount: matches.get_flag("plycount"),
         order: matches.get_str("order"),
         to_ply: matches.get_one("to-ply"),
+        from_position: matches.get_flag("from-position"),
         width: matches.get_one("width"),
         openings: matches.get_str("openings"),
         criteria: matches.get_str("criteria"),

@@ -175,12 +175,7 @@ fn refused_row(
     let Some(column) = unlined_column(request, row) else {
         return Ok(None);
     };
-    let fault = if request.packed {
-        IN_NO_PACK
-    } else {
-        "goes with --openings"
-    };
-    Ok(Some(named_column(alloc, column.name(), fault)?))
+    Ok(Some(named_column(alloc, column.name(), "goes with --openings")?))
 }
 
 /// The row that is asked for, if one is. One of packs shows no annotations, and one shows openings

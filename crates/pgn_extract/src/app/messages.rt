@@ -45,7 +45,10 @@ pub const NO_PACK: &str =
 
 /// Games are edited that are written in the standard's form alone.
 pub const NO_TAGS_WRITTEN: &str =
-    "pgn-extract: --set, --drop, --order, --fix-results, --plycount and --to-ply go with none of --list, --index, --rows, --moves, --uci, --pack, --as-is and --faulty\n";
+    "pgn-extract: --set, --drop, --order, --fix-results, --plycount, --to-ply and --from-position go with none of --list, --index, --rows, --moves, --uci, --pack, --as-is and --faulty\n";
+
+/// Games that have no position that is looked for begin with none.
+pub const NO_POSITION: &str = "pgn-extract: --from-position and --others exclude each other\n";
 
 /// Commands are kept whole, and left out.
 pub const BOTH_COMMANDS: &str =
@@ -65,10 +68,9 @@ pub const BOTH_NAMINGS: &str = "pgn-extract: --with-names and --no-names exclude
 /// A pack is listed or indexed, and nothing else is done with it.
 pub const PACKS_GIVE_LINES: &str = "pgn-extract: --packed goes with --list, --rows or --index\n";
 
-/// The lines of a pack have the names that were packed; and a pack is searched as a whole, by the
-/// tags that were packed.
+/// The lines of a pack have the names that were packed; and a pack is searched as a whole.
 pub const PACKS_ARE_PLAIN: &str =
-    "pgn-extract: --packed goes with none of --from, --until, --at, --with-names, --no-names and --openings\n";
+    "pgn-extract: --packed goes with none of --from, --until, --at, --with-names and --no-names\n";
 
 /// A pack has something that is the record of no game; its name follows.
 pub const BAD_PACK: &str = "pgn-extract: bad pack: ";

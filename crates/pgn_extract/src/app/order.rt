@@ -115,7 +115,7 @@ fn refused_others(request: &Request<'_>) -> Option<&'static str>
         return Some(messages::PACKS_GIVE_LINES);
     }
     let is_named = request.with_names | request.no_names;
-    if request.packed & (has_mark(request) | is_named | request.openings.is_some()) {
+    if request.packed & (has_mark(request) | is_named) {
         return Some(messages::PACKS_ARE_PLAIN);
     }
     if has_fields & !request.list {
@@ -171,8 +171,12 @@ fn refused_edits(request: &Request<'_>) -> Option<&'static str>
 {
     let has_mode = request.list | request.index | request.rows.is_some();
     let has_form = request.moves | request.uci | request.pack | request.as_is;
-    if is_edited(request) & (has_mode | has_form | request.faulty) {
+    let is_changed = is_edited(request) | request.from_position;
+    if is_changed & (has_mode | has_form | request.faulty) {
         return Some(messages::NO_TAGS_WRITTEN);
+    }
+    if request.from_position & request.others {
+        return Some(messages::NO_POSITION);
     }
     if request.keep_commands & request.strip_commands {
         return Some(messages::BOTH_COMMANDS);
@@ -269,6 +273,8 @@ fn form_of(request: &Request<'_>) -> Form
         Form::Line(Notation::Uci)
     } else if request.as_is {
         Form::AsItStands
+    } else if request.from_position {
+        Form::FromEntry
     } else {
         Form::Standard
     }

@@ -1,7 +1,8 @@
 //! Which games are exported, and how.
 ghost use Rattle.std.specs.Prelude.{◌≡◌, ◌↔◌, ◌++◌, ℕ, List, MatchResult, IfErr, IfSome, OnOk};
-ghost use Rattle.std.specs.Prelude.{IsTrue, option_map};
+ghost use Rattle.std.specs.Prelude.{IsTrue, OnErr, option_map};
 ghost use Rattle.pgn_text.specs.Public.GameTexts.{GameText, tag_in};
+ghost use Rattle.pgn_game.specs.Public.Edits.{IsEditedExport};
 ghost use Rattle.pgn_game.specs.Public.Exports.{lines_with};
 ghost use Rattle.pgn_game.specs.Public.Faults.{IsFault};
 ghost use Rattle.pgn_game.specs.Public.GameLines.{IsGameLine};
@@ -14,17 +15,18 @@ ghost use Rattle.pgn_extract.specs.Private.Blockwise.{AddsText, ExportsAll, Puts
 ghost use Rattle.pgn_extract.specs.Private.Blockwise.{TakesAll};
 ghost use Rattle.pgn_extract.specs.Public.Exports.{HasEntry, IsSelected, as_it_stands, faulty_text};
 ghost use Rattle.pgn_extract.specs.Public.Exports.{line_with, written_lines};
-ghost use Rattle.pgn_extract.specs.Private.Finding.{IsChosen};
+ghost use Rattle.pgn_extract.specs.Public.Exports.{IsFirstOrNone, IsTextOf};
+ghost use Rattle.pgn_extract.specs.Private.Finding.{IsChosen, IsOfGame};
 ghost use Rattle.pgn_criteria.specs.Public.Meeting.{heading_of};
-ghost use Rattle.pgn_extract.specs.declared.settings.Form.TheVariants.{AsItStands};
+ghost use Rattle.pgn_extract.specs.declared.settings.Form.TheVariants.{AsItStands, FromEntry};
 
-use crate::entries::{GameContext, has_entry};
+use crate::entries::{GameContext, first_entry};
 use crate::output::texts::push_named_mark;
 use crate::settings::{Form, Mode, Select, Settings};
 use pgn_game::pack::{GameOrigin, push_record};
 use pgn_game::{
     GameFault, Lines, Notation, check_lines, check_variations, export_edited, export_played,
-    lines_with, push_line,
+    later_game, lines_with, push_line,
 };
 use pgn_text::RawGame;
 use std::alloc::{AllocError, Global};
@@ -34,7 +36,7 @@ pub fn written_lines(settings: &Settings) -> Lines
     ensures { result ≡ written_lines (aim_of settings.now) }
 {
     match settings.form {
-        Form::Standard | Form::AsItStands => lines_with(&settings.style),
+        Form::Standard | Form::FromEntry | Form::AsItStands => lines_with(&settings.style),
         Form::Line(_) | Form::Record => Lines::Main,
     }
 }
@@ -215,14 +217,85 @@ fn put_as_is<'a>(
     }
 }
 
-/// Appends the text of a game, played while it is written: its export, its line, its record, or the
-/// game as it stands. Where one of the lines that are written is faulty, the first fault is
-/// answered, and some bytes of the text may be appended.
+/// Appends the export of a game with the edits, played while it is written. Where one of the lines
+/// that are written is faulty, the first fault is answered; then, and where memory is refused,
+/// nothing is appended.
+fn put_export<'a>(
+    alloc: Global,
+    text: &mut Vec<u8>,
+    settings: &Settings,
+    game: &RawGame<'a>,
+) -> Result<(), GameFault<'a>>
+    ensures text { OnOk result ((own : List ℕ)
+        × IsEditedExport settings.now.edits settings.now.style game.now own
+        × (text.new.items ≡ text.old.items ++ own)) }
+    ensures sound { OnOk result
+        (IsSoundGame (lines_with settings.now.style.variations) (tag_in fen_tag game.now.tags)
+        game.now.elements) }
+    ensures fault { IfErr result (λ fault.
+        IfSome (fault_of fault)
+        (IsFault (lines_with settings.now.style.variations) (tag_in fen_tag game.now.tags)
+        game.now.elements)) }
+    ensures left { OnErr result (text.new.items ≡ text.old.items) }
+{
+    match &settings.edits {
+        Some(edits) => export_edited(alloc, game, edits, &settings.style, text),
+        None => export_played(alloc, game, &settings.style, text),
+    }
+}
+
+/// Appends the export of a game with the edits from its first entry on, if the lines that would be
+/// written of the whole game are sound; or answers their first fault. Then, and where memory is
+/// refused, nothing is appended.
+fn put_later<'a>(
+    text: &mut Vec<u8>,
+    context: GameContext<'a>,
+    game: &RawGame<'a>,
+    first: Option<usize>,
+) -> Result<(), GameFault<'a>>
+    requires { (replay : Replay) → IsOfGame game.now replay
+        → IsFirstOrNone (aim_of context.settings.now) (heading_of game.now) replay first }
+    ensures text { OnOk result ((own : List ℕ)
+        × IsTextOf FromEntry (aim_of context.entry.settings.now) context.entry.own game.now own
+        × (text.new.items ≡ text.old.items ++ own)) }
+    ensures sound { OnOk result
+        (IsSoundGame (lines_with context.entry.settings.now.style.variations)
+        (tag_in fen_tag game.now.tags) game.now.elements) }
+    ensures fault { IfErr result (λ fault.
+        IfSome (fault_of fault)
+        (IsFault (lines_with context.entry.settings.now.style.variations)
+        (tag_in fen_tag game.now.tags) game.now.elements)) }
+    ensures left { OnErr result (text.new.items ≡ text.old.items) }
+{
+    let GameContext {
+        alloc,
+        settings,
+        ..
+    } = context;
+    let Some(ply) = first else {
+        return put_export(alloc, text, settings, game);
+    };
+    check_lines(alloc, game, lines_with(&settings.style))?;
+    let mut fen = Vec::new(alloc);
+    let own = later_game(alloc, game, ply, &mut fen)?;
+    match put_export(alloc, text, settings, &own) {
+        Ok(()) => Ok(()),
+        Err(fault) => Err(fault.refused().into()),
+    }
+}
+
+/// Appends the text of a game whose first entry stands at this ply, played while it is written: its
+/// export, whole or from that entry on, its line, its record, or the game as it stands. Where one
+/// of the lines that are written is faulty, the first fault is answered, and some bytes of the text
+/// may be appended.
 fn put_text<'a>(
     text: &mut Vec<u8>,
     context: GameContext<'a>,
     game: &RawGame<'a>,
+    first: Option<usize>,
 ) -> Result<(), GameFault<'a>>
+    requires { (replay : Replay) → IsOfGame game.now replay
+        → IsFirstOrNone (aim_of context.settings.now) (heading_of game.now) replay first }
     ensures { MatchResult result
         (λ _. PutsText (aim_of context.entry.settings.now) context.entry.own game.now text.old.items
         text.new.items)
@@ -232,10 +305,8 @@ fn put_text<'a>(
 {
     let settings = context.settings;
     match settings.form {
-        Form::Standard => match &settings.edits {
-            Some(edits) => export_edited(context.alloc, game, edits, &settings.style, text),
-            None => export_played(context.alloc, game, &settings.style, text),
-        },
+        Form::Standard => put_export(context.alloc, text, settings, game),
+        Form::FromEntry => put_later(text, context, game, first),
         Form::AsItStands => put_as_is(context.alloc, text, settings, game),
         Form::Line(notation) => push_game_line(text, context, notation, game),
         Form::Record => push_game_record(text, context, game),
@@ -248,19 +319,19 @@ fn is_as_it_stands(settings: &Settings) -> bool
 {
     match settings.form {
         Form::AsItStands => true,
-        Form::Standard | Form::Line(_) | Form::Record => false,
+        Form::Standard | Form::FromEntry | Form::Line(_) | Form::Record => false,
     }
 }
 
-/// Appends the text of a game whose main line is sound and has an entry or none, if it is selected;
-/// or answers the first fault of the lines that are written.
+/// Appends the text of a game whose main line is sound and whose first entry stands at this ply, if
+/// it is selected; or answers the first fault of the lines that are written.
 fn put_chosen<'a>(
     text: &mut Vec<u8>,
     context: GameContext<'a>,
     game: &RawGame<'a>,
-    has: bool,
+    first: Option<usize>,
 ) -> Result<(), GameFault<'a>>
-    requires { IsChosen (aim_of context.settings.now) game.now has }
+    requires { IsChosen (aim_of context.settings.now) game.now first }
     ensures { MatchResult result
         (λ _. AddsText (aim_of context.entry.settings.now) context.entry.own game.now text.old.items
         text.new.items)
@@ -269,7 +340,7 @@ fn put_chosen<'a>(
         text.new.items)) }
 {
     let settings = context.settings;
-    if !is_selected(settings, has) {
+    if !is_selected(settings, first.is_some()) {
         return check_written(context.alloc, settings, game);
     }
     if is_as_it_stands(settings) {
@@ -277,7 +348,7 @@ fn put_chosen<'a>(
         push_as_is(text, game.text())?;
         return Ok(());
     }
-    put_text(text, context, game)
+    put_text(text, context, game, first)
 }
 
 /// Appends the text of a game, if the lines that are written are sound and it is selected by its
@@ -295,8 +366,8 @@ fn put_by_entry<'a>(
         text.new.items)) }
 {
     let settings = context.settings;
-    match has_entry(context.alloc, settings, game) {
-        Ok(has) => put_chosen(text, context, game, has),
+    match first_entry(context.alloc, settings, game) {
+        Ok(first) => put_chosen(text, context, game, first),
         Err(fault) => Err(first_fault(context.alloc, settings, game, fault)),
     }
 }
@@ -318,7 +389,7 @@ pub fn put_selected<'a>(
 {
     let settings = context.settings;
     if takes_all(settings) {
-        return put_text(text, context, game);
+        return put_text(text, context, game, Some(0));
     }
     match settings.select {
         Select::Faulty => check_lines(context.alloc, game, written_lines(settings)),

@@ -199,14 +199,14 @@ pub(crate) fn find_kept<'a>(
     Ok(())
 }
 
-/// Whether a game has an entry by criteria, or the fault of its main line. The positions of its
-/// main line are kept meanwhile.
-pub fn has_kept<'a>(
+/// The ply of the first entry of a game by criteria, none where it has none; or the fault of its
+/// main line. The positions of its main line are kept meanwhile.
+pub fn first_kept<'a>(
     alloc: Global,
     settings: &'a Settings,
     criteria: &'a Criteria,
     game: &RawGame<'a>,
-) -> Result<bool, GameFault<'a>>
+) -> Result<Option<usize>, GameFault<'a>>
     requires criteria { settings.now.criteria ≡ Some criteria.now }
     ensures { MatchResult result
         (IsChosen (aim_of settings.now) game.now)
@@ -214,9 +214,5 @@ pub fn has_kept<'a>(
         IfSome (fault_of fault) (IsFault Main (tag_in fen_tag game.now.tags) game.now.elements)) }
 {
     let replayed = replay(alloc, game, Lines::Main)?;
-    Ok(
-        criteria
-            .first(game, &replayed, settings.min_ply, settings.max_ply)
-            .is_some(),
-    )
+    Ok(criteria.first(game, &replayed, settings.min_ply, settings.max_ply))
 }

@@ -2,7 +2,8 @@
 ghost use Rattle.std.specs.Prelude.{◌≡◌, true, Some, None, option_map, IfOk, IfSome};
 ghost use Rattle.pgn_extract.specs.Private.Finding.{IsOfGame};
 ghost use Rattle.pgn_extract.specs.Private.Packed.{EachOfRecord, raw_id};
-ghost use Rattle.pgn_extract.specs.Private.RowGames.{IsGameIn, name_of, openings_of, is_text};
+ghost use Rattle.pgn_extract.specs.Private.RowGames.{IsGameIn, IsInRecord};
+ghost use Rattle.pgn_extract.specs.Private.RowGames.{name_of, openings_of, is_text};
 ghost use Rattle.pgn_extract.specs.Public.Rows.{IsOpeningBy};
 ghost use Rattle.pgn_game.specs.Public.Replays.{Replay};
 ghost use Rattle.pgn_text.specs.Public.GameTexts.{GameText, tag_in};
@@ -10,6 +11,9 @@ ghost use Rattle.pgn_text.specs.Public.Strings.{IsContents};
 
 use crate::entries::GameContext;
 use crate::marks::GameId;
+use crate::packed::PackedFault;
+use crate::packed::kept_packed::record_opening;
+use crate::settings::Settings;
 use pgn_game::pack::RawRecord;
 use pgn_game::{GameFault, Opening, Openings};
 use pgn_text::{RawGame, is_contents};
@@ -20,8 +24,8 @@ use std::alloc::{AllocError, Global};
 pub(crate) enum GameSource<'g, 'a> {
     /// In its text, with the lines of openings, where they are given.
     Text(&'g RawGame<'a>, Option<&'g Openings>),
-    /// In its record.
-    Record(&'g RawRecord<'a>),
+    /// In its record, with these lines.
+    Record(&'g RawRecord<'a>, Option<&'g Openings>),
 }
 
 /// A game whose entries have rows.
@@ -36,10 +40,10 @@ pub(crate) struct RowGame<'g, 'a> {
 }
 
 /// The lines of openings that are given.
-fn given_openings(context: GameContext<'_>) -> Option<&Openings>
-    ensures { option_map (λ openings. openings.now) result ≡ context.entry.settings.now.openings }
+fn given_openings(settings: &Settings) -> Option<&Openings>
+    ensures { option_map (λ openings. openings.now) result ≡ settings.now.openings }
 {
-    match &context.settings.openings {
+    match &settings.openings {
         Some(openings) => Some(openings),
         None => None,
     }
@@ -60,15 +64,15 @@ impl<'g, 'a> RowGame<'g, 'a> {
                 None => None,
             },
             id: context.own,
-            source: GameSource::Text(game, given_openings(context)),
+            source: GameSource::Text(game, given_openings(context.settings)),
         }
     }
 
     /// A game in a pack.
-    pub(crate) fn in_pack(record: &'g RawRecord<'a>) -> Self
+    pub(crate) fn in_pack(settings: &'g Settings, record: &'g RawRecord<'a>) -> Self
         ensures name { name_of result ≡ record.now.name }
         ensures id { result.id ≡ raw_id record.now }
-        ensures openings { openings_of result.source ≡ None }
+        ensures openings { openings_of result.source ≡ settings.now.openings }
         ensures source { EachOfRecord record.now (λ game replay packed.
             IsGameIn result.source game) }
     {
@@ -78,7 +82,7 @@ impl<'g, 'a> RowGame<'g, 'a> {
                 number: record.number(),
                 offset: record.offset(),
             },
-            source: GameSource::Record(record),
+            source: GameSource::Record(record, given_openings(settings)),
         }
     }
 }
@@ -110,6 +114,27 @@ fn opening_by(
     }
 }
 
+/// The opening of a packed game by the lines that are given; none without lines, or where it is the
+/// record of no game.
+fn opening_in(
+    alloc: Global,
+    raw: &RawRecord<'_>,
+    openings: Option<&Openings>,
+) -> Result<Option<Opening>, AllocError>
+    ensures { IfOk result (λ opening. (game : GameText) → IsInRecord raw.now game
+        → (replay : Replay) → IsOfGame game replay
+        → IsOpeningBy (option_map (λ lines. lines.now) openings.entry) replay.positions opening) }
+{
+    let Some(lines) = openings else {
+        return Ok(None);
+    };
+    match record_opening(alloc, raw, lines) {
+        Ok(opening) => Ok(opening),
+        Err(PackedFault::NoGame) => Ok(None),
+        Err(PackedFault::OutOfMemory) => Err(AllocError),
+    }
+}
+
 impl<'g, 'a> GameSource<'g, 'a> {
     /// The contents of the tag with this name, if the game has one.
     pub(crate) fn tag(self, name: &[u8]) -> Option<&'a [u8]>
@@ -119,7 +144,7 @@ impl<'g, 'a> GameSource<'g, 'a> {
     {
         match self {
             GameSource::Text(game, _) => game.tags().get(name).copied(),
-            GameSource::Record(raw) => if_contents(raw.tag(name)?),
+            GameSource::Record(raw, _) => if_contents(raw.tag(name)?),
         }
     }
 
@@ -129,7 +154,7 @@ impl<'g, 'a> GameSource<'g, 'a> {
     {
         match self {
             GameSource::Text(game, _) => game.result(),
-            GameSource::Record(raw) => raw.result(),
+            GameSource::Record(raw, _) => raw.result(),
         }
     }
 
@@ -143,7 +168,7 @@ impl<'g, 'a> GameSource<'g, 'a> {
         match self {
             GameSource::Text(game, Some(openings)) => opening_by(alloc, game, openings),
             GameSource::Text(_, None) => Ok(None),
-            GameSource::Record(_) => Ok(None),
+            GameSource::Record(raw, openings) => opening_in(alloc, raw, openings),
         }
     }
 }

@@ -4,8 +4,9 @@ ghost use Rattle.std.specs.Prelude.{refl};
 ghost use Rattle.pgn_extract.specs.Public.Listing.{Entry};
 ghost use Rattle.pgn_extract.specs.Private.Lines.{is_bare};
 ghost use Rattle.pgn_extract.specs.Private.Lines.{Where, HasFault, marked_lines};
-ghost use Rattle.pgn_extract.specs.Private.Lines.{or_some, made_line, IsEnoughFor};
-ghost use Rattle.pgn_extract.specs.Private.Sinks.{PutsHere, lines_none, lines_more, some_more};
+ghost use Rattle.pgn_extract.specs.Private.Lines.{first_ply, made_line, IsEnoughFor};
+ghost use Rattle.pgn_extract.specs.Private.Sinks.{PutsHere, first_more, first_none, lines_none};
+ghost use Rattle.pgn_extract.specs.Private.Sinks.{lines_more};
 ghost use Rattle.pgn_extract.specs.Private.Sinks.{grows_none, grows_more};
 
 use crate::entries::fields::push_fields;
@@ -87,23 +88,25 @@ impl Sink for Vec<u8> {
     ghost grows = { λ a b c first then. grows_more a.items b.items c.items first then };
 }
 
-/// Whether there is one.
-impl Sink for bool {
-    ghost Gets = { λ mark old entries new. new ≡ or_some old entries };
+/// The ply of the first one.
+impl Sink for Option<usize> {
+    ghost Gets = { λ mark old entries new. new ≡ first_ply old entries };
 
     ghost Grew = { λ old new. Unit {0} };
 
     ghost Takes = { λ lines. is_bare (made_line lines) ≡ true };
 
     #[inline(always)]
-    fn put<L: Line>(&mut self, _: &[u8], _: &L, _: &LineMaker<'_>) -> Result<(), L::Fault> {
-        *self = true;
+    fn put<L: Line>(&mut self, _: &[u8], line: &L, _: &LineMaker<'_>) -> Result<(), L::Fault> {
+        if self.is_none() {
+            *self = Some(line.ply());
+        }
         Ok(())
     }
 
-    ghost none = { λ mark sink. refl };
+    ghost none = { λ mark sink. first_none sink };
 
-    ghost more = { λ mark a b c xs ys first then. some_more a b c xs ys first then };
+    ghost more = { λ mark a b c xs ys first then. first_more a b c xs ys first then };
 
     ghost stays = { λ sink. tt };
 

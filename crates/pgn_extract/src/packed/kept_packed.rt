@@ -1,12 +1,13 @@
 //! The entries of a packed game whose criteria speak of its moves or of several plies: its line is
 //! replayed and kept, and then looked through.
-ghost use Rattle.std.specs.Prelude.{◌≡◌, false, OnOk, IfOk, IfErr, length};
+ghost use Rattle.std.specs.Prelude.{◌≡◌, ◌<◌, false, Some, OnOk, IfOk, IfErr, IfSome, length};
 ghost use Rattle.pgn_text.specs.Public.GameTexts.{tag_in};
 ghost use Rattle.pgn_game.specs.Public.Starts.{fen_tag};
 ghost use Rattle.pgn_game.specs.Public.PackReading.{IsRawOfGame};
 ghost use Rattle.pgn_extract.specs.Public.Aims.{Aim, aim_of};
 ghost use Rattle.pgn_extract.specs.Private.KeptPacked.{IsStartOf, IsKeptOf};
 ghost use Rattle.pgn_extract.specs.Public.Listing.{has_annotations};
+ghost use Rattle.pgn_extract.specs.Public.Rows.{IsOpeningBy};
 ghost use Rattle.pgn_extract.specs.Private.Packed.{EachOfRecord, HasNoText, ListsRecord};
 ghost use Rattle.pgn_extract.specs.Private.Packed.{StandsInRecord};
 ghost use Rattle.pgn_extract.specs.Private.KeptLines.{AreReported, IsKeptWith};
@@ -20,7 +21,7 @@ use crate::entries::row_game::RowGame;
 use crate::packed::{PackedFault, RecordContext, push_found, start_fault};
 use pgn_criteria::Criteria;
 use pgn_game::pack::{CodesError, RawRecord, replay_codes};
-use pgn_game::{GamePosition, Replayed, given_position};
+use pgn_game::{GamePosition, Opening, Openings, Replayed, given_position};
 use pgn_text::is_contents;
 use std::alloc::{AllocError, Global};
 
@@ -69,6 +70,24 @@ pub(crate) fn start_of(alloc: Global, raw: &RawRecord<'_>) -> Result<GamePositio
     match raw.tag(b"FEN") {
         Some(contents) => start_given(alloc, raw, contents),
         None => Ok(GamePosition::start()),
+    }
+}
+
+/// The opening of the line of the record by these lines, or none. It is one of the lines.
+pub(crate) fn record_opening(
+    alloc: Global,
+    raw: &RawRecord<'_>,
+    openings: &Openings,
+) -> Result<Option<Opening>, PackedFault>
+    ensures ok { IfOk result (λ opening. EachOfRecord raw.now (λ game replay packed.
+        IsOpeningBy (Some openings.now) replay.positions opening)) }
+    ensures within { IfOk result (λ found. IfSome found (λ opening.
+        opening.line < length openings.now)) }
+    ensures err { IfErr result (λ fault. fault ≡ PackedFault.NoGame → HasNoText raw.now) }
+{
+    match start_of(alloc, raw) {
+        Ok(start) => Ok(openings.opening_of_codes(start, raw.plies())),
+        Err(fault) => Err(fault),
     }
 }
 
@@ -153,7 +172,7 @@ pub(crate) fn push_kept_record<'a>(
         settings,
         record,
     } = context;
-    let lines = LineMaker::of_game(alloc, &settings.line, RowGame::in_pack(record))?;
+    let lines = LineMaker::of_game(alloc, &settings.line, RowGame::in_pack(settings, record))?;
     push_found(text, context, lines, line)?;
     Ok(())
 }

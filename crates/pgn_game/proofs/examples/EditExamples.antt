@@ -5,7 +5,8 @@ use Rattle.std.specs.Fmt.{digits}
 use Rattle.std.specs.Prelude.{codes}
 use Rattle.pgn_game.proofs.Common.{◌≡◌, ◌≢◌, ℕ, List, [], ◌∷◌, Option, Some, None, refl, sym, true}
 use Rattle.pgn_game.proofs.Common.{false, ◌∙◌, ap, Item, MoveText, VariationOpen, VariationClose}
-use Rattle.pgn_game.proofs.Common.{CommentText}
+use Rattle.pgn_game.proofs.Common.{CommentText, GlyphNumber, State, arith}
+use Rattle.pgn_game.specs.Public.LaterPlies.{IsLaterFrom, MayBeStart, later_plies}
 use Rattle.pgn_game.proofs.Common.{GameText, tag_in, fen_tag, IsContents}
 use Rattle.pgn_game.specs.Public.Edits.{AreEditable, EditedTag, Edits, IsEditable, IsEdited}
 use Rattle.pgn_game.specs.Public.Edits.{IsEditedBy, IsTagged, all_edits, edited_tag, first_plies}
@@ -127,6 +128,37 @@ no_whole_game : (game other : GameText) → game.elements ≡ e4_e5 → other.el
     })) game other → ⊥
 no_whole_game game other are same able is =
     let cut = sym (same ∙ are) ∙ (is.0 able).1.elements ∙ ap (first_plies 1 0) are in cc
+
+-- ---- from a ply on
+
+-- a move with all that belongs to it, and the next one
+abbrev annotated : List Item
+annotated = MoveText (codes "e4") ∷ GlyphNumber 1 ∷ CommentText (codes "a") ∷ VariationOpen
+    ∷ MoveText (codes "d4") ∷ CommentText (codes "b") ∷ VariationClose ∷ CommentText (codes "d")
+    ∷ MoveText (codes "e5") ∷ GlyphNumber 2 ∷ []
+
+-- comments on the position stay, and what belongs to the move before it goes
+from_a_ply : (later_plies 1 0 annotated ≡ CommentText (codes "a") ∷ CommentText (codes "d")
+    ∷ MoveText (codes "e5") ∷ GlyphNumber 2 ∷ [])
+    × (later_plies 2 0 annotated ≡ []) × (later_plies 9 0 annotated ≡ [])
+from_a_ply = (refl, refl, refl)
+
+-- a game that does not give its start is none that begins there
+no_start_given : (P : State) (game other : GameText) → MayBeStart P
+    → tag_in fen_tag other.tags ≡ None → IsLaterFrom P 1 game other → ⊥
+no_start_given P game other may none from =
+    let (good, begun) = from.0 (omega arith, may) in
+    let (fen, is_fen, edited) = begun in
+    let there = sym none ∙ edited.tags fen_tag in cc
+
+-- at its own start a game stays as it is, and so does one whose moves are counted beyond FEN
+whole_at_start : (P : State) (game other : GameText) → IsLaterFrom P 0 game other → other ≡ game
+whole_at_start P game other from = from.1 (λ may. omega (arith, may.0))
+
+whole_beyond_fen : (P : State) (game other : GameText) → P.fullmove_number ≡ 10000000
+    → IsLaterFrom P 1 game other → other ≡ game
+whole_beyond_fen P game other late from =
+    from.1 (λ may. let few = may.1.number in omega (arith, few, late))
 
 -- ---- tags that stand first
 

@@ -1,5 +1,5 @@
 -- How the lines of a file of openings are stored, and found by the keys of their last positions.
-use Rattle.std.specs.Prelude.{◌≡◌, ◌+◌, ◌*◌, ◌/◌, ◌%◌, ◌^◌, ◌==◌, ℕ, Bool, true, List, length}
+use Rattle.std.specs.Prelude.{◌≡◌, ◌+◌, ◌*◌, ◌/◌, ◌%◌, ◌^◌, ◌==◌, ◌&&◌, ℕ, Bool, true, List, length}
 use Rattle.std.specs.Prelude.{get_or, Option, Some, nat_eq, refl}
 use Rattle.std.specs.Coded.{Coded, coded_ℕ, coded_list, coded×, code_by}
 use Rattle.std.specs.Cmp.Lexicographic.{pointwise}
@@ -35,7 +35,7 @@ mixed sum word = (sum + word) % 2 ^ 64 * 11400714819323198485 % 2 ^ 64
 -- the place in a sieve of the bitboards of pawns, and that of a key, by the bitboards of all men
 -- but pawns
 abbrev pub pawns_place : List ℕ → ℕ
-pawns_place pawns = mixed (mixed 0 (get_or pawns 0 0)) (get_or pawns 1 0) / 2 ^ 48
+pawns_place pawns = mixed (mixed 0 (get_or pawns 0 0)) (get_or pawns 1 0) / 2 ^ 32
 
 abbrev pub key_place : List ℕ → ℕ
 key_place key =
@@ -44,11 +44,15 @@ key_place key =
     (get_or key 3 0)) (get_or key 4 0))
     (mixed (mixed (mixed (mixed (get_or key 6 0) (get_or key 7 0)) (get_or key 8 0))
     (get_or key 9 0)) (get_or key 10 0))
-    / 2 ^ 48
+    / 2 ^ 32
 
--- the place is one of those that the bits of these words are
+-- the bit of these words is set
+abbrev pub is_set : List ℕ → ℕ → Bool
+is_set words n = bit_at (get_or words (n / 64) 0) (n % 64) == 1
+
+-- the two bits of the place are set in these words
 abbrev pub has_place : List ℕ → ℕ → Bool
-has_place words place = bit_at (get_or words (place / 64) 0) (place % 64) == 1
+has_place words place = is_set words (place % 2 ^ 16) && is_set words (place / 2 ^ 16)
 
 -- the sieves have the pawns and the keys of each position in which a line ends
 pub record AreSieved (ends : List State) (pawns keys : List ℕ) : Type 0 where

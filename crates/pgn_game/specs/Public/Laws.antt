@@ -1,6 +1,7 @@
 -- What holds of every game, whatever replays it.
 use Rattle.std.specs.Prelude.{◌≡◌, ◌⊎◌, ℕ, ◌+◌, ◌/◌, ◌%◌, ◌^◌, ◌==◌, ◌<◌, ◌≤◌, List, [], ◌∷◌, ◌++◌}
 use Rattle.std.specs.Prelude.{◌↔◌, length, Option, Some, IfSome, IsSome, IsTrue, is_some, take}
+use Rattle.std.specs.Prelude.{drop}
 use Rattle.std.specs.List.{slice_get, AllByRecursion}
 use Rattle.chess.specs.Public.Positions.{State}
 use Rattle.chess.specs.Public.Moves.{after, IsPseudoLegal}
@@ -17,6 +18,7 @@ use Rattle.pgn_text.specs.Public.Strings.{IsContents}
 use Rattle.pgn_game.specs.Public.AllLines.{Line, spelled, own_words}
 use Rattle.pgn_game.specs.Public.MainLines.{main_words}
 use Rattle.pgn_game.specs.Public.Edits.{first_plies}
+use Rattle.pgn_game.specs.Public.LaterPlies.{later_plies}
 use Rattle.pgn_game.specs.Public.TagLines.{in_order, is_among}
 use Rattle.pgn_game.specs.Public.Faults.{Fault, IsFault}
 use Rattle.pgn_game.specs.Public.Beginnings.{IsGameBeginning}
@@ -71,6 +73,24 @@ FirstPliesAreABeginning =
     × (items ≡ first_plies plies 0 items ++ rest) × BeginsWithMove rest
     × (main_words (first_plies plies 0 items) 0 ≡ take plies (main_words items 0))
     × (IsPaired 0 items → IsPaired 0 (first_plies plies 0 items))
+
+-- the elements after so many plies have the other moves of the main line, and end each variation
+-- that they begin where all do
+abbrev pub LaterPliesAreTheRest : Type 0
+LaterPliesAreTheRest =
+    (plies : ℕ) (items : List Item)
+    → (main_words (later_plies plies 0 items) 0 ≡ drop plies (main_words items 0))
+    × (IsPaired 0 items → IsPaired 0 (later_plies plies 0 items))
+
+-- a replay of a game gives one of these elements from the position on that stands after so many
+-- plies: of the same lines, with the positions and the moves from there on
+abbrev pub LaterPliesAreReplayed : Type 0
+LaterPliesAreReplayed =
+    (lines : Lines) (fen contents : Option (List ℕ)) (items : List Item) (replay : Replay)
+    (ply : ℕ) (P : State) → IsReplay lines fen items replay
+    → slice_get replay.positions ply ≡ Some P → IsStart contents P
+    → (own : Replay) × IsReplay lines contents (later_plies ply 0 items) own
+    × (own.positions ≡ drop ply replay.positions) × (own.played ≡ drop ply replay.played)
 
 -- the same names stand there, in whatever order
 abbrev pub SameNamesInOrder : Type 0

@@ -117,6 +117,21 @@ impl<'a> RawRecord<'a> {
         self.head / 2 % 2 == 1
     }
 
+    /// What its head has beside the number of its tags: whether the game has a name, its result and
+    /// the marks of its start.
+    pub(crate) fn below_count(&self) -> u32
+        ensures { result ≡ self.now.head % 32 }
+    {
+        self.head % 32
+    }
+
+    /// The bytes of its tags, and then of its plies.
+    pub(crate) fn tail(&self) -> &'a [u8]
+        ensures { result.now ≡ self.now.tail }
+    {
+        self.tail
+    }
+
     /// The bytes of its plies, three a ply.
     pub fn plies(&self) -> &'a [u8]
         ensures { result.now ≡ self.now.plies }

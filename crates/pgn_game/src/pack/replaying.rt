@@ -65,7 +65,7 @@ fn promoted(leaving: Option<Man>, man: Man) -> Option<Kind>
 }
 
 /// The move that the three bytes tell in the position, if they are the code of one.
-fn told_move(position: &GamePosition, a: u8, b: u8, d: u8) -> Move
+pub(crate) fn told_move(position: &GamePosition, a: u8, b: u8, d: u8) -> Move
     ensures { result ≡ told_move position.now (code_of a b d) }
 {
     let from = Square::of_index(a % 64);

@@ -7,6 +7,8 @@ ghost use Rattle.std.specs.Int.{w32, to_be_bytes};
 ghost use Rattle.pgn_text.specs.Public.GameTexts.{tag_in};
 ghost use Rattle.pgn_game.specs.Public.Starts.{fen_tag};
 ghost use Rattle.pgn_game.specs.Public.Replays.{IsSomeReplay};
+ghost use Rattle.pgn_game.specs.Public.NamedRecords.{with_tags};
+ghost use Rattle.pgn_game.specs.Public.PackReading.{raw_of};
 ghost use Rattle.pgn_game.specs.Public.PackedGames.{PackedGame, FitsRecord, IsPacked, with_length};
 ghost use Rattle.pgn_game.specs.Public.PackedGames.{name_bytes, tag_bytes, tags_size, body_size};
 ghost use Rattle.pgn_game.specs.Public.PackedGames.{record_bytes, largest_body, name_size};
@@ -18,7 +20,7 @@ ghost use Rattle.pgn_game.specs.Private.PackWords.{PutsHead, PutsPly, PutsPlies}
 use crate::pack::error::PackError;
 use crate::pack::origin::{GameOrigin, is_origin};
 use crate::pack::ply::{Marks, coded_move};
-use crate::pack::reading::LARGEST_BODY;
+use crate::pack::reading::{LARGEST_BODY, RawRecord};
 use crate::turns::replayed::Replayed;
 use pgn_text::RawGame;
 use std::alloc::AllocError;
@@ -85,6 +87,18 @@ fn body_size(origin: &GameOrigin, game: &RawGame, replayed: &Replayed) -> usize
         .saturating_add(20)
         .saturating_add(name_size(origin.name))
         .saturating_add(replayed.plies().saturating_mul(3))
+}
+
+/// How many bytes stand after the size in the record with the tags of the head; the largest number,
+/// where it is more.
+fn headed_size(raw: &RawRecord<'_>, head: &RawGame) -> usize
+    ensures { result ≡ min (20 + name_size raw.now.name + tags_size head.now.tags
+        + length raw.now.plies) usize.MAX }
+{
+    tags_size(head)
+        .saturating_add(20)
+        .saturating_add(name_size(raw.name()))
+        .saturating_add(raw.plies().len())
 }
 
 /// Appends the size of the record of the game.
@@ -303,4 +317,31 @@ pub fn put_record(
         out.truncate(length);
     }
     put
+}
+
+/// Appends the record with the tags of the head in place of its own. Where it would be too large
+/// or memory is refused, some bytes of it.
+pub(crate) fn put_headed(
+    raw: &RawRecord<'_>,
+    head: &RawGame,
+    out: &mut Vec<u8>,
+) -> Result<(), PackError>
+    ensures { OnOk result ((game : PackedGame) → FitsRecord game → raw.now ≡ raw_of game
+        → FitsRecord (with_tags head.now.tags game)
+        × (out.new.items ≡ out.old.items ++ record_bytes (with_tags head.now.tags game))) }
+{
+    head.invariant();
+    let size = headed_size(raw, head);
+    if size > LARGEST_BODY {
+        return Err(PackError::TooLarge);
+    }
+    let count = head.tags().len() as u32;
+    out.extend_from_slice(&(size as u32).to_be_bytes())?;
+    out.extend_from_slice(&raw.number().to_be_bytes())?;
+    out.extend_from_slice(&raw.offset().to_be_bytes())?;
+    out.extend_from_slice(&(32 * count + raw.below_count()).to_be_bytes())?;
+    put_name(raw.name(), out)?;
+    put_tags(head, out)?;
+    out.extend_from_slice(raw.plies())?;
+    Ok(())
 }

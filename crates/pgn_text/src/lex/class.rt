@@ -1,7 +1,9 @@
 //! Classes of bytes, and the longest front of a text within one.
 
 ghost use Rattle.std.specs.Prelude.{◌≡◌, ◌≤◌, not, length, position};
-ghost use Rattle.pgn_text.specs.Public.Bytes.{is_plain as is_plain_byte, run_of, after_run};
+ghost use Rattle.std.specs.List.{list_all};
+ghost use Rattle.pgn_text.specs.Public.Bytes.{is_name_byte, is_plain as is_plain_byte};
+ghost use Rattle.pgn_text.specs.Public.Bytes.{run_of, after_run};
 ghost use Rattle.pgn_text.specs.Private.Tokens.{flag_of, test_of, RunTo};
 
 /// A class of bytes.
@@ -75,6 +77,13 @@ pub(crate) fn is_in(class: ByteClass, byte: u8) -> bool
     ensures { result ≡ test_of class byte }
 {
     CLASSES[byte as usize] & flag(class) != 0
+}
+
+/// Whether each of the bytes may stand in the name of a tag.
+pub fn are_name_bytes(text: &[u8]) -> bool
+    ensures { result ≡ list_all is_name_byte text.now }
+{
+    text.iter().all(|byte| is_in(ByteClass::Name, *byte))
 }
 
 /// Whether the byte may stand in a string: a tab, or anything from the space on but the delete

@@ -1,4 +1,4 @@
-use Rattle.pgn_extract.proofs.Common.{◌≡◌, ◌++◌, ◌∙◌, None, ap, on_ok_weaker, named_mark, raw_id}
+use Rattle.pgn_extract.proofs.Common.{◌≡◌, ◌++◌, ◌∙◌, ap, on_ok_weaker, named_mark, raw_id}
 use Rattle.pgn_extract.specs.Private.Packed.{aim_making}
 use Rattle.pgn_extract.proofs.Finds.{on_ok_both}
 use Rattle.pgn_extract.proofs.PackedFacts.{lists_record}
@@ -17,6 +17,6 @@ returns g c =
     c.args.text.now.items c.find.new.sink.items marked grew
     (λ game replay packed own.
     let (before, P, at, none) = c.requires.stands game replay packed own in
-    found raw.name None (raw_id raw) game before P at none
+    found raw.name c.args.context.settings.now.openings (raw_id raw) game before P at none
     (c.requires.makes game replay packed own)))
     (on_ok_both _ _ c.find.result c.find.ensures.found c.find.ensures.kept)

@@ -1,6 +1,6 @@
 use Rattle.std.specs.Prelude.{replicate}
 use Rattle.std.proofs.lemmas.List.{length-replicate}
-use Rattle.pgn_extract.proofs.Common.{◌≡◌, ◌+◌, ◌/◌, ◌++◌, ℕ, List, [], None, length, sym, ap}
+use Rattle.pgn_extract.proofs.Common.{◌≡◌, ◌+◌, ◌/◌, ◌++◌, ℕ, List, [], length, sym, ap}
 use Rattle.pgn_extract.proofs.Common.{◌∙◌}
 use Rattle.pgn_extract.proofs.Common.{initial, Replay, GameText, named_mark, listing}
 use Rattle.pgn_extract.proofs.Common.{raw_id}
@@ -16,7 +16,8 @@ returns-clause-ok c =
     let marked : c.deref.result.now ≡ named_mark raw.name (raw_id raw) =
     c.deref.ensures.value ∙ c.in_ok-push_record_mark.ensures
     ∙ ap (λ t. t ++ named_mark raw.name (raw_id raw)) c.in_ok-mark.ensures.items in
-    let adds = c.in_ok-push_lines.ensures raw.name None (raw_id raw) marked in
+    let adds = c.in_ok-push_lines.ensures raw.name c.args.context.settings.now.openings
+    (raw_id raw) marked in
     let count = length c.plies.result.now / 3 in
     let any : Replay = record { positions = replicate (count + 1) initial; played = []; turns = [] }
     in

@@ -1,8 +1,13 @@
 use Rattle.pgn_extract.proofs.Common.{[], refl, sym, append-nil, subst, MatchResult-weaker}
 use Rattle.pgn_extract.proofs.Common.{fault_of, aim_of, HasEntry, IsSelected, unselected}
 use Rattle.pgn_extract.proofs.Common.{written_lines, heading_of}
-use Rattle.pgn_extract.proofs.engine.AllTaken.{all_written, stops_left}
+use Rattle.pgn_extract.proofs.engine.AllTaken.{all_written, first_is_entry, stops_left}
 use Rattle.pgn_extract.proofs.engine.exporting.put_selected.Goals as goal
+
+pub put_text-requires : goal.put_text-requires
+put_text-requires c =
+    first_is_entry (aim_of c.args.context.settings.now) c.args.game.now
+    (c.takes_all.ensures c.if-takes_all.true)
 
 pub returns-then-takes_all : goal.returns-then-takes_all
 returns-then-takes_all c =

@@ -1,54 +1,58 @@
-use Rattle.pgn_extract.proofs.Common.{[], refl, sym, subst, MatchResult-weaker, on_ok_weaker}
-use Rattle.pgn_extract.proofs.Common.{fault_of, aim_of}
+use Rattle.pgn_extract.proofs.Common.{[], refl, MatchResult-weaker, on_ok_weaker}
+use Rattle.pgn_extract.proofs.Common.{fault_of, aim_of, by_itself, FromEntry}
 use Rattle.pgn_extract.proofs.Common.{as_it_stands, line_with, Standard, AsItStands, Line, Record}
 use Rattle.pgn_extract.proofs.Common.{lines_with}
 use Rattle.pgn_extract.proofs.engine.AllTaken.{put_as, put_or_left, stops_left}
 use Rattle.pgn_extract.proofs.Finds.{on_result}
 use Rattle.pgn_extract.proofs.GameExport.{own_record}
 use Rattle.pgn_extract.proofs.SomeEdited.{own_edited_export}
-use Rattle.pgn_game.specs.Public.Edits.{IsEditedExport}
+use Rattle.pgn_extract.proofs.LaterGames.{own_from}
 use Rattle.pgn_extract.proofs.engine.exporting.put_text.Goals as goal
 
-pub returns-in-Some : goal.returns-in-Some
-returns-in-Some c =
+pub returns-in-Standard : goal.returns-in-Standard
+returns-in-Standard c =
     let aim = aim_of c.args.context.settings.now in
     let game = c.args.game.now in
     let old = c.args.text.now.items in
-    let new = c.export_edited.new.out.items in
-    let put = c.export_edited.ensures in
-    let is = c.in-Some.is in
-    put_as aim c.args.context.own game old new c.export_edited.result (λ fault. fault_of fault)
+    let new = c.put_export.new.text.items in
+    let put = c.put_export.ensures in
+    put_as aim c.args.context.own game old new c.put_export.result (λ fault. fault_of fault)
     Standard c.in-Standard.is
-    (put_or_left c.export_edited.result put.text put.sound put.fault put.left
+    (put_or_left c.put_export.result put.text put.sound put.fault put.left
     (λ text sound. (
       sound.0,
       sound.1,
       text.0,
-      own_edited_export aim.edits aim.style game text.0
-          (subst (λ e. IsEditedExport e aim.style game text.0) (sym is) text.1),
+      own_edited_export aim.edits aim.style game text.0 text.1,
       text.2,
     ))
     (λ fault fails left.
     stops_left (lines_with aim.style.variations) game old new (fault_of fault) fails left))
 
-pub returns-in-None : goal.returns-in-None
-returns-in-None c =
+pub returns-in-FromEntry : goal.returns-in-FromEntry
+returns-in-FromEntry c =
     let aim = aim_of c.args.context.settings.now in
     let game = c.args.game.now in
     let old = c.args.text.now.items in
-    let new = c.export_played.new.out.items in
-    let put = c.export_played.ensures in
-    let none = c.in-None.is in
-    put_as aim c.args.context.own game old new c.export_played.result (λ fault. fault_of fault)
-    Standard c.in-Standard.is
-    (put_or_left c.export_played.result put.text put.sound put.fault put.left
-    (λ text sound. (
+    let new = c.put_later.new.text.items in
+    let put = c.put_later.ensures in
+    put_as aim c.args.context.own game old new c.put_later.result (λ fault. fault_of fault)
+    FromEntry c.in-FromEntry.is
+    (put_or_left c.put_later.result put.text put.sound put.fault put.left
+    (λ (text, (replay, first, own, is, least, begins, export), added) sound. (
       sound.0,
       sound.1,
-      text.0,
-      own_edited_export aim.edits aim.style game text.0
-          (subst (λ e. IsEditedExport e aim.style game text.0) (sym none) (game, refl, text.1)),
-      text.2,
+      text,
+      (
+        replay,
+        first,
+        by_itself own,
+        is,
+        least,
+        own_from first game own begins,
+        own_edited_export aim.edits aim.style own text export,
+      ),
+      added,
     ))
     (λ fault fails left.
     stops_left (lines_with aim.style.variations) game old new (fault_of fault) fails left))

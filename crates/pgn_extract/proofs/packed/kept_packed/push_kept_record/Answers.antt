@@ -1,4 +1,4 @@
-use Rattle.pgn_extract.proofs.Common.{None, refl, sym, subst, aim_of, raw_id}
+use Rattle.pgn_extract.proofs.Common.{refl, sym, subst, aim_of, raw_id}
 use Rattle.pgn_extract.specs.Private.Packed.{ListsRecord, aim_making}
 use Rattle.pgn_extract.specs.declared.settings.EntryLine.{EntryLine}
 use Rattle.pgn_extract.proofs.entries.LineMaking.{makes_named}
@@ -11,7 +11,8 @@ returns-in-Err-clause-err c is = (refl, c.in-Err.ensures.err is)
 pub push_found-requires-clause-makes : goal.push_found-requires-clause-makes
 push_found-requires-clause-makes c game replay packed own =
     let raw = c.args.context.record.now in
-    makes_named c.in_ok-lines.lines c.in_pack.result raw.name None (raw_id raw) game
+    makes_named c.in_ok-lines.lines c.in_pack.result raw.name
+    c.args.context.settings.now.openings (raw_id raw) game
     c.in_pack.ensures.name c.in_pack.ensures.openings c.in_pack.ensures.id
     (c.in_ok-lines.ensures.1 game (c.in_pack.ensures.source game replay packed own))
 

@@ -1,28 +1,23 @@
--- The bit of the place is set in its word.
-use Rattle.pgn_game.proofs.Common.{◌∙◌, ap, sym, subst, arith, ◌≡◌, ◌<◌, length}
-use Rattle.std.proofs.Common.{◌^◌, ◌*◌, ◌/◌, ◌%◌, true, slice_set, bit_or}
-use Rattle.std.proofs.lemmas.List.{get_or_default}
-use Rattle.pgn_game.specs.Private.Filing.{has_place}
-use Rattle.pgn_game.proofs.openings.SieveFacts.{put_here, put_kept}
+-- Both bits of the place are set, and every bit stays.
+use Rattle.pgn_game.proofs.Common.{and_parts}
+use Rattle.std.proofs.Common.{◌^◌, ◌/◌, ◌%◌}
+use Rattle.std.proofs.lemmas.Bool.{and_from}
+use Rattle.pgn_game.specs.Private.Filing.{is_set}
 use Rattle.pgn_game.proofs.openings.sieve.Sieve.put.Goals as goal
 
 pub returns-clause-here : goal.returns-clause-here
 returns-clause-here c =
-    let words = c.self.inside.words.items in
-    let place = c.args.place in
-    let within : place / 64 < length words = omega (arith, c.requires, c.self.invariant) in
-    let word = c.index_mut.ensures.value ∙ get_or_default words (place / 64) _ 0 within in
-    ap (λ w. has_place (slice_set words (place / 64)
-    (bit_or w (1 * 2 ^ (place % 64) % 2 ^ 64))) place) word
-    ∙ put_here words place within
+    let words = c.set-2.new.self in
+    and_from (is_set words (c.args.place % 2 ^ 16)) (is_set words (c.args.place / 2 ^ 16))
+    (c.set-2.ensures.kept (c.args.place % 2 ^ 16) c.set.ensures.here) c.set-2.ensures.here
 
 pub returns-clause-kept : goal.returns-clause-kept
-returns-clause-kept c = λ other there.
-    let words = c.self.inside.words.items in
-    let place = c.args.place in
-    let within : place / 64 < length words = omega (arith, c.requires, c.self.invariant) in
-    let word = c.index_mut.ensures.value ∙ get_or_default words (place / 64) _ 0 within in
-    ap (λ w. has_place (slice_set words (place / 64)
-    (bit_or w (1 * 2 ^ (place % 64) % 2 ^ 64))) other) word
-    ∙ put_kept words place other within
-    (subst (λ ws. has_place ws other ≡ true) (sym c.self.view_is) there)
+returns-clause-kept c other there =
+    let old = c.args.self.now in
+    let new = c.set-2.new.self in
+    let low = other % 2 ^ 16 in
+    let high = other / 2 ^ 16 in
+    let both = and_parts (is_set old low) (is_set old high) there in
+    and_from (is_set new low) (is_set new high)
+    (c.set-2.ensures.kept low (c.set.ensures.kept low both.0))
+    (c.set-2.ensures.kept high (c.set.ensures.kept high both.1))

@@ -1,9 +1,9 @@
 use Rattle.pgn_extract.proofs.Common.{None, false, GameId, aim_of}
-use Rattle.pgn_extract.proofs.entries.KeptLines.{tells_some}
+use Rattle.pgn_extract.proofs.entries.KeptLines.{tells_first}
 use Rattle.pgn_extract.proofs.Picks.{asks_given}
-use Rattle.pgn_extract.proofs.OneMain.{within_entry}
+use Rattle.pgn_extract.proofs.OneMain.{first_within}
 use Rattle.pgn_extract.specs.declared.settings.EntryLine.TheVariants.{Marked}
-use Rattle.pgn_extract.proofs.entries.has_entry.Goals as goal
+use Rattle.pgn_extract.proofs.entries.first_entry.Goals as goal
 
 pub find_played-requires-clause-asks : goal.find_played-requires-clause-asks
 find_played-requires-clause-asks c =
@@ -15,8 +15,8 @@ pub returns-in_default : goal.returns-in_default
 returns-in_default c =
     let plies = c.in_ok-count_plies.ensures in (
       (plies.0, plies.1),
-      λ replay own. within_entry (aim_of c.args.settings.now) c.args.game.now plies.0 replay _
-          c.is_within.result c.in_default.is plies.1 plies.2 own c.is_within.ensures,
+      λ replay own. first_within (aim_of c.args.settings.now) c.args.game.now plies.0 replay _
+          c.first_within.result c.in_default.is plies.1 plies.2 own c.first_within.ensures,
     )
 
 any_id : GameId
@@ -24,7 +24,7 @@ any_id = record { number = 0; offset = 0 }
 
 pub returns : goal.returns
 returns c =
-    tells_some (record (aim_of c.args.settings.now) {
+    tells_first (record (aim_of c.args.settings.now) {
       line = Marked (record { fen = false; next = false });
       name = None;
       openings = None;
