@@ -508,6 +508,21 @@ WHOLE = re.compile(
     % (NO_RESULT, RESULT.replace(b"?P<result>", b"?:"), RESULT), re.DOTALL)
 # How much of a game is read for its tags, at first.
 FRONT = 1 << 12
+# How files begin that are no texts of games, with their kinds; where a tar says that it is one; how
+# many bytes tell; and what is said of them.
+KINDS = {
+    b"\x1f\x8b": "gzip", b"BZh": "bzip2", b"\xfd7zXZ\0": "xz", b"\x28\xb5\x2f\xfd": "zstd",
+    b"PK\x03\x04": "zip", b"7z\xbc\xaf\x27\x1c": "7z", b"Rar!\x1a\x07": "RAR",
+    b"\xff\xfe": "UTF-16", b"\xfe\xff": "UTF-16", b"[\0": "UTF-16", b"\0[": "UTF-16",
+}  # fmt: skip
+TAR, TAR_AT, KIND_SIZE = b"ustar", 257, 262
+COMPRESSED = "compressed (%s): decompress it first (pgn-mend reads it)"
+NO_TEXT = {
+    "7z": "compressed (7z): unpack it by 7z first",
+    "RAR": "compressed (RAR): unpack it by unrar first",
+    "UTF-16": "in UTF-16: make UTF-8 of it first (pgn-mend reads it)",
+    "pack": "a pack, which pgn-extract and pgn-tree read with --packed",
+}
 
 
 class Source(namedtuple("Source", "path name seen")):
@@ -543,6 +558,30 @@ def unopened(path, fault):
     if isinstance(fault, FileNotFoundError):
         reason = "no such file"
     return Fault(REFUSED, f"cannot open {shown(path)}: {reason}")
+
+
+def kind_of(front):
+    """The kind of a file that is no text of games, by its first bytes; None where nothing says so."""
+    # (of a record the first bytes are its size, and those of its number are few)
+    if len(front) > 8 and front[0] <= 2 and front[4:8] == bytes(4):
+        return "pack"
+    for begin, kind in KINDS.items():
+        if front.startswith(begin):
+            return kind
+    # (a name in a tar ends in a zero byte, which no text has)
+    return "tar" if front.startswith(TAR, TAR_AT) and b"\0" in front[:TAR_AT] else None
+
+
+def kind_notes(paths):
+    """What is said of those FILEs that are no texts of games. A pipe keeps its bytes."""
+    for path in paths:
+        front = b""
+        with contextlib.suppress(OSError, ValueError):
+            if stat.S_ISREG(os.stat(path).st_mode):
+                with open(path, "rb", 0) as file:
+                    front = file.read(KIND_SIZE)
+        if kind := kind_of(front):
+            yield f"{shown(path)} is {NO_TEXT.get(kind, COMPRESSED % kind)}"
 
 
 def sources_of(paths):
