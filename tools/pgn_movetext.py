@@ -42,6 +42,10 @@ SIGN = rb"\+/?%b|%b/?\+|\+/?=|=/?\+" % (DASH, DASH)
 # A lone sign of equality is no offer of a draw in parentheses, and no part of a promotion.
 EQUAL = rb"(?:(?<!\()=|=(?!\)))(?!%b*+[QRBNqrbn](?![a-h1-8x:-]))" % WHITE
 HALF = rb"(?:\xc2\xbd|(?<![\x80-\xff])\xbd|1/2)"
+OTHER_RESULT = (
+    rb"(?:%b(?:[ \t]*+[:]?%b?[ \t]*+%b)?"
+    rb"|1[ \t]*+(?::|%b)[ \t]*+0|0[ \t]*+(?::|%b)[ \t]*+1)" % (HALF, DASH, HALF, DASH, DASH)
+)
 ROOK_STEP = rb"(?:[Oo0]|\xd0\x9e|\xd0\xbe)"
 SQUARES = rb"[a-h]?[1-8]?[x:-]?[a-h][1-8]" + NO_LETTER_AFTER
 PROMOTED = rb"(?:(?<=[a-h][18]=)|(?<=[a-h][18]))"
@@ -52,6 +56,11 @@ BLANK = (
     rb"\xc2\xa0|\xe1\x9a\x80|\xe2\x80[\x80-\x8b\xaf]|\xe2\x81[\x9f\xa0]|\xe3\x80\x80"
     rb"|(?<![\x80-\xff])\xa0(?![\x80-\xff])"
 )
+# The value of a Result tag that spells a result, and what such a value is.
+RESULT_TAG = re.compile(
+    COMMENT + rb'|\[%b*+Result%b*+"(?P<value>%b)"%b*+\]|' % (WHITE, WHITE, OTHER_RESULT, WHITE) + TAG,
+    re.DOTALL)
+RESULT_VALUE = re.compile(OTHER_RESULT)
 # How each kind is found, by its name. A text that can be read and not played has the last ones too.
 FOUND = {
     "blanks": BLANK,
@@ -59,9 +68,7 @@ FOUND = {
     rb"|(?<![/=])(?:\xc2\xb1|\xe2\x88[\x93\x9e]|\xe2\xa9[\xb1\xb2])(?!/)"
     rb"|(?<![\x80-\xff])\xb1(?![\x80-\xff])"
     % (NO_WORD_BEFORE, SIGN, EQUAL, NO_WORD_AFTER, LONG_SIGN, NO_WORD_AFTER),
-    "results": rb"%b(?:%b(?:[ \t]*+[:]?%b?[ \t]*+%b)?"
-    rb"|1[ \t]*+(?::|%b)[ \t]*+0|0[ \t]*+(?::|%b)[ \t]*+1)%b%b"
-    % (NO_WORD_BEFORE, HALF, DASH, HALF, DASH, DASH, NO_WORD_AFTER, GAME_ENDS),
+    "results": NO_WORD_BEFORE + OTHER_RESULT + NO_WORD_AFTER + GAME_ENDS,
     "en-passant": rb"%b%b*+(?:\(e\.?[ ]?p\.?\)|/?e\.[ ]?p\.?|/?ep\.?)%b"
     % (TAKEN, WHITE, NO_LETTER_AFTER),
     "castling": rb"%b(?:%b(?:%b%b){1,2}|[Oo]{2,3})(?![A-Za-z0-9_=:/\x80-\xff-])"
@@ -206,6 +213,11 @@ def result_of(text):
     return {b"1": b"1-0", b"0": b"0-1"}.get(text[:1], text)
 
 
+def result_in_tag(value):
+    """The result that the value of a Result tag is a spelling of, or else the value."""
+    return result_of(value) if RESULT_VALUE.fullmatch(value) else value
+
+
 def castling(found):
     """Castling, unless zeros and hyphens alone write it, which are read as they are."""
     steps = len(re.findall(ROOK_STEP, found[0]))
@@ -280,6 +292,14 @@ class Movetext:
             new = letters.get(found[0], found[0]) if kind == "languages" else NEW[kind](found)
             if new != found[0]:
                 yield Edit(*found.span(), new, kind)
+
+
+def with_results_in_tags(text):
+    """A text whose Result tags have the standard's results."""
+    values = (it for it in RESULT_TAG.finditer(text) if it["value"])
+    edits = (Edit(*it.span("value"), result_of(it["value"]), "results") for it in values)
+    changes = (it for it in edits if it.new != text[it.begin : it.end])
+    return with_edits(text, changes, has_stretches=False)
 
 
 # Letters of languages.
