@@ -163,7 +163,8 @@ fn push_count(out: &mut ArrayString<112>, count: u32)
 }
 
 impl<B: Board> Position<B> {
-    /// The text of the position (PGN 16.1.4).
+    /// The text of the position (PGN 16.1.4): a square of en passant stands there after each double
+    /// step, whether a pawn can take or not.
     pub fn fen(&self) -> ArrayString<112>
         ensures { IsFen self.now result.bytes }
     {

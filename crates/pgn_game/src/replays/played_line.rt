@@ -81,8 +81,8 @@ impl<'g, 'a> MainLine<'g, 'a> {
         self.walk.plies
     }
 
-    /// Plays the next move; answers false where there is none. At a word that can't be played, the
-    /// game has its fault.
+    /// Plays the next move: true after a move, false at the end. A word that can't be played gives
+    /// the game's fault, and nothing is said of the line then.
     #[inline(always)]
     pub fn advance(&mut self) -> Result<bool, GameFault<'a>>
         ensures { MatchResult result

@@ -14,14 +14,14 @@ pub enum GameFault<'a> {
     Illegal {
         /// The word as it stands.
         word: &'a [u8],
-        /// One more than the plies before it in its line.
+        /// The number of this ply in its line, from 1.
         ply: usize,
     },
     /// The word names several legal moves.
     Ambiguous {
         /// The word as it stands.
         word: &'a [u8],
-        /// One more than the plies before it in its line.
+        /// The number of this ply in its line, from 1.
         ply: usize,
     },
     /// Memory was refused.
@@ -37,7 +37,7 @@ impl<'a> From<AllocError> for GameFault<'a> {
 }
 
 impl GameFault<'_> {
-    /// What stands in the way where no line is faulty: memory is refused.
+    /// The error of a fault that is no line's: that memory is refused.
     pub fn refused(self) -> AllocError
         requires { fault_of self ≡ None }
     {

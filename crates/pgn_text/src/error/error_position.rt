@@ -204,7 +204,7 @@ fn walk(block: &[u8], begin: usize, file_start: bool) -> Reached
 /// What the place where a text stops agreeing with games stands in.
 #[derive(Clone, Copy, Debug, PartialEq, Eq)]
 pub enum Within {
-    /// A comment in braces, which begins at the place of the block and does not end.
+    /// A comment in braces that does not end, with the place of its brace in the block.
     Comment(usize),
     /// A tag, which begins at the place of the block, before its string.
     TagName(usize),

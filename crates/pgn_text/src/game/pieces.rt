@@ -14,7 +14,7 @@ pub mod start;
 pub enum Piece<'a> {
     /// A game.
     Game(RawGame<'a>),
-    /// Bytes from this place to the block's end, of which no front is a game.
+    /// The bytes from this place to the block's end, where no game begins.
     Unreadable { at: usize },
 }
 
@@ -104,7 +104,7 @@ impl<'a> Iterator for Games<'a> {
 pub enum PieceStart {
     /// A game begins at this place.
     Game(usize),
-    /// Bytes from this place to the block's end, of which no front is a game.
+    /// The bytes from this place to the block's end, where no game begins.
     Unreadable(usize),
 }
 

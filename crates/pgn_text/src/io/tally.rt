@@ -9,8 +9,9 @@ use std::io;
 use std::io::{Read, Write};
 use std::marker::Model;
 
-/// A reader or a writer, and what became of the calls to it: whether one has failed, how many
-/// bytes they moved, and whether the last of them was a flush that succeeded.
+/// A reader or a writer, as `Blocks` and runs take it, and what became of the calls to it: whether
+/// one has failed, how many bytes they moved, and whether the last of them was a flush that
+/// succeeded.
 #[derive(Drop)]
 pub struct Tally<T> {
     inner: T,
