@@ -17,6 +17,7 @@ pub mod MoveNotes
 pub mod TwoFiles
 pub mod SeveralPacks
 pub mod OpeningFiles
+pub mod AskedCriteria
 pub mod PackStops
 pub mod MarkOrder
 pub mod MarkLines

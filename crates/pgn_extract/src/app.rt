@@ -1,8 +1,10 @@
 //! The program over arguments and files that are handed in.
-ghost use Rattle.std.specs.Prelude.{◌≡◌, ℕ, List, false, IfOk, IfSome, OnErr, is_some};
+ghost use Rattle.std.specs.Prelude.{◌≡◌, ℕ, List, [], false, true, IfOk, IfSome, OnErr};
+ghost use Rattle.std.specs.Prelude.{is_none, is_some};
+ghost use Rattle.pgn_extract.specs.Private.AskedCriteria.{AreAskedCriteria};
 ghost use Rattle.pgn_extract.specs.Private.OpeningFiles.{AreLinesOfFile};
 ghost use Rattle.pgn_extract.specs.Public.AskedEdits.{AreAskedEdits};
-ghost use Rattle.pgn_extract.specs.Public.Requests.{IsInPacks};
+ghost use Rattle.pgn_extract.specs.Public.Requests.{IsAskedRow, IsInPacks};
 
 mod chosen_marks;
 pub mod command;
@@ -154,6 +156,7 @@ where
 fn read_file<F: Files>(alloc: Global, files: &mut F, order: &Order<'_>) -> Result<Vec<u8>, Refusal>
 where
     F::Input: Drop,
+    ensures { IfOk result (λ text. is_none order.now.request.criteria ≡ true → text.items ≡ []) }
 {
     let Some(path) = order.request.criteria else {
         return Ok(Vec::new(alloc));
@@ -169,7 +172,8 @@ where
 
 /// The row that is asked for, if one is.
 fn row_of(alloc: Global, order: &Order<'_>) -> Result<Option<Row>, Refusal>
-    ensures { IfOk result (λ row. IsInPacks order.now.request row) }
+    ensures asked { IfOk result (IsAskedRow order.now.request) }
+    ensures packed { IfOk result (IsInPacks order.now.request) }
 {
     match read_row(alloc, order) {
         Ok(row) => Ok(row),
@@ -197,6 +201,7 @@ fn read_criteria<F: Files>(
 ) -> Result<Option<Criteria>, Refusal>
 where
     F::Input: Drop,
+    ensures { IfOk result (AreAskedCriteria order.now.request) }
 {
     let request = &order.request;
     if request.criteria.is_none() && request.conditions.is_empty() {
@@ -364,7 +369,10 @@ fn read_given<F: Files>(
 ) -> Result<(Given, Option<Unmarked>), Refusal>
 where
     F::Input: Drop,
+    ensures row { IfOk result (λ read. IsAskedRow order.now.request read.0.row) }
     ensures packs { IfOk result (λ read. IsInPacks order.now.request read.0.row) }
+    ensures criteria { IfOk result (λ read.
+        AreAskedCriteria order.now.request read.0.criteria) }
     ensures edits { IfOk result (λ read. AreAskedEdits order.now.request read.0.edits) }
 {
     let row = row_of(alloc, order)?;

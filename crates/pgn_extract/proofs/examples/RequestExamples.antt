@@ -1,25 +1,30 @@
 -- What the definitions of what is asked for say of some options, and what they refuse.
 use Rattle.std.proofs.Common.{option_map}
 use Rattle.std.specs.List.{list_any}
-use Rattle.std.specs.Prelude.{is_none}
+use Rattle.std.specs.Prelude.{is_none, is_some, map}
 use Rattle.std.specs.Borrow.{Bor}
 use Rattle.pgn_game.specs.declared.exports.style.Commands.TheVariants.{InWords, LeftOut, Whole}
 use Rattle.pgn_extract.proofs.Common.{◌≡◌, ◌^◌, ◌-◌, Bool, true, false, ℕ, nat_lt, length, List, []}
 use Rattle.pgn_extract.proofs.Common.{◌∷◌, ◌++◌, None, Some, codes, ap, refl, San, Uci}
-use Rattle.pgn_extract.proofs.Common.{sym, ◌∙◌, Aim}
+use Rattle.pgn_extract.proofs.Common.{sym, subst, ◌∙◌, Aim}
 use Rattle.pgn_extract.proofs.Common.{game_id, bad_mark, begin_of, end_of, first_line}
 use Rattle.pgn_extract.proofs.Common.{is_one_line, option_refusals, refused, text_refusals, Request}
 use Rattle.pgn_extract.proofs.Common.{Standard, AsItStands, FromEntry, Line, Record, Matching}
 use Rattle.pgn_extract.proofs.Common.{Others, Faulty}
+use Rattle.pgn_criteria.specs.Public.Conditions.{Conditions}
+use Rattle.pgn_criteria.specs.Public.Lines.{SpellsCriteria}
+use Rattle.pgn_extract.specs.Private.AskedCriteria.{AreAskedCriteria, with_lines}
 use Rattle.pgn_extract.specs.Public.GivenMarks.{mark_in}
 use Rattle.pgn_extract.specs.Public.Requests.{asked, asks_names, gives_mark, has_several_files}
-use Rattle.pgn_extract.specs.Public.Requests.{is_stretch, IsInPacks, HasItsLines}
+use Rattle.pgn_extract.specs.Public.Requests.{gives_criteria, is_stretch, IsAskedRow, IsInPacks}
+use Rattle.pgn_extract.specs.Public.Requests.{HasItsLines}
 use Rattle.pgn_extract.specs.Public.Columns.{shows_annotations, shows_opening}
 use Rattle.pgn_extract.specs.declared.app.order.Given.{Given}
 use Rattle.pgn_extract.specs.declared.marks.GameId.{GameId}
 use Rattle.pgn_extract.specs.declared.rows.column.AnnotationColumn.TheVariants.{Comment}
 use Rattle.pgn_extract.specs.declared.rows.column.Column.TheVariants.{OfAnnotations, OfGame}
 use Rattle.pgn_extract.specs.declared.rows.column.GameColumn.TheVariants.{OpeningPly}
+use Rattle.pgn_extract.specs.declared.rows.column.Format.TheVariants.{Csv, Tsv, Jsonl}
 use Rattle.pgn_extract.specs.declared.rows.column.Row.{Row}
 use Rattle.pgn_extract.specs.declared.settings.EntryLine.TheVariants.{Marked}
 use Rattle.pgn_extract.specs.declared.settings.Mode.TheVariants as modes
@@ -600,3 +605,48 @@ no_opening_without_lines request row without shows holds =
     let none : list_any shows_opening (OfGame OpeningPly ∷ []) ≡ false =
     ap (list_any shows_opening) (sym shows) ∙ holds without in
     cc
+
+-- ---- what is read for a run
+
+-- rows have the format that is asked for, and none is left out or written unasked
+in_cells : (request : Request) (row : Row) → request.tsv ≡ false → request.jsonl ≡ true
+    → row.format ≡ Csv → IsAskedRow request (Some row) → ⊥
+in_cells request row no_tsv jsonl cells (columns, given, format) =
+    let no : Csv ≡ Jsonl = sym cells ∙ format ∙ rw (no_tsv, jsonl) refl in cc
+
+left_out : (request : Request) (text : Bor (List ℕ)) → request.rows ≡ Some text
+    → IsAskedRow request None → ⊥
+left_out request text asked is = let no = sym is ∙ ap is_none asked in cc
+
+unasked_row : (request : Request) (row : Row) → request.rows ≡ None
+    → IsAskedRow request (Some row) → ⊥
+unasked_row request row none (columns, given, format) =
+    let no = sym given ∙ ap is_some none in cc
+
+-- lines stand after the text of the file, each alone
+lines_after : (with_lines (codes "mate") (codes "check" ∷ []) ≡ codes "mate\ncheck\n")
+    × (with_lines (codes "mate\n") (codes "check" ∷ codes "or" ∷ []) ≡ codes "mate\ncheck\nor\n")
+    × (with_lines (codes "mate") [] ≡ codes "mate")
+    × (with_lines [] (codes "check" ∷ []) ≡ codes "check\n")
+lines_after = (refl, refl, refl, refl)
+
+-- criteria are those that are given, all of them
+no_criteria_left_out : (request : Request) → gives_criteria request ≡ true
+    → AreAskedCriteria request None → ⊥
+no_criteria_left_out request given is = let no = sym given ∙ is in cc
+
+no_criteria_unasked : (request : Request) (criteria : List Conditions)
+    → gives_criteria request ≡ false → AreAskedCriteria request (Some criteria) → ⊥
+no_criteria_unasked request criteria none (file, given, unnamed, spelled) =
+    let no = sym none ∙ given in cc
+
+of_a_line : (request : Request) (line : Bor (List ℕ)) (criteria : List Conditions)
+    → request.criteria ≡ None → request.conditions.items ≡ line ∷ []
+    → line.now ≡ codes "mate" → AreAskedCriteria request (Some criteria)
+    → SpellsCriteria (codes "mate\n") criteria
+of_a_line request line criteria no_file only own (file, given, unnamed, spelled) =
+    let empty : file ≡ [] = unnamed (ap is_none no_file) in
+    subst (λ text. SpellsCriteria text criteria)
+    (ap (λ text. with_lines text (map (λ own. own.now) request.conditions.items)) empty
+    ∙ ap (λ own. with_lines [] (map (λ own. own.now) own)) only
+    ∙ ap (λ text. with_lines [] (text ∷ [])) own) spelled.1

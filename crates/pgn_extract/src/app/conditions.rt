@@ -1,6 +1,7 @@
 //! The text of criteria, gathered from a file and from arguments.
-ghost use Rattle.std.specs.Prelude.{◌≡◌};
+ghost use Rattle.std.specs.Prelude.{◌≡◌, OnOk, map};
 ghost use Rattle.std.specs.List.{list_all};
+ghost use Rattle.pgn_extract.specs.Private.AskedCriteria.{with_lines};
 ghost use Rattle.pgn_extract.specs.Public.Requests.{is_one_line};
 
 use std::alloc::AllocError;
@@ -24,8 +25,11 @@ pub fn are_lines(arguments: &[&str]) -> bool
 
 /// Appends arguments as lines, each with a line feed at its end. The last line of the text gets one
 /// too, where it lacks it.
-pub fn push_lines(text: &mut Vec<u8>, arguments: &[&str]) -> Result<(), AllocError> {
-    if !arguments.is_empty() && !text.is_empty() && !text.ends_with(b"\n") {
+pub fn push_lines(text: &mut Vec<u8>, arguments: &[&str]) -> Result<(), AllocError>
+    ensures { OnOk result
+        (text.new.items ≡ with_lines text.old.items (map (λ line. line.now) arguments.now)) }
+{
+    if !arguments.is_empty() && !text.is_empty() && text[text.len() - 1] != b'\n' {
         text.push(b'\n')?;
     }
     for argument in arguments {
