@@ -560,8 +560,18 @@ def unopened(path, fault):
     return Fault(REFUSED, f"cannot open {shown(path)}: {reason}")
 
 
+def refuse_unopened(paths):
+    """Refuses FILEs that cannot be opened. A pipe keeps its bytes."""
+    for path in paths:
+        try:
+            if stat.S_ISREG(os.stat(path).st_mode):
+                os.close(os.open(path, os.O_RDONLY))
+        except (OSError, ValueError) as fault:
+            raise unopened(path, fault) from fault
+
+
 def kind_of(front):
-    """The kind of a file that is no text of games, by its first bytes; None where nothing says so."""
+    """The kind of a file that is no text of games, by its first bytes; else None."""
     # (of a record the first bytes are its size, and those of its number are few)
     if len(front) > 8 and front[0] <= 2 and front[4:8] == bytes(4):
         return "pack"
