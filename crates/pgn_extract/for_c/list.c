@@ -63,6 +63,6 @@ int main(int count, char **words) {
         if (err.size > err.room) grow(&err, err.size);
     }
     if (fwrite(out.bytes, 1, out.size, stdout) < out.size || fflush(stdout)) fail("cannot write");
-    fwrite(err.bytes, 1, err.size, stderr);
+    if (fwrite(err.bytes, 1, err.size, stderr) < err.size) return PGN_FAILED;
     return status;
 }

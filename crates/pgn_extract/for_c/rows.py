@@ -7,6 +7,7 @@ An index gives the marks of the games. Each further call begins at one (--from) 
 another (--until): so no call needs much room, and the next row is there before all are made.
 """
 import ctypes
+import os
 import sys
 from pathlib import Path
 
@@ -41,7 +42,8 @@ def rows(games, columns, arguments=(), library=LIBRARY, step=GAMES):
         yield run(words, games, library=library)
 
 
-def main(path, columns, *arguments):
+def print_rows(path, columns, *arguments):
+    """Writes the rows, and gives the worst status."""
     worst = 0
     for status, out, err in rows(Path(path).read_bytes(), columns, arguments):
         sys.stdout.buffer.write(out)
@@ -49,8 +51,21 @@ def main(path, columns, *arguments):
         worst = max(worst, status)
         if status > 1:
             break
+    sys.stdout.buffer.flush()
     return worst
 
 
+def main(arguments):
+    if len(arguments) < 2:
+        print(__doc__, file=sys.stderr)
+        return 2
+    try:
+        return print_rows(*arguments)
+    except (OSError, MemoryError) as fault:
+        print(f"rows.py: {fault or 'out of memory'}", file=sys.stderr)
+        # (what is left to be written cannot be)
+        os._exit(3)
+
+
 if __name__ == "__main__":
-    sys.exit(main(*sys.argv[1:]))
+    sys.exit(main(sys.argv[1:]))
