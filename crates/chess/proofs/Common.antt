@@ -7,7 +7,7 @@ pub use Rattle.chess.specs.Private.Bitboards.{pseudo_attacks_row_of, square_bitb
 pub use Rattle.chess.specs.Private.Bitboards.{step_bitboard, upright_bitboard, words_men}
 pub use Rattle.chess.specs.Private.Cells.{cell_of, cells_men}
 pub use Rattle.chess.specs.Private.FenTextWords.{AreLetters, each_after, letter_on, rank_texts}
-pub use Rattle.chess.specs.Private.FenTextWords.{spelled_from, squares_from}
+pub use Rattle.chess.specs.Private.FenTextWords.{spelled_from}
 pub use Rattle.chess.specs.Private.FenWords.{IsEdgePawn, IsPutUpTo, IsRow}
 pub use Rattle.chess.specs.Private.MoveWords.{CanLeave, CanStepOver, HasEach, IsLeft, IsMover}
 pub use Rattle.chess.specs.Private.MoveWords.{IsSifted, IsSquareAhead, IsStepper, IsTaker}

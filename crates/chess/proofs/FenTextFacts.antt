@@ -5,28 +5,12 @@ use Rattle.std.proofs.lemmas.List.{replicate_more}
 use Rattle.itoa.proofs.Decimal.{decimal_two}
 use Rattle.chess.proofs.Common.{◌≡◌, ◌<◌, ◌≤◌, ◌+◌, ◌-◌, ◌/◌, ◌%◌, ℕ, zero, suc, Bool, true, false}
 use Rattle.chess.proofs.Common.{not, ap, refl, sym, subst, ◌∙◌, arith, Option, Some, None, IsTrue}
-use Rattle.chess.proofs.Common.{List, [], ◌∷◌, ◌++◌, length, length-append, replicate, list_all}
-use Rattle.chess.proofs.Common.{append-nil, decimal_digit, Place, Placement, man_at, man_letter}
+use Rattle.chess.proofs.Common.{List, [], ◌∷◌, ◌++◌, length, replicate, list_all}
+use Rattle.chess.proofs.Common.{append-nil, decimal_digit, Placement, man_letter}
 use Rattle.chess.proofs.Common.{SpellsRank, SpellRanks, is_shortest, is_step, joined, row, letter}
-use Rattle.chess.proofs.Common.{step, spelled_from, squares_from, rank_texts, each_after, letter_on}
+use Rattle.chess.proofs.Common.{step, spelled_from, rank_texts, each_after}
 use Rattle.chess.proofs.Common.{Man, Side, White, Black, Kind, King, and_false}
 use Rattle.chess.specs.Private.FenTextWords.{digit_of, rank_text}
-use Rattle.chess.proofs.MarkFacts.{no_man_there}
-
--- ---- lengths
-
-length-digit_of : (n : ℕ) → (length (digit_of n) ≤ n) × (length (digit_of n) ≤ 1)
-length-digit_of zero = (omega arith, omega arith)
-length-digit_of (suc n) = (omega arith, omega arith)
-
-pub length-spelled_from : (squares : List (Option Man)) (n : ℕ)
-    → length (spelled_from n squares) ≤ n + length squares
-length-spelled_from [] n = let h = (length-digit_of n).0 in omega arith
-length-spelled_from (None ∷ squares) n = let h = length-spelled_from squares (n + 1) in omega arith
-length-spelled_from (Some man ∷ squares) n =
-    let h = length-spelled_from squares 0 in
-    let d = (length-digit_of n).0 in
-    let e = length-append (digit_of n) (man_letter man ∷ spelled_from 0 squares) in omega arith
 
 -- ---- what is written spells the squares
 
@@ -92,25 +76,6 @@ shortest (Some man ∷ squares) n =
     ∷ spelled_from 0 squares) (no_step man)
     (shortest_letter (man_letter man) _ (no_step man) (shortest squares 0))
 
--- ---- a square by its letter
-
-pub none_is_next : (before : List ℕ) (n : ℕ) (next : Option Man) (squares : List (Option Man))
-    → letter_on next ≡ 0
-    → before ++ spelled_from (n + 1) squares ≡ before ++ spelled_from n (next ∷ squares)
-none_is_next before n next squares none =
-    ap (λ (o : Option Man). before ++ spelled_from n (o ∷ squares)) (sym (no_man_there next none))
-
-pub man_is_next : (before middle after : List ℕ) (n own : ℕ) (next : Option Man)
-    (squares : List (Option Man)) → own ≡ letter_on next
-    → (own ≡ 0 → ⊥) → middle ≡ before ++ digit_of n → after ≡ middle ++ own ∷ []
-    → after ++ spelled_from 0 squares ≡ before ++ spelled_from n (next ∷ squares)
-man_is_next before middle after n own None squares here some run put = absurd (some here)
-man_is_next before middle after n own (Some man) squares here some run put =
-    ap (λ x. x ++ spelled_from 0 squares) (put ∙ ap (λ x. x ++ own ∷ []) run
-    ∙ ap (λ b. (before ++ digit_of n) ++ b ∷ []) here)
-    ∙ append_assoc (before ++ digit_of n) (man_letter man ∷ []) (spelled_from 0 squares)
-    ∙ append_assoc before (digit_of n) (man_letter man ∷ spelled_from 0 squares)
-
 -- ---- the ranks
 
 pub spell_ranks : (p : Placement) (n : ℕ) → SpellRanks p n (rank_texts p n)
@@ -133,60 +98,6 @@ pub joined-each_after : (separator : ℕ) (x : List ℕ) (more : List (List ℕ)
 joined-each_after separator x [] = sym (append-nil x)
 joined-each_after separator x (y ∷ more) =
     ap (λ t. x ++ separator ∷ t) (joined-each_after separator y more)
-
--- ---- a rank that is begun
-
-pub length-rank_text : (p : Placement) (rank : ℕ) → length (rank_text p rank) ≤ 8
-length-rank_text p rank = let h = length-spelled_from (row p rank) 0 in omega arith
-
--- what is written is no longer than the whole
-pub begun_length : (x rest y whole : List ℕ) → x ++ rest ≡ y ++ whole → length whole ≤ 8
-    → length x ≤ length y + 8
-begun_length x rest y whole e h =
-    let l = ap length e in
-    let a = length-append x rest in
-    let b = length-append y whole in omega arith
-
-pub whole_length : (x y whole : List ℕ) → x ≡ y ++ whole → length whole ≤ 8
-    → length x ≤ length y + 8
-whole_length x y whole e h =
-    let l = ap length e in
-    let b = length-append y whole in omega arith
-
--- the squares from a file on, that file's first
-pub one_more_square : (p : Placement) (rank file : ℕ) → 1 ≤ file → file < 9
-    → squares_from p rank file (9 - file) ≡ man_at p (record { file = file; rank = rank })
-    ∷ squares_from p rank (file + 1) (9 - (file + 1))
-one_more_square p rank file low high =
-    let next : 9 - file ≡ suc (9 - (file + 1)) = omega arith in ap (squares_from p rank file) next
-
-pub no_more_squares : (p : Placement) (rank file : ℕ) → 9 ≤ file
-    → squares_from p rank file (9 - file) ≡ []
-no_more_squares p rank file high = let none : 9 - file ≡ 0 = omega arith in
-    ap (squares_from p rank file) none
-
--- one more square is written
-pub square_is_written : (p : Placement) (rank file empty then_empty : ℕ) (next : Option Man)
-    (place : Place) (before after whole : List ℕ)
-    → 1 ≤ file → file < 9 → place ≡ record { file = file; rank = rank } → next ≡ man_at p place
-    → ((squares : List (Option Man)) → after ++ spelled_from then_empty squares
-    ≡ before ++ spelled_from empty (next ∷ squares))
-    → before ++ spelled_from empty (squares_from p rank file (9 - file)) ≡ whole
-    → after ++ spelled_from then_empty (squares_from p rank (file + 1) (9 - (file + 1))) ≡ whole
-square_is_written p rank file empty then_empty next place before after whole low high here found
-    written text =
-    let more = squares_from p rank (file + 1) (9 - (file + 1)) in
-    written more
-    ∙ ap (λ (o : Option Man). before ++ spelled_from empty (o ∷ more)) (found ∙ ap (man_at p) here)
-    ∙ ap (λ q. before ++ spelled_from empty q) (sym (one_more_square p rank file low high)) ∙ text
-
--- all squares are written, and the digit of the last run
-pub rank_is_whole : (p : Placement) (rank file empty : ℕ) (before after whole : List ℕ) → 9 ≤ file
-    → after ≡ before ++ digit_of empty
-    → before ++ spelled_from empty (squares_from p rank file (9 - file)) ≡ whole → after ≡ whole
-rank_is_whole p rank file empty before after whole high written text =
-    written ∙ ap (λ q. before ++ spelled_from empty q) (sym (no_more_squares p rank file high))
-    ∙ text
 
 -- ---- ranks that are begun
 pub one_more_rank : (p : Placement) (k : ℕ) → k < 8

@@ -12,6 +12,7 @@ pub mod StartFacts
 pub mod FieldFacts
 pub mod LetterFacts
 pub mod MarkFacts
+pub mod RankOrderFacts
 pub mod RankFacts
 pub mod FenFacts
 pub mod FenOnce

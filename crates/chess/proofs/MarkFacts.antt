@@ -10,7 +10,6 @@ use Rattle.chess.proofs.Common.{AreLetters, Man, Side, Kind, White, Black, King}
 use Rattle.chess.specs.Shared.SetFacts.{and_true}
 use Rattle.chess.specs.Private.FenTextWords.{letter_at, letter_below, AreLettersBelow}
 use Rattle.chess.proofs.PlaceFacts.{cases_place, same_square-same, same_square-then, true_not_false}
-use Rattle.chess.proofs.LetterFacts.{letter_high}
 use Rattle.chess.proofs.LoopFacts.{not_in}
 use Rattle.chess.proofs.BitFacts.{man_of_row-row_of, row_of-below}
 
@@ -20,7 +19,7 @@ use Rattle.chess.proofs.BitFacts.{man_of_row-row_of, row_of-below}
 -- squares are as they were
 pub record IsMarked (letter : ℕ) (old : List ℕ) (squares left : Places) (now : List ℕ) : Type 0
   where
-    pub size : length now ≡ 64
+    pub size : length now ≡ 72
     pub each : (s : Place) → IsOnBoard s
         → (if is_in left s then letter else letter_at now s)
         ≡ (if is_in squares s then letter else letter_at old s)
@@ -119,8 +118,10 @@ below_none (Some man) =
     ap (λ b. if b then man_letter man
     else 0) (false_of _ (λ e. let h = ltb-true (row_of man) 0 e in absurd (omega arith)))
 
-pub no_letters : (p : Placement) → AreLettersBelow p (replicate 64 0) 0
-no_letters p s on = get_or-replicate 64 (index_of s) 0 0 (index_of-below s on)
+pub no_letters : (p : Placement) → AreLettersBelow p (replicate 72 0) 0
+no_letters p s on =
+    let below = index_of-below s on in
+    get_or-replicate 72 (index_of s) 0 0 (omega arith)
     ∙ sym (below_none (man_at p s))
 
 below_all : (o : Option Man) → letter_below 12 o ≡ letter_on o
@@ -133,10 +134,6 @@ pub all_letters : (p : Placement) (letters : List ℕ) → AreLettersBelow p let
 all_letters p letters below s on = below s on ∙ below_all (man_at p s)
 
 -- ---- what a letter says of a square
-
-pub no_man_there : (o : Option Man) → letter_on o ≡ 0 → o ≡ None
-no_man_there None e = refl
-no_man_there (Some man) e = let high = letter_high man.side man.kind in absurd (omega arith)
 
 kind_ascii : (other : Kind) → man_letter (record { side = White; kind = other }) < 96
 kind_ascii King = omega arith

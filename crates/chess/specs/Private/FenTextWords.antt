@@ -1,6 +1,8 @@
 -- The text of a rank as the program writes it, square by square.
-use Rattle.std.specs.Prelude.{◌≡◌, ℕ, zero, suc, ◌+◌, ltb, Bool, List, [], ◌∷◌, ◌++◌, get_or}
-use Rattle.std.specs.Prelude.{Option, Some, None, if◌then◌else◌}
+use Rattle.std.specs.Prelude.{◌≡◌, ℕ, zero, suc, ◌+◌, ◌-◌, ◌*◌, ltb, Bool, List, [], ◌∷◌, ◌++◌}
+use Rattle.std.specs.Prelude.{get_or, map, codes, ◌==◌, Option, Some, None}
+use Rattle.std.specs.Prelude.{if◌then◌else◌}
+use Rattle.std.specs.Simd.Lanes.{chunk, mask_l}
 use Rattle.chess.specs.Public.Squares.{Place, IsOnBoard, index_of}
 use Rattle.chess.specs.Public.Placements.{Placement, man_at, row_of}
 use Rattle.chess.specs.Public.Letters.{man_letter}
@@ -18,12 +20,6 @@ spelled_from n [] = digit_of n
 spelled_from n (None ∷ squares) = spelled_from (n + 1) squares
 spelled_from n (Some man ∷ squares) = digit_of n ++ man_letter man ∷ spelled_from 0 squares
 
--- so many squares of a rank, from that file on
-abbrev pub squares_from : Placement → ℕ → ℕ → ℕ → List (Option Man)
-squares_from p rank file zero = []
-squares_from p rank file (suc n) = man_at p (record { file = file; rank = rank })
-    ∷ squares_from p rank (file + 1) n
-
 -- the text of a rank, and the texts of the ranks from that one down
 abbrev pub rank_text : Placement → ℕ → List ℕ
 rank_text p rank = spelled_from 0 (row p rank)
@@ -31,6 +27,17 @@ rank_text p rank = spelled_from 0 (row p rank)
 abbrev pub rank_texts : Placement → ℕ → List (List ℕ)
 rank_texts p zero = []
 rank_texts p (suc n) = rank_text p (suc n) ∷ rank_texts p n
+
+-- the signs of a rank: the letters that a table has of its squares, and then the digits
+abbrev pub rank_signs : List ℕ → ℕ → List ℕ
+rank_signs letters rank = chunk (8 * (rank - 1)) 8 letters ++ codes "12345678"
+
+-- the set of the empty squares, as bits, and the signs in an order
+abbrev pub empty_set : List ℕ → ℕ
+empty_set signs = mask_l (map (λ sign. sign == 0) signs)
+
+abbrev pub in_order : List ℕ → List ℕ → List ℕ
+in_order signs order = map (λ place. get_or signs place 0) order
 
 -- the letter of the man on a square, or 0; and the letter for the square in a table in the order
 -- a1, b1 to h1, a2 and so on

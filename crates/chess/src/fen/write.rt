@@ -1,56 +1,74 @@
 //! The text of a position in Forsyth-Edwards notation (PGN 16.1).
-ghost use Rattle.std.specs.Prelude.{◌≡◌, Option, List, ◌+◌, ◌≤◌, ◌<◌, ◌++◌, ◌∷◌, decimal};
-ghost use Rattle.std.specs.Prelude.{if◌then◌else◌};
+ghost use Rattle.std.specs.Prelude.{◌≡◌, Option, List, ◌+◌, ◌≤◌, ◌<◌, ◌++◌, decimal};
+ghost use Rattle.std.specs.Prelude.{if◌then◌else◌, take};
+ghost use Rattle.std.specs.Simd.Lanes.{Each1};
 ghost use Rattle.arrayvec.specs.ArrayString.{array_string_len};
 ghost use Rattle.chess.specs.Public.Squares.{Place, IsOnBoard};
 ghost use Rattle.chess.specs.Public.Placements.{Placement, number_of_side, number_of_kind};
 ghost use Rattle.chess.specs.Public.Sets.{is_in};
 ghost use Rattle.chess.specs.Public.Fen.{IsFen, side_text, rights_letters, or_dash};
 ghost use Rattle.chess.specs.Public.Fen.{en_passant_text, joined};
-ghost use Rattle.chess.specs.Private.FenTextWords.{digit_of, spelled_from, rank_text, rank_texts};
-ghost use Rattle.chess.specs.Private.FenTextWords.{letter_if, letter_on, letter_at, AreLetters};
+ghost use Rattle.chess.specs.Private.FenTextWords.{rank_text, rank_texts, rank_signs, empty_set};
+ghost use Rattle.chess.specs.Private.FenTextWords.{in_order, letter_if, letter_at, AreLetters};
 ghost use Rattle.chess.specs.Private.FenTextWords.{AreLettersBelow};
 ghost use Rattle.chess.specs.declared.board.man.Man.{Man};
+
+mod rank_orders;
 
 use crate::board::{Board, CastlingRights, Kind, Man, Side, Square, SquareSet};
 use crate::letters::{man_letter, push_byte, push_square};
 use crate::position::Position;
 use arrayvec::ArrayString;
 use itoa::Buffer;
+use rank_orders::{LENGTHS, ORDERS};
+use std::simd::prelude::*;
 
-/// Appends the digit of a run of empty squares, or nothing where there is none.
-fn push_run(out: &mut ArrayString<112>, empty: u8)
-    requires one_digit { empty ≤ 8 }
-    requires room { array_string_len out.old < 112 }
-    ensures { out.new.bytes ≡ out.old.bytes ++ digit_of empty }
-{
-    if empty > 0 {
-        push_byte(out, b'0' + empty);
-    }
-}
-
-/// Takes one more square of a rank after a run of empty ones: a letter is appended, after the run's
-/// digit. Answers how long the run is then.
-fn push_next(out: &mut ArrayString<112>, empty: u8, letter: u8) -> u8
-    requires one_digit { empty ≤ 8 }
-    requires room { array_string_len out.old ≤ 110 }
-    requires ascii { letter < 128 }
-    ensures text { (next : Option Man) (squares : List (Option Man)) → letter ≡ letter_on next
-        → out.new.bytes ++ spelled_from result squares
-        ≡ out.old.bytes ++ spelled_from empty (next ∷ squares) }
-    ensures short { result ≤ empty + 1 }
-{
-    if letter == 0 {
-        return empty + 1;
-    }
-    push_run(out, empty);
-    push_byte(out, letter);
-    0
-}
-
-/// Appends a rank: the letters of its men, and a digit for each longest run of empty squares.
+/// The signs of a rank: the letters of its squares, 0 for an empty one, and then the digits from 1
+/// to 8. Eight bytes follow the letters of the board, so that 16 can be read from each rank on.
 #[inline(always)]
-fn push_rank(out: &mut ArrayString<112>, letters: &[u8; 64], rank: u8)
+fn rank_signs(letters: &[u8; 72], rank: u8) -> u8x16
+    requires on_board { (1 ≤ rank) × (rank ≤ 8) }
+    ensures { result ≡ rank_signs letters.now rank }
+{
+    u8x16::from_slice(&letters[8 * (rank as usize - 1)..]).shuffle(
+        u8x16::from_array(*b"1234567812345678"),
+        [0, 1, 2, 3, 4, 5, 6, 7, 16, 17, 18, 19, 20, 21, 22, 23],
+    )
+}
+
+/// The set of the empty squares of a rank: bit 0 is the a-file's.
+#[inline(always)]
+fn empty_set(signs: u8x16) -> usize
+    ensures { result ≡ empty_set signs }
+{
+    signs.simd_eq(u8x16::splat(0)).to_bitmask() as usize
+}
+
+/// The signs in that order.
+#[inline(always)]
+fn in_order(signs: u8x16, order: u8x16) -> u8x16
+    requires { Each1 (λ place. place < 16) order }
+    ensures { result ≡ in_order signs order }
+{
+    signs.swizzle_dyn(order)
+}
+
+/// Appends the first eight of the bytes.
+#[inline(always)]
+fn push_eight(out: &mut ArrayString<112>, bytes: &[u8; 16])
+    requires ascii { Each1 (λ byte. byte < 128) bytes.now }
+    requires room { array_string_len out.old ≤ 104 }
+    ensures { out.new.bytes ≡ out.old.bytes ++ take 8 bytes.now }
+{
+    for place in 0usize..8 {
+        push_byte(out, bytes[place]);
+    }
+}
+
+/// Appends a rank: the letters of its men, and a digit for each longest run of empty squares. Eight
+/// bytes are appended, and those that are too many taken off, so that no jump depends on the men.
+#[inline(always)]
+fn push_rank(out: &mut ArrayString<112>, letters: &[u8; 72], rank: u8)
     requires on_board { (1 ≤ rank) × (rank ≤ 8) }
     requires room { array_string_len out.old ≤ 100 }
     requires letters { (p : Placement) × AreLetters p letters.now }
@@ -58,16 +76,16 @@ fn push_rank(out: &mut ArrayString<112>, letters: &[u8; 64], rank: u8)
         → out.new.bytes ≡ out.old.bytes ++ rank_text p rank }
     ensures short { array_string_len out.new ≤ array_string_len out.old + 8 }
 {
-    let mut empty = 0u8;
-    for file in 1u8..9 {
-        let square = Square::at(file, rank);
-        empty = push_next(out, empty, letters[square.index() as usize]);
-    }
-    push_run(out, empty);
+    let signs = rank_signs(letters, rank);
+    let empty = empty_set(signs);
+    let length = out.len() + LENGTHS[empty] as usize;
+    let text = in_order(signs, u8x16::from_array(ORDERS[empty]));
+    push_eight(out, &text.to_array());
+    out.truncate(length);
 }
 
 /// Appends the ranks, from rank 8 down, with a slash between two.
-fn push_ranks(out: &mut ArrayString<112>, letters: &[u8; 64])
+fn push_ranks(out: &mut ArrayString<112>, letters: &[u8; 72])
     requires room { array_string_len out.old ≤ 8 }
     requires letters { (p : Placement) × AreLetters p letters.now }
     ensures text { (p : Placement) → AreLetters p letters.now
@@ -83,7 +101,7 @@ fn push_ranks(out: &mut ArrayString<112>, letters: &[u8; 64])
 
 /// Puts the letter on each of the squares.
 #[inline(always)]
-fn mark(letters: &mut [u8; 64], squares: SquareSet, letter: u8)
+fn mark(letters: &mut [u8; 72], squares: SquareSet, letter: u8)
     ensures { (s : Place) → IsOnBoard s
         → letter_at letters.new s ≡ (if is_in squares s then letter else letter_at letters.old s) }
 {
@@ -189,7 +207,7 @@ impl<B: Board> Position<B> {
         ensures text { out.new.bytes ≡ out.old.bytes ++ joined 47 (rank_texts self.now.men 8) }
         ensures short { array_string_len out.new ≤ array_string_len out.old + 71 }
     {
-        let mut letters = [0u8; 64];
+        let mut letters = [0u8; 72];
         self.mark_side(&mut letters, Side::White);
         self.mark_side(&mut letters, Side::Black);
         push_ranks(out, &letters);
@@ -197,7 +215,7 @@ impl<B: Board> Position<B> {
 
     /// Puts the letters of the side's men on their squares, kind by kind.
     #[inline(always)]
-    fn mark_side(&self, letters: &mut [u8; 64], side: Side)
+    fn mark_side(&self, letters: &mut [u8; 72], side: Side)
         ensures { AreLettersBelow self.now.men letters.old (number_of_side side)
             → AreLettersBelow self.now.men letters.new (number_of_side side + 6) }
     {
@@ -211,7 +229,7 @@ impl<B: Board> Position<B> {
 
     /// Puts the letter of the side's men of the kind on their squares.
     #[inline(always)]
-    fn mark_kind(&self, letters: &mut [u8; 64], side: Side, kind: Kind)
+    fn mark_kind(&self, letters: &mut [u8; 72], side: Side, kind: Kind)
         ensures { AreLettersBelow self.now.men letters.old (number_of_side side
             + number_of_kind kind)
             → AreLettersBelow self.now.men letters.new (number_of_side side + number_of_kind kind

@@ -1,4 +1,3 @@
-use Rattle.chess.proofs.Common.{Option, MatchOption, Place, HasOnly, IsTakenFirst}
 use Rattle.chess.proofs.LoopFacts.{fewer}
 use Rattle.chess.proofs.PlaceFacts.{true_not_false}
 use Rattle.chess.proofs.board.AttackerFacts.{searched_start, searched_more, searched_none}

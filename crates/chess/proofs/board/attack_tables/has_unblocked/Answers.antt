@@ -1,4 +1,4 @@
-use Rattle.chess.proofs.Common.{◌≡◌, true, false, Option, refl, Place, IsTakenFirst}
+use Rattle.chess.proofs.Common.{◌≡◌, true, false, refl}
 use Rattle.chess.proofs.PlaceFacts.{true_not_false}
 use Rattle.chess.proofs.LoopFacts.{fewer, left_more, left_none}
 use Rattle.chess.proofs.board.AttackerFacts.{IsOpenFrom, seek_start, found_open}

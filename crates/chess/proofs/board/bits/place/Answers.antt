@@ -1,6 +1,5 @@
 use Rattle.chess.proofs.board.bits.place.Goals as goal
-use Rattle.chess.proofs.Common.{◌∙◌, ap, sym, ℕ, Some, None, index_of, with_man, words_men}
-use Rattle.chess.proofs.Common.{IsCleared}
+use Rattle.chess.proofs.Common.{◌∙◌, ap, sym, Some, None, index_of, with_man, words_men}
 use Rattle.chess.proofs.BitFacts.{put_none, put_some, put_apart, put_men}
 
 pub returns-in_default-clause-apart : goal.returns-in_default-clause-apart

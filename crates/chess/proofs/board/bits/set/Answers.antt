@@ -1,5 +1,4 @@
-use Rattle.chess.proofs.Common.{ℕ, ◌^◌, slice_set, bit_or, index_of, IsBitSet}
-use Rattle.chess.proofs.Common.{bitboard_at, row_of}
+use Rattle.chess.proofs.Common.{index_of}
 use Rattle.chess.proofs.BitFacts.{set_one}
 use Rattle.chess.proofs.board.bits.set.Goals as goal
 

@@ -1,5 +1,4 @@
-use Rattle.chess.proofs.Common.{ℕ, ◌^◌, slice_set, bit_or, bit_xor, index_of, IsSlid}
-use Rattle.chess.proofs.Common.{bitboard_at, row_of}
+use Rattle.chess.proofs.Common.{index_of}
 use Rattle.chess.proofs.board.SlideFacts.{slide_one}
 use Rattle.chess.proofs.board.bits.slide.Goals as goal
 

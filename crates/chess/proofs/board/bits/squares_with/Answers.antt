@@ -1,4 +1,3 @@
-use Rattle.chess.proofs.Common.{ℕ, IsBitboardOf, IsMan, words_men, bitboard_at}
 use Rattle.chess.proofs.BitFacts.{bitboard_of_man}
 use Rattle.chess.proofs.board.bits.squares_with.Goals as goal
 

@@ -1,4 +1,3 @@
-use Rattle.chess.proofs.Common.{bit_or, Reaches, IsBitboardOf, Kind}
 use Rattle.chess.proofs.board.FillFacts.{queen_joined}
 use Rattle.chess.proofs.board.step_attacks.attacks_from.Goals as goal
 

@@ -1,6 +1,6 @@
-use Rattle.chess.proofs.Common.{refl, rules, slice_set, Option, Place, IsTakenFirst}
+use Rattle.chess.proofs.Common.{refl, rules}
 use Rattle.chess.proofs.LoopFacts.{fewer}
-use Rattle.chess.proofs.MarkFacts.{IsMarked, marked_more, marked_all}
+use Rattle.chess.proofs.MarkFacts.{marked_more, marked_all}
 use Rattle.chess.proofs.fen.write.mark.Goals as goal
 
 pub loop-square-init : goal.loop-square-init

@@ -1,6 +1,6 @@
-use Rattle.chess.proofs.Common.{◌≡◌, ap, sym, subst, refl, Option, None, Some, Ok, Err, Place}
-use Rattle.chess.proofs.Common.{IsPseudoLegal, IsLegal, IsTakenFirst, HasRival, kind_said, said_by}
-use Rattle.chess.proofs.Common.{move_from, IsMoveSaid, Pawn, Move}
+use Rattle.chess.proofs.Common.{◌≡◌, ap, sym, subst, refl, None, Some, Ok, Err}
+use Rattle.chess.proofs.Common.{IsPseudoLegal, IsLegal, HasRival, kind_said, said_by}
+use Rattle.chess.proofs.Common.{move_from, Pawn, Move}
 use Rattle.chess.specs.declared.move_text.SanError.TheVariants.{None as NoMove}
 use Rattle.chess.proofs.PlaceFacts.{true_not_false}
 use Rattle.chess.proofs.LoopFacts.{taken_none}

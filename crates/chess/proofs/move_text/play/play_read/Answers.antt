@@ -1,5 +1,4 @@
-use Rattle.chess.proofs.Common.{ap, refl, option_map, Option, None, said_by, IsReadSaid}
-use Rattle.chess.proofs.Common.{ParsedSan}
+use Rattle.chess.proofs.Common.{ap, refl, option_map, None, said_by}
 use Rattle.chess.proofs.CastlingTextFacts.{no_castling}
 use Rattle.chess.proofs.NamedFacts.{named_none, said_answer}
 use Rattle.chess.proofs.move_text.play.play_read.Goals as goal

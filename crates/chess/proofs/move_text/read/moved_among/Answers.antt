@@ -1,4 +1,4 @@
-use Rattle.chess.proofs.Common.{◌≡◌, said_by, IsMoveSaid, Move}
+use Rattle.chess.proofs.Common.{said_by}
 use Rattle.chess.proofs.NamedFacts.{said_only, said_none, said_several, none_given, some_given}
 use Rattle.chess.proofs.move_text.read.moved_among.Goals as goal
 

@@ -1,5 +1,5 @@
-use Rattle.chess.proofs.Common.{◌≡◌, sym, subst, Option, Place, IsPseudoLegal, IsLegal}
-use Rattle.chess.proofs.Common.{IsTakenFirst, said_by, IsMoveSaid, Move}
+use Rattle.chess.proofs.Common.{sym, subst, IsPseudoLegal, IsLegal}
+use Rattle.chess.proofs.Common.{said_by}
 use Rattle.chess.proofs.PlaceFacts.{true_not_false}
 use Rattle.chess.proofs.LoopFacts.{taken_none}
 use Rattle.chess.proofs.move_text.CandidateFacts.{none_said, not_said, the_said}

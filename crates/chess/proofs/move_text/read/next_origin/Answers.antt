@@ -1,4 +1,4 @@
-use Rattle.chess.proofs.Common.{◌≡◌, sym, subst, true, Option, Place, IsLegal, is_in, IsTakenFirst}
+use Rattle.chess.proofs.Common.{◌≡◌, sym, subst, true, IsLegal, is_in}
 use Rattle.chess.proofs.Common.{CanGoSaid, said_by}
 use Rattle.chess.proofs.PlaceFacts.{true_not_false}
 use Rattle.chess.proofs.LoopFacts.{fewer, left_start, left_more, left_none}

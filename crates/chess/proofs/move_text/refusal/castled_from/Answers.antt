@@ -1,6 +1,5 @@
-use Rattle.std.specs.Prelude.{Some}
-use Rattle.chess.proofs.Common.{ap, sym, subst, ◌∙◌, king_from, IsLegal, castling_on, IsCastlingOn}
-use Rattle.chess.proofs.Common.{IsFrom, Move}
+use Rattle.chess.proofs.Common.{ap, sym, subst, ◌∙◌, king_from, IsLegal, castling_on}
+use Rattle.chess.proofs.Common.{Move}
 use Rattle.chess.proofs.NamedFacts.{castling_only}
 use Rattle.chess.proofs.PlaceFacts.{true_not_false}
 use Rattle.chess.proofs.move_text.RefusalFacts.{castled_here}

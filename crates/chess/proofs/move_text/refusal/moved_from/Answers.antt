@@ -1,6 +1,5 @@
-use Rattle.std.specs.Prelude.{Some}
-use Rattle.chess.proofs.Common.{◌≡◌, true, ◌∙◌, sym, subst, IsLegal, said_by, CanGoSaid, IsMoveSaid}
-use Rattle.chess.proofs.Common.{is_in, IsFrom, Move}
+use Rattle.chess.proofs.Common.{◌≡◌, true, ◌∙◌, sym, subst, IsLegal, said_by, CanGoSaid}
+use Rattle.chess.proofs.Common.{is_in}
 use Rattle.chess.proofs.NamedFacts.{said_candidate, said_legal, said_on}
 use Rattle.chess.proofs.PlaceFacts.{true_not_false}
 use Rattle.chess.proofs.move_text.RefusalFacts.{said_here}

@@ -1,4 +1,4 @@
-use Rattle.chess.proofs.Common.{Option, Place, IsTakenFirst, IsRival}
+use Rattle.chess.proofs.Common.{IsRival}
 use Rattle.chess.proofs.LoopFacts.{fewer, sifted_none}
 use Rattle.chess.proofs.move_text.SanTextFacts.{rivals_start, rivals_more}
 use Rattle.chess.proofs.move_text.write.rivals.Goals as goal

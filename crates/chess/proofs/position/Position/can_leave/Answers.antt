@@ -1,4 +1,4 @@
-use Rattle.chess.proofs.Common.{◌≡◌, true, false, Option, Place, IsTakenFirst, CanGo}
+use Rattle.chess.proofs.Common.{◌≡◌, true, false, CanGo}
 use Rattle.chess.proofs.PlaceFacts.{true_not_false}
 use Rattle.chess.proofs.LoopFacts.{fewer, left_more, left_none}
 use Rattle.chess.proofs.position.Position.can_leave.Goals as goal

@@ -1,4 +1,4 @@
-use Rattle.chess.proofs.Common.{◌≡◌, ap, State, IsOnlyKing, men_after}
+use Rattle.chess.proofs.Common.{◌≡◌, ap, State}
 use Rattle.chess.proofs.position.CheckFacts.{check_after}
 use Rattle.chess.proofs.position.Position.exposes_king.Goals as goal
 

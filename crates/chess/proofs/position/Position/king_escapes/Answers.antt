@@ -1,4 +1,4 @@
-use Rattle.chess.proofs.Common.{Option, None, Place, IsNear, IsOnlyKing, IsTakenFirst, Side}
+use Rattle.chess.proofs.Common.{None, IsNear}
 use Rattle.chess.proofs.LoopFacts.{fewer, left_start, left_more}
 use Rattle.chess.proofs.position.Position.king_escapes.Goals as goal
 

@@ -1,4 +1,3 @@
-use Rattle.chess.proofs.Common.{Option, Place, IsSquareAhead}
 use Rattle.chess.proofs.WayFacts.{no_goal}
 use Rattle.chess.proofs.position.Position.pawn_candidates.Goals as goal
 

@@ -1,5 +1,5 @@
-use Rattle.chess.proofs.Common.{◌≡◌, Option, Some, None, Place, man_at, Promotes, IsMover}
-use Rattle.chess.proofs.Common.{IsTakenFirst, Side, Pawn}
+use Rattle.chess.proofs.Common.{None, IsMover}
+use Rattle.chess.proofs.Common.{Pawn}
 use Rattle.chess.proofs.LoopFacts.{fewer, left_start, left_more}
 use Rattle.chess.proofs.position.Position.pawn_steps.Goals as goal
 

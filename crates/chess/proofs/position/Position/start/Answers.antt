@@ -1,5 +1,5 @@
-use Rattle.chess.proofs.Common.{sym, subst, Place, Placement, State, IsSound, king_from, IsKept}
-use Rattle.chess.proofs.Common.{initial, White}
+use Rattle.chess.proofs.Common.{sym, subst, Placement, State, IsSound}
+use Rattle.chess.proofs.Common.{initial}
 use Rattle.chess.proofs.StartFacts.{initial_kept}
 use Rattle.chess.proofs.position.Position.start.Goals as goal
 

@@ -1,4 +1,4 @@
-use Rattle.chess.proofs.Common.{Option, Place, IsTakenFirst, CanGo}
+use Rattle.chess.proofs.Common.{CanGo}
 use Rattle.chess.proofs.LoopFacts.{fewer, sifted_start, sifted_more, sifted_none}
 use Rattle.chess.proofs.position.Position.targets.Goals as goal
 

@@ -1,6 +1,6 @@
-use Rattle.chess.proofs.Common.{◌<◌, ◌^◌, ◌↔◌, ℕ, w64, bit_or, bit_and, IsTrue, bit_not}
-use Rattle.chess.proofs.Common.{or_lt, IsAttacked, on_board-men_of, IsEmpty, IsBitboardOf, AreLeft}
-use Rattle.chess.proofs.Common.{words_men, man_in, Side}
+use Rattle.chess.proofs.Common.{◌<◌, ◌^◌, w64, bit_or, bit_not}
+use Rattle.chess.proofs.Common.{or_lt, on_board-men_of}
+use Rattle.chess.proofs.Common.{words_men, man_in}
 use Rattle.chess.proofs.board.LeftFacts.{moved_so, IsGone, gone_bitboard, rest_bitboard, left_then}
 use Rattle.chess.proofs.board.LeftFacts.{men_then}
 use Rattle.chess.proofs.board.bits.BitsBoard.attacked_after.Goals as goal

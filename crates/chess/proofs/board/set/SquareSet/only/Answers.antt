@@ -1,5 +1,5 @@
-use Rattle.chess.proofs.Common.{ap, sym, ◌∙◌, Option, Some, Place, Places, is_in, has_bit}
-use Rattle.chess.proofs.Common.{places_of, IsTakenFirst, on_board-places_of}
+use Rattle.chess.proofs.Common.{ap, sym, ◌∙◌, is_in, has_bit}
+use Rattle.chess.proofs.Common.{on_board-places_of}
 use Rattle.chess.proofs.LoopFacts.{only_first, not_only, none_only}
 use Rattle.chess.proofs.PlaceFacts.{true_not_false}
 use Rattle.chess.proofs.board.set.SquareSet.only.Goals as goal

@@ -1,4 +1,4 @@
-use Rattle.chess.proofs.Common.{◌≡◌, ℕ, List, [], ◌∷◌, MatchOption, subst, arith, Placement}
+use Rattle.chess.proofs.Common.{◌≡◌, ℕ, List, ◌∷◌, subst, arith, Placement}
 use Rattle.chess.proofs.Common.{parted_at, SpellRanks, run_of, after_run}
 use Rattle.chess.proofs.FieldFacts.{parted_by_run, parted_after}
 use Rattle.chess.proofs.fen.read.ranks.+put_ranks.Goals as goal

@@ -1,4 +1,3 @@
-use Rattle.chess.proofs.Common.{Option, Place, IsTakenFirst}
 use Rattle.chess.proofs.FenFacts.{no_king, one_king}
 use Rattle.chess.proofs.fen.read.validate.only_king.Goals as goal
 

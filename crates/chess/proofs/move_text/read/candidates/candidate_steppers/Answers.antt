@@ -1,4 +1,4 @@
-use Rattle.chess.proofs.Common.{Promotes, said_by, IsCandidate}
+use Rattle.chess.proofs.Common.{said_by, IsCandidate}
 use Rattle.chess.proofs.PlaceFacts.{true_not_false}
 use Rattle.chess.proofs.move_text.CandidateFacts.{candidate_steppers, pawn_goes, none_hold}
 use Rattle.chess.proofs.move_text.read.candidates.candidate_steppers.Goals as goal
