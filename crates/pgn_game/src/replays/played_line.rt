@@ -9,10 +9,10 @@ ghost use Rattle.pgn_game.specs.declared.replays.replayer.Lines.TheVariants.{Mai
 
 use crate::replays::main_line::{MainWalk, next_word};
 use crate::turns::fault::GameFault;
+use crate::turns::naming::play_named_san;
 use crate::turns::replayed::GamePosition;
-use crate::turns::saying::named;
 use crate::turns::starting::starting_position;
-use chess::san;
+use arrayvec::ArrayString;
 use pgn_text::{Element, RawGame};
 use std::alloc::Global;
 use std::marker::Model;
@@ -114,8 +114,10 @@ impl<'g, 'a> MainLine<'g, 'a> {
             out.extend_from_slice(b"-")?;
             return Ok(());
         };
-        let m = named(&self.walk.position, word, self.walk.plies + 1)?;
-        out.extend_from_slice(san(&self.walk.position, m).as_bytes())?;
+        let mut next = self.walk.position.copy();
+        let mut text = ArrayString::new();
+        play_named_san(&mut next, word, self.walk.plies + 1, &mut text)?;
+        out.extend_from_slice(text.as_bytes())?;
         Ok(())
     }
 }
