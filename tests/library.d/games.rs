@@ -2,6 +2,7 @@
 
 mod memory;
 mod openings;
+mod records;
 mod refusals;
 mod replays;
 mod rows;

@@ -5,7 +5,7 @@ use Rattle.pgn_game.proofs.Common.{Bor, length-map, tag_of}
 use Rattle.pgn_game.proofs.Common.{◌≡◌, ℕ, ◌+◌, ◌*◌, ◌%◌, ◌<◌, ◌≤◌, List, ◌++◌, length, refl, sym}
 use Rattle.pgn_game.proofs.Common.{ap, ◌∙◌}
 use Rattle.pgn_game.proofs.Common.{append_assoc, arith, flat_map, w32, w64, to_be_bytes, slice_cmp}
-use Rattle.pgn_game.proofs.Common.{IsStrictlySortedBy, nat_cmp, tag_names, code_bytes, PackedGame}
+use Rattle.pgn_game.proofs.Common.{IsStrictlySortedBy, nat_cmp, tag_names, PackedGame}
 use Rattle.pgn_game.proofs.Common.{Tag, FitsRecord, name_bytes, name_size, tag_bytes, tags_size}
 use Rattle.pgn_game.proofs.Common.{body_bytes, record_bytes, head_of, largest_body, RawRecord}
 use Rattle.pgn_game.proofs.Common.{raw_of, named_number, result_number, marks_number}

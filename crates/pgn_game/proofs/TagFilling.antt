@@ -1,5 +1,5 @@
 -- The tags of a record are put into a game, one after another.
-use Rattle.std.proofs.Common.{◌≡◌, ℕ, zero, suc, ◌+◌, ◌/◌, ◌%◌, ◌<◌, Bool, true, false}
+use Rattle.std.proofs.Common.{◌≡◌, ℕ, zero, suc, ◌+◌, ◌/◌, ◌%◌, ◌<◌, true, false}
 use Rattle.std.proofs.Common.{if◌then◌else◌}
 use Rattle.std.proofs.Common.{List, [], ◌∷◌, ◌++◌, length, drop, Option, Some, None, Ok, Err, refl}
 use Rattle.std.proofs.Common.{sym}
@@ -11,9 +11,9 @@ use Rattle.pgn_game.proofs.Common.{bytes_eq, bytes_eq-Decides, flat_map, flat_ma
 use Rattle.pgn_game.proofs.Common.{RecordError, code_bytes, PackedGame, Tag, FitsRecord}
 use Rattle.pgn_game.proofs.Common.{tag_bytes, RawRecord, raw_of, tag_at}
 use Rattle.pgn_text.specs.Public.Bytes.{is_name_byte}
-use Rattle.pgn_text.specs.Public.GameTexts.{GameText, HaveNames, HoldStrings, IsRetagged}
+use Rattle.pgn_text.specs.Public.GameTexts.{GameText, IsRetagged}
 use Rattle.pgn_text.specs.Public.Strings.{IsContents}
-use Rattle.pgn_game.specs.Private.RecordHeads.{HasFilled, HaveFilled, HasHead, IsHeadOf}
+use Rattle.pgn_game.specs.Private.RecordHeads.{HasFilled, HaveFilled, IsHeadOf}
 use Rattle.pgn_game.specs.Public.PackedGames.{numbered_result}
 use Rattle.pgn_game.proofs.HeadFacts.{head_shows}
 use Rattle.pgn_game.proofs.RecordFields.{ok_is}

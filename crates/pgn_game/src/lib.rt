@@ -23,6 +23,7 @@ pub use exports::notation::Notation;
 pub use exports::style::{Commands, Style, lines_with};
 pub use exports::tag_lines::push_contents;
 pub use openings::{Classified, FollowedLine, Opening, OpeningLine, Openings};
+pub use replays::main_line::count_main_moves;
 pub use replays::played_line::MainLine;
 pub use replays::replayer::{
     Lines, check_lines, check_variations, count_plies, replay, replay_beginning,

@@ -2,11 +2,12 @@
 
 use crate::exports::exporter::export;
 use crate::exports::style::Style;
+use crate::pack::{GameOrigin, put_record};
 use crate::replays::replayer::{Lines, replay};
 use crate::turns::fault::GameFault;
 use crate::turns::line_move::LineMove;
 use crate::turns::replayed::Replayed;
-use pgn_text::{Piece, games};
+use pgn_text::{Piece, RawGame, games};
 use std::alloc::{AllocError, Global};
 
 /// The exports of the games of a block that can be replayed.
@@ -31,4 +32,18 @@ pub fn turn_after(replayed: &Replayed, count: usize) -> Option<LineMove> {
     } else {
         None
     }
+}
+
+/// The record of the game that comes from there, made of a replay of these lines; or the fault of
+/// the lines.
+pub fn record_of<'a>(
+    alloc: Global,
+    origin: &GameOrigin,
+    game: &RawGame<'a>,
+    lines: Lines,
+) -> Result<Vec<u8>, GameFault<'a>> {
+    let replayed = replay(alloc, game, lines)?;
+    let mut out = Vec::new(alloc);
+    put_record(origin, game, &replayed, &mut out)?;
+    Ok(out)
 }

@@ -1,5 +1,6 @@
 //! What the rows of each table say. In a text `\n` is a line feed, `\\` a backslash.
 use crate::games::openings::has_opening;
+use crate::games::records::has_record;
 use crate::games::refusals::{is_refused, names, tag_stands};
 use crate::games::replays::{
     count_has_fault, has_beginning, has_fault, has_lines, has_plies, variations_end_so,
@@ -18,6 +19,7 @@ pub enum Says {
     Fault,
     FirstFault,
     Turns,
+    Packed,
     Refused,
     TagStands,
     Names,
@@ -56,6 +58,7 @@ fn holds(alloc: Global, says: &Says, block: &[u8], columns: [&str; 5]) -> Option
         ),
         Says::FirstFault => Some(has_fault(alloc, &game, Lines::All, columns)),
         Says::Turns => has_lines(alloc, &game, columns),
+        Says::Packed => has_record(alloc, &game, columns),
         Says::Refused => is_refused(alloc, block, &game, columns),
         Says::TagStands => tag_stands(block, &game, columns),
         Says::Names | Says::Opened => None,

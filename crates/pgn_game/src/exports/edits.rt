@@ -8,12 +8,12 @@ ghost use Rattle.pgn_game.specs.Public.Edits.{IsEditedExport, IsTagged, all_edit
 ghost use Rattle.pgn_game.specs.Public.Edits.{first_plies};
 ghost use Rattle.pgn_game.specs.Public.Exports.{IsOrderedExport, lines_with};
 ghost use Rattle.pgn_game.specs.Public.Faults.{IsFault};
-ghost use Rattle.pgn_game.specs.Public.MainLines.{main_words};
 ghost use Rattle.pgn_game.specs.Public.Replays.{IsSoundGame, fault_of};
 ghost use Rattle.pgn_game.specs.Public.Starts.{fen_tag};
 
 use crate::exports::exporter::{play_movetext, put_parts_or_leave};
 use crate::exports::style::{Style, lines_with};
+use crate::replays::main_line::count_main_moves;
 use crate::replays::replayer::check_lines;
 use crate::turns::fault::GameFault;
 use itoa::Buffer;
@@ -146,23 +146,6 @@ impl TagEdits {
         let plies = buffer.format(count_main_moves(game.elements()));
         head.retagged(b"PlyCount", Some(plies.as_bytes()))
     }
-}
-
-/// How many moves stand in no variation.
-fn count_main_moves(elements: &[Element<'_>]) -> usize
-    ensures { result ≡ length (main_words (map item_of elements.now) 0) }
-{
-    let mut plies = 0;
-    let mut depth = 0usize;
-    for element in elements {
-        match *element {
-            Element::Move(_) if depth == 0 => plies += 1,
-            Element::Open => depth += 1,
-            Element::Close => depth = depth.saturating_sub(1),
-            _ => {}
-        }
-    }
-    plies
 }
 
 /// How many elements stand in front of the move of the main line that has so many before it; all,

@@ -1,5 +1,5 @@
 //! A ply in three bytes.
-ghost use Rattle.std.specs.Prelude.{◌≡◌, ◌<◌, Some, List, ℕ};
+ghost use Rattle.std.specs.Prelude.{◌≡◌, ◌<◌, IsTrue, Some, List, ℕ};
 ghost use Rattle.chess.specs.Public.Squares.{index_of};
 ghost use Rattle.chess.specs.Public.Moves.{after, arriving, is_pawn, is_en_passant, capture_square};
 ghost use Rattle.chess.specs.Public.Moves.{HasMove, IsPseudoLegal};
@@ -18,24 +18,14 @@ pub(crate) struct Marks {
 }
 
 impl Marks {
-    /// The marks of the position.
-    pub(crate) fn of(position: &GamePosition) -> Self
-        ensures { AreMarks position.now result.check result.stuck }
+    /// The marks of the position. Where a move is known to follow, no legal move is looked for.
+    pub(crate) fn of(position: &GamePosition, goes_on: bool) -> Self
+        ensures { (IsTrue goes_on → HasMove position.now)
+            → AreMarks position.now result.check result.stuck }
     {
         Marks {
             check: position.in_check(),
-            stuck: !position.has_move(),
-        }
-    }
-
-    /// The marks of a position in which there is a legal move, which is not looked for.
-    pub(crate) fn of_movable(position: &GamePosition) -> Self
-        requires { HasMove position.now }
-        ensures { AreMarks position.now result.check result.stuck }
-    {
-        Marks {
-            check: position.in_check(),
-            stuck: false,
+            stuck: !goes_on && !position.has_move(),
         }
     }
 
@@ -124,11 +114,7 @@ fn is_en_passant(position: &GamePosition, m: &Move) -> bool
     requires { IsPseudoLegal position.now m.now }
     ensures { result ≡ is_en_passant position.now m.now }
 {
-    position.invariant();
-    if m.from.file() == m.to.file() {
-        return false;
-    }
-    if position.at(m.to).is_some() {
+    if m.from.file() == m.to.file() || position.en_passant() != Some(m.to) {
         return false;
     }
     is_pawn(position.at(m.from))
@@ -145,11 +131,13 @@ fn capture_square(position: &GamePosition, m: &Move) -> Square
     m.to
 }
 
-/// The three bytes of a move, with the marks of the position after it.
+/// The three bytes of a move, with these marks of the position after it.
 pub(crate) fn coded_move(position: &GamePosition, m: &Move, marks: Marks) -> [u8; 3]
-    requires legal { IsPseudoLegal position.now m.now }
-    requires marks { AreMarks (after position.now m.now) marks.check marks.stuck }
-    ensures { (c : PlyCode) × IsCode position.now m.now c × (result ≡ code_bytes c) }
+    requires { IsPseudoLegal position.now m.now }
+    ensures { (c : PlyCode)
+        × (AreMarks (after position.now m.now) marks.check marks.stuck
+        → IsCode position.now m.now c)
+        × (result ≡ code_bytes c) }
 {
     let man = man_number(arriving_man(position, m), m.castle);
     [

@@ -10,9 +10,11 @@ ghost use Rattle.pgn_game.specs.declared.replays.replayer.Lines.TheVariants.{Mai
 
 use crate::pack::error::PackError;
 use crate::pack::origin::GameOrigin;
-use crate::pack::writing::put_record;
-use crate::replays::replayer::{Lines, replay};
+use crate::pack::ply::{Marks, coded_move};
+use crate::pack::writing::put_fields;
+use crate::replays::main_line::{MainWalk, count_main_moves};
 use crate::turns::fault::GameFault;
+use crate::turns::starting::starting_position;
 use pgn_text::RawGame;
 use std::alloc::Global;
 
@@ -22,6 +24,37 @@ impl<'a> From<PackError> for GameFault<'a> {
     fn from(_: PackError) -> Self {
         GameFault::OutOfMemory
     }
+}
+
+/// Appends the record of the game while its main line is played: no position is kept but two. Where
+/// the line is faulty, memory is refused or the record would be too large, some bytes of it are
+/// appended.
+fn put_played<'a>(
+    alloc: Global,
+    origin: &GameOrigin,
+    game: &RawGame<'a>,
+    out: &mut Vec<u8>,
+) -> Result<(), GameFault<'a>>
+    ensures record { OnOk result ((bytes : List ℕ)
+        × (own : IsRecordOf (name_of origin.now) origin.now.number origin.now.offset game.now bytes)
+        × FitsRecord own.packed × (out.new.items ≡ out.old.items ++ bytes)) }
+    ensures fault { IfErr result (λ fault.
+        IfSome (fault_of fault) (IsFault Main (tag_in fen_tag game.now.tags) game.now.elements)) }
+    ensures kept { (some : List ℕ) × (out.new.items ≡ out.old.items ++ some) }
+{
+    let start = starting_position(alloc, game.tags())?;
+    let elements = game.elements();
+    let count = count_main_moves(elements);
+    put_fields(origin, game, count, Marks::of(&start, count > 0), out)?;
+    let mut walk = MainWalk::new(start);
+    for element in elements {
+        let before = walk.position.copy();
+        if let Some(m) = walk.step(*element)? {
+            let marks = Marks::of(&walk.position, walk.plies < count);
+            out.extend_from_slice(&coded_move(&before, &m, marks))?;
+        }
+    }
+    Ok(())
 }
 
 /// Plays the main line of the game, and appends the record of the game, which comes from there; or
@@ -41,7 +74,10 @@ pub fn push_record<'a>(
         IfSome (fault_of fault) (IsFault Main (tag_in fen_tag game.now.tags) game.now.elements)) }
     ensures left { OnErr result (out.new.items ≡ out.old.items) }
 {
-    let replayed = replay(alloc, game, Lines::Main)?;
-    put_record(origin, game, &replayed, out)?;
-    Ok(())
+    let length = out.len();
+    let put = put_played(alloc, origin, game, out);
+    if put.is_err() {
+        out.truncate(length);
+    }
+    put
 }

@@ -14,8 +14,7 @@ ghost use Rattle.pgn_game.specs.Public.PackedGames.{name_bytes, tag_bytes, tags_
 ghost use Rattle.pgn_game.specs.Public.PackedGames.{record_bytes, largest_body, name_size};
 ghost use Rattle.pgn_game.specs.Public.PackedGames.{named_number, result_number, name_of};
 ghost use Rattle.pgn_game.specs.Public.PackedGames.{is_origin};
-ghost use Rattle.pgn_game.specs.Private.PackWords.{IsLinePlayed, AreMarksAfter, PutsFront};
-ghost use Rattle.pgn_game.specs.Private.PackWords.{PutsHead, PutsPly, PutsPlies};
+ghost use Rattle.pgn_game.specs.Private.PackWords.{IsLinePlayed, PutsFront, PutsHead, PutsFields};
 
 use crate::pack::error::PackError;
 use crate::pack::origin::{GameOrigin, is_origin};
@@ -76,17 +75,15 @@ fn result_number(token: &[u8]) -> u32
     }
 }
 
-/// How many bytes stand in the record of the game after its size; the largest number, where it is
-/// more.
-fn body_size(origin: &GameOrigin, game: &RawGame, replayed: &Replayed) -> usize
-    ensures { result
-        ≡ min (body_size (name_of origin.now) game.now.tags
-        (length replayed.now.played)) usize.MAX }
+/// How many bytes stand in the record of the game with so many plies after its size; the largest
+/// number, where it is more.
+fn body_size(origin: &GameOrigin, game: &RawGame, plies: usize) -> usize
+    ensures { result ≡ min (body_size (name_of origin.now) game.now.tags plies) usize.MAX }
 {
     tags_size(game)
         .saturating_add(20)
         .saturating_add(name_size(origin.name))
-        .saturating_add(replayed.plies().saturating_mul(3))
+        .saturating_add(plies.saturating_mul(3))
 }
 
 /// How many bytes stand after the size in the record with the tags of the head; the largest number,
@@ -101,27 +98,23 @@ fn headed_size(raw: &RawRecord<'_>, head: &RawGame) -> usize
         .saturating_add(raw.plies().len())
 }
 
-/// Appends the size of the record of the game.
+/// Appends the size of the record of the game with so many plies.
 fn put_size(
     origin: &GameOrigin,
     game: &RawGame,
-    replayed: &Replayed,
+    plies: usize,
     out: &mut Vec<u8>,
 ) -> Result<(), PackError>
     ensures size { OnOk result (out.new.items
-        ≡ out.old.items
-        ++ to_be_bytes w32
-        (body_size (name_of origin.now) game.now.tags (length replayed.now.played))) }
+        ≡ out.old.items ++ to_be_bytes w32 (body_size (name_of origin.now) game.now.tags plies)) }
     ensures within { OnOk result
-        (body_size (name_of origin.now) game.now.tags (length replayed.now.played)
-        ≤ largest_body) }
+        (body_size (name_of origin.now) game.now.tags plies ≤ largest_body) }
     ensures large { IsErrOf result PackError.TooLarge
-        ↔ (largest_body
-        < body_size (name_of origin.now) game.now.tags (length replayed.now.played)) }
+        ↔ (largest_body < body_size (name_of origin.now) game.now.tags plies) }
     ensures origin { IsErrOf result PackError.NoOrigin → ⊥ }
     ensures kept { (some : List ℕ) × (out.new.items ≡ out.old.items ++ some) }
 {
-    let size = body_size(origin, game, replayed);
+    let size = body_size(origin, game, plies);
     if size > LARGEST_BODY {
         return Err(PackError::TooLarge);
     }
@@ -129,31 +122,28 @@ fn put_size(
     Ok(())
 }
 
-/// Appends the size of the record, and the number and the offset of the game. Answers an error
-/// where no run gives a game such a number, offset or file name.
+/// Appends the size of the record with so many plies, and the number and the offset of the game.
+/// Answers an error where no run gives a game such a number, offset or file name.
 fn put_front(
     origin: &GameOrigin,
     game: &RawGame,
-    replayed: &Replayed,
+    plies: usize,
     out: &mut Vec<u8>,
 ) -> Result<(), PackError>
     ensures front { OnOk result
         (PutsFront origin.now.number origin.now.offset
-        (body_size (name_of origin.now) game.now.tags (length replayed.now.played)) out.old.items
-        out.new.items) }
+        (body_size (name_of origin.now) game.now.tags plies) out.old.items out.new.items) }
     ensures placed { OnOk result ((origin.now.number < 2 ^ 64) × (origin.now.offset < 2 ^ 64)
         × (is_origin origin.now.number origin.now.offset (name_of origin.now) ≡ true)) }
     ensures origin { IsErrOf result PackError.NoOrigin
         → is_origin origin.now.number origin.now.offset (name_of origin.now) ≡ false }
     ensures within { OnOk result
-        (body_size (name_of origin.now) game.now.tags (length replayed.now.played)
-        ≤ largest_body) }
+        (body_size (name_of origin.now) game.now.tags plies ≤ largest_body) }
     ensures large { IsErrOf result PackError.TooLarge
-        ↔ (largest_body
-        < body_size (name_of origin.now) game.now.tags (length replayed.now.played)) }
+        ↔ (largest_body < body_size (name_of origin.now) game.now.tags plies) }
     ensures kept { (some : List ℕ) × (out.new.items ≡ out.old.items ++ some) }
 {
-    put_size(origin, game, replayed, out)?;
+    put_size(origin, game, plies, out)?;
     if !is_origin(origin.number, origin.offset, origin.name) {
         return Err(PackError::NoOrigin);
     }
@@ -162,36 +152,20 @@ fn put_front(
     Ok(())
 }
 
-/// The marks of the position after so many plies. Where another ply follows, no legal move is
-/// looked for.
-fn marks_after(replayed: &Replayed, plies: usize) -> Marks
-    requires within { plies ≤ length replayed.now.played }
-    requires line { IsLinePlayed replayed.now }
-    ensures { AreMarksAfter replayed.now plies result.check result.stuck }
-{
-    let position = replayed.position(plies);
-    if plies < replayed.plies() {
-        return Marks::of_movable(position);
-    }
-    Marks::of(position)
-}
-
-/// Appends the head of the record of the game.
+/// Appends the head of the record of the game, of which the start has these marks.
 fn put_head(
     origin: &GameOrigin,
     game: &RawGame,
-    replayed: &Replayed,
+    marks: Marks,
     out: &mut Vec<u8>,
 ) -> Result<(), AllocError>
-    requires count { length game.now.tags < 2 ^ 27 }
-    requires line { IsLinePlayed replayed.now }
+    requires { length game.now.tags < 2 ^ 27 }
     ensures head { OnOk result
-        (PutsHead (name_of origin.now) game.now.tags game.now.result replayed.now out.old.items
-        out.new.items) }
+        (PutsHead (name_of origin.now) game.now.tags game.now.result marks.check marks.stuck
+        out.old.items out.new.items) }
     ensures kept { (some : List ℕ) × (out.new.items ≡ out.old.items ++ some) }
 {
     let count = game.tags().len() as u32;
-    let marks = marks_after(replayed, 0);
     let named = named_number(origin.name);
     let low = 4 * result_number(game.result()) + u32::from(marks.number());
     let head = 32 * count + 16 * named + low;
@@ -236,35 +210,36 @@ fn put_tags(game: &RawGame, out: &mut Vec<u8>) -> Result<(), AllocError>
     Ok(())
 }
 
-/// Appends the code of the move that so many plies go before.
-fn put_ply(replayed: &Replayed, plies: usize, out: &mut Vec<u8>) -> Result<(), AllocError>
-    requires within { plies < length replayed.now.played }
-    requires below { plies < usize.MAX }
-    requires line { IsLinePlayed replayed.now }
-    ensures code { OnOk result (PutsPly replayed.now plies out.old.items out.new.items) }
+/// Appends what stands in the record of the game in front of its plies. They are so many, and its
+/// start has these marks. Where the record would be too large or memory is refused, some bytes of
+/// it are appended.
+pub(crate) fn put_fields(
+    origin: &GameOrigin,
+    game: &RawGame,
+    plies: usize,
+    marks: Marks,
+    out: &mut Vec<u8>,
+) -> Result<(), PackError>
+    ensures fields { OnOk result
+        (PutsFields origin.now game.now plies marks.check marks.stuck out.old.items
+        out.new.items) }
+    ensures large { IsErrOf result PackError.TooLarge
+        ↔ (largest_body < body_size (name_of origin.now) game.now.tags plies) }
+    ensures origin { IsErrOf result PackError.NoOrigin
+        → is_origin origin.now.number origin.now.offset (name_of origin.now) ≡ false }
     ensures kept { (some : List ℕ) × (out.new.items ≡ out.old.items ++ some) }
 {
-    let m = replayed.played(plies);
-    let marks = marks_after(replayed, plies + 1);
-    out.extend_from_slice(&coded_move(replayed.position(plies), &m, marks))?;
-    Ok(())
-}
-
-/// Appends the codes of all plies.
-fn put_plies(replayed: &Replayed, out: &mut Vec<u8>) -> Result<(), AllocError>
-    requires { IsLinePlayed replayed.now }
-    ensures codes { OnOk result (PutsPlies replayed.now out.old.items out.new.items) }
-    ensures kept { (some : List ℕ) × (out.new.items ≡ out.old.items ++ some) }
-{
-    for plies in 0..replayed.plies() {
-        put_ply(replayed, plies, out)?;
-    }
+    game.invariant();
+    put_front(origin, game, plies, out)?;
+    put_head(origin, game, marks, out)?;
+    put_name(origin.name, out)?;
+    put_tags(game, out)?;
     Ok(())
 }
 
 /// Appends the record of the game; where it would be too large or memory is refused, some bytes of
 /// it.
-fn put_fields(
+fn put_replayed(
     origin: &GameOrigin,
     game: &RawGame,
     replayed: &Replayed,
@@ -281,12 +256,14 @@ fn put_fields(
         → is_origin origin.now.number origin.now.offset (name_of origin.now) ≡ false }
     ensures kept { (some : List ℕ) × (out.new.items ≡ out.old.items ++ some) }
 {
-    game.invariant();
-    put_front(origin, game, replayed, out)?;
-    put_head(origin, game, replayed, out)?;
-    put_name(origin.name, out)?;
-    put_tags(game, out)?;
-    put_plies(replayed, out)?;
+    let count = replayed.plies();
+    let marks = Marks::of(replayed.position(0), count > 0);
+    put_fields(origin, game, count, marks, out)?;
+    for plies in 0..count {
+        let m = replayed.played(plies);
+        let marks = Marks::of(replayed.position(plies + 1), plies + 1 < count);
+        out.extend_from_slice(&coded_move(replayed.position(plies), &m, marks))?;
+    }
     Ok(())
 }
 
@@ -312,7 +289,7 @@ pub fn put_record(
     ensures left { OnErr result (out.new.items ≡ out.old.items) }
 {
     let length = out.len();
-    let put = put_fields(origin, game, replayed, out);
+    let put = put_replayed(origin, game, replayed, out);
     if put.is_err() {
         out.truncate(length);
     }

@@ -85,6 +85,20 @@ pub(crate) fn next_word<'a>(elements: &[Element<'a>], outer: usize) -> Option<&'
     None
 }
 
+/// How many moves stand in no variation: the plies of the main line, if it is sound.
+pub fn count_main_moves(elements: &[Element<'_>]) -> usize
+    ensures { result ≡ length (main_words (map item_of elements.now) 0) }
+{
+    let mut plies = 0;
+    let mut depth = 0usize;
+    for element in elements {
+        plies += usize::from(depth == 0 && matches!(element, Element::Move(_)));
+        depth += usize::from(matches!(element, Element::Open));
+        depth = depth.saturating_sub(usize::from(matches!(element, Element::Close)));
+    }
+    plies
+}
+
 /// The main line as far as it is played, with all its positions and moves.
 #[derive(Drop)]
 struct LineKeeper {

@@ -1,9 +1,11 @@
-use Rattle.pgn_game.proofs.Common.{◌+◌, ◌*◌, ◌/◌, ◌%◌, [], ◌∷◌, refl, PlyCode, IsCode}
+use Rattle.pgn_game.proofs.Common.{◌+◌, ◌*◌, ◌/◌, ◌%◌, [], ◌∷◌, refl, after, PlyCode, AreMarks}
+use Rattle.pgn_game.proofs.Common.{IsCode}
 use Rattle.pgn_game.proofs.pack.ply.coded_move.Goals as goal
 
 pub returns : goal.returns
 returns c =
     let m = c.args.m.now in
+    let P = c.args.position.now in
     let code : PlyCode = record {
       from = m.from;
       to = m.to;
@@ -13,13 +15,14 @@ returns c =
       check = c.args.marks.check;
       stuck = c.args.marks.stuck;
     } in
-    let is : IsCode c.args.position.now m code = record {
+    let is : AreMarks (after P m) c.args.marks.check c.args.marks.stuck → IsCode P m code =
+    λ marks. record {
       from = refl;
       to = refl;
       taken = c.capture_square.ensures;
       man = c.arriving_man.ensures;
       castle = refl;
-      marks = c.requires.marks;
+      marks = marks;
     } in (
       code,
       is,

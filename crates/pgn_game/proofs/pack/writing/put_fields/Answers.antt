@@ -1,19 +1,27 @@
-use Rattle.pgn_game.proofs.Common.{arith, name_of}
-use Rattle.pgn_game.proofs.RecordWriting.{count_below, written}
+use Rattle.pgn_game.proofs.Common.{◌++◌, ap, ◌∙◌, arith, flat_map, tag_bytes}
+use Rattle.pgn_game.proofs.RecordWriting.{count_below}
 use Rattle.pgn_game.proofs.pack.writing.put_fields.Goals as goal
 
-pub put_head-requires-clause-count : goal.put_head-requires-clause-count
-put_head-requires-clause-count c =
+pub put_head-requires : goal.put_head-requires
+put_head-requires c =
     omega (arith, count_below c.args.game.now.tags, c.in_ok-put_front.ensures.within)
 
-pub returns-clause-record : goal.returns-clause-record
-returns-clause-record c =
-    written (name_of c.args.origin.now) c.args.origin.now.number c.args.origin.now.offset
-    c.args.game.now c.args.replayed.now c.args.out.now.items c.put_front.new.out.items
-    c.put_head.new.out.items c.put_name.new.out.items
-    c.put_tags.new.out.items c.put_plies.new.out.items c.in_ok-put_front.ensures.placed.0
-    c.in_ok-put_front.ensures.placed.1 c.invariant.ensures.ordered
-    c.in_ok-put_front.ensures.placed.2 c.invariant.ensures.ends c.requires
-    c.in_ok-put_front.ensures.within c.in_ok-put_front.ensures.front
-    c.in_ok-put_head.ensures.head c.in_ok-put_name.ensures.name c.in_ok-put_tags.ensures.tags
-    c.in_ok-put_plies.ensures.codes
+pub returns-clause-fields : goal.returns-clause-fields
+returns-clause-fields c =
+    let front = c.in_ok-put_front.ensures in
+    let good = c.invariant.ensures in
+    record {
+      number = front.placed.0;
+      offset = front.placed.1;
+      ordered = good.ordered;
+      known = front.placed.2;
+      ends = good.ends;
+      within = front.within;
+      fronted = c.put_front.new.out.items;
+      headed = c.put_head.new.out.items;
+      front = front.front;
+      head = c.in_ok-put_head.ensures.head;
+      put = c.in_ok-put_tags.ensures.tags
+          ∙ ap (λ bytes. bytes ++ flat_map tag_bytes c.args.game.now.tags)
+          c.in_ok-put_name.ensures.name;
+    }

@@ -1,7 +1,7 @@
 -- The head takes no more than the size, and the fields make the record.
-use Rattle.pgn_game.proofs.Common.{◌≡◌, ◌∙◌, ◌++◌, ◌*◌, ◌+◌, ◌%◌, ℕ, List, ap, sym, length, arith}
+use Rattle.pgn_game.proofs.Common.{◌≡◌, ◌∙◌, ◌++◌, ◌*◌, ◌+◌, ◌%◌, ℕ, List, ap, length, arith}
 use Rattle.pgn_game.proofs.Common.{w32}
-use Rattle.pgn_game.proofs.Common.{w64, to_be_bytes, tag_of, name_bytes}
+use Rattle.pgn_game.proofs.Common.{w64, to_be_bytes, name_bytes}
 use Rattle.pgn_game.proofs.RecordWriting.{count_below}
 use Rattle.pgn_game.proofs.HeadedRecords.{counted, headed, headed_size}
 use Rattle.pgn_game.proofs.pack.writing.put_headed.Goals as goal

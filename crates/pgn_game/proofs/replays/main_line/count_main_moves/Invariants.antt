@@ -1,5 +1,5 @@
 use Rattle.pgn_game.proofs.Common.{◌≡◌, ◌+◌, ◌<◌, ◌-◌, ◌^◌, drop, length, map, item_of, main_words}
-use Rattle.pgn_game.proofs.exports.edits.count_main_moves.Given as goal
+use Rattle.pgn_game.proofs.replays.main_line.count_main_moves.Given as goal
 
 abbrev pub invariant-loop-element : goal.invariant-loop-element
 invariant-loop-element l =
