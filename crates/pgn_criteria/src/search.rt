@@ -24,7 +24,7 @@ use crate::headed::Headed;
 use crate::meets::Criteria;
 use crate::seen::Seen;
 use pgn_game::pack::{CodesError, RawRecord, replay_codes};
-use pgn_game::{GameFault, GamePosition, Replayed, replay_beginning};
+use pgn_game::{GameFault, GamePosition, Replayed, count_main_moves, replay_beginning};
 use pgn_text::RawGame;
 use std::alloc::{AllocError, Global};
 use std::marker::Model;
@@ -167,27 +167,36 @@ impl Criteria {
         false
     }
 
-    /// What the criteria ask of the positions of a packed game. Conditions on its tags and its
-    /// result are decided here, once. It is `None` where an alternative of which these hold speaks
-    /// of the moves too, or of several plies.
-    pub fn watch_packed<'a>(
+    /// What the criteria ask of the positions of a game of so many plies. Conditions on its tags,
+    /// its result and their number are decided here, once. It is `None` where an alternative of
+    /// which these hold speaks of the moves otherwise, or of several plies.
+    fn watch_plies<'a, H: Headed<'a>>(
         &'a self,
         alloc: Global,
-        record: &RawRecord<'a>,
+        game: &H,
+        plies: usize,
     ) -> Result<Option<Search<'a>>, AllocError>
-        requires { IsRawOfGame record.now }
-        ensures { IfOk result (λ watched.
-            IfSome watched (λ search. (game : GameText) (replay : Replay) (packed : PackedGame)
-            → IsPacked packed.name packed.number packed.offset game replay packed
-            → FitsRecord packed → raw_of packed ≡ record.now → (any : Replay) (ply : ℕ)
-            → Meets (heading_of game) any ply search
-            ↔ Meets (heading_of game) any ply self.now)) }
+        requires { H.valid game.now }
+        ensures { IfOk result (λ watched. IfSome watched (λ search. (replay : Replay)
+            → length replay.played ≡ plies → (ply : ℕ)
+            → Meets (H.heading game.now) replay ply search
+            ↔ Meets (H.heading game.now) replay ply self.now)) }
     {
-        self.watch_heading(alloc, record)
+        let mut left = Vec::new(alloc);
+        for alternative in &self.alternatives {
+            if alternative.is_of_counted(game, plies) {
+                if !alternative.is_free_of_words() {
+                    return Ok(None);
+                }
+                left.push(alternative)?;
+            }
+        }
+        Ok(Some(Search { left }))
     }
 
-    /// The same where alternatives speak of the number of plies too, which the record tells. It is
-    /// `None` where an alternative that is left speaks of the moves otherwise, or of several plies.
+    /// What the criteria ask of the positions of a packed game. Conditions on its tags, its result
+    /// and the number of its plies are decided here, once. It is `None` where an alternative of
+    /// which these hold speaks of the moves otherwise, or of several plies.
     pub fn watch_counted<'a>(
         &'a self,
         alloc: Global,
@@ -202,17 +211,7 @@ impl Criteria {
             → Meets (heading_of game) any ply search
             ↔ Meets (heading_of game) any ply self.now)) }
     {
-        let plies = record.plies().len() / 3;
-        let mut left = Vec::new(alloc);
-        for alternative in &self.alternatives {
-            if alternative.is_of_counted(record, plies) {
-                if !alternative.is_free_of_words() {
-                    return Ok(None);
-                }
-                left.push(alternative)?;
-            }
-        }
-        Ok(Some(Search { left }))
+        self.watch_plies(alloc, record, record.plies().len() / 3)
     }
 
     /// What the criteria ask of the positions of a packed game that starts there. Conditions on its
@@ -267,10 +266,10 @@ impl Criteria {
     }
 
     /// What the criteria ask of the positions of the game, by which its plies are found while it is
-    /// played. Conditions on tags and on the first moves are decided here, once. No more of the
-    /// main line is played than conditions on its moves ask for; where it is faulty there, the
-    /// fault is answered. It is `None` where a condition speaks of the moves at each ply, or of
-    /// several plies: `met_plies` finds the plies then.
+    /// played. Conditions on tags, on the number of plies and on the first moves are decided here,
+    /// once. No more of the main line is played than conditions on its first moves ask for; where
+    /// it is faulty there, the fault is answered. It is `None` where a condition speaks of the
+    /// moves at each ply, or of several plies: `met_plies` finds the plies then.
     pub fn watch<'a>(
         &'a self,
         alloc: Global,
@@ -292,6 +291,10 @@ impl Criteria {
         let Some(most) = self.beginning else {
             return Ok(None);
         };
+        let plies = count_main_moves(game.elements());
+        if let Some(search) = self.watch_plies(alloc, game, plies)? {
+            return Ok(Some(search));
+        }
         let beginning = replay_beginning(alloc, game, most)?;
         Ok(Some(left_after(alloc, &self.alternatives, game, &beginning)?))
     }

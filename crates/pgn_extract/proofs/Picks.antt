@@ -52,14 +52,6 @@ same_met tags replay criteria alternatives others ply is same =
     subst (λ (c : Option (List Conditions)). Meets tags replay ply others
     ↔ IsMet c tags replay ply) (sym is) same
 
--- so what meets the same asks for them
-pub asks_alike : (aim : Aim) (game : GameText) (alternatives others : List Conditions)
-    → aim.criteria ≡ Some alternatives
-    → ((replay : Replay) (ply : ℕ) → Meets (heading_of game) replay ply others
-    ↔ Meets (heading_of game) replay ply alternatives) → AsksFor aim game others
-asks_alike aim game alternatives others given alike replay own ply within =
-    same_met (heading_of game) replay aim.criteria alternatives others ply given (alike replay ply)
-
 -- of each replay of the game the same plies are met
 abbrev pub AsksAlike : GameText → List Conditions → List Conditions → Type 0
 AsksAlike game alternatives others =

@@ -324,10 +324,10 @@ fn begun_search<'a>(
     }
 }
 
-/// What criteria ask of the positions of a packed game where they speak of the number of its plies
-/// or of its first moves; `None` where they speak of the moves at each ply, or of several plies.
-#[inline(never)]
-fn told_search<'a>(
+/// What criteria ask of the positions of a packed game; `None` where they speak of the moves at
+/// each ply, or of several plies.
+#[inline(always)]
+fn search_of<'a>(
     context: RecordContext<'a, '_, 'a>,
     criteria: &'a Criteria,
 ) -> Result<Option<Search<'a>>, PackedFault>
@@ -347,28 +347,6 @@ fn told_search<'a>(
         Ok(start) => begun_search(context, criteria, start),
         Err(fault) => Err(fault),
     }
-}
-
-/// What criteria ask of the positions of a packed game; `None` where they speak of the moves at
-/// each ply, or of several plies.
-#[inline(always)]
-fn search_of<'a>(
-    context: RecordContext<'a, '_, 'a>,
-    criteria: &'a Criteria,
-) -> Result<Option<Search<'a>>, PackedFault>
-    requires criteria { context.settings.now.criteria ≡ Some criteria.now }
-    requires shows { IsRawOfGame context.record.now }
-    ensures ok { IfOk result (λ told. IfSome told (λ search.
-        EachOfRecord context.entry.record.now (λ game replay packed.
-        AsksFor (bare_aim context.entry.settings.now) game search))) }
-    ensures err { IfErr result (λ fault. fault ≡ PackedFault.NoGame
-        → HasNoText context.entry.record.now) }
-{
-    let RecordContext { alloc, record, .. } = context;
-    if let Some(search) = criteria.watch_packed(alloc, record)? {
-        return Ok(Some(search));
-    }
-    told_search(context, criteria)
 }
 
 /// Adds the mark and the ply of each entry of a packed game by criteria. Answers `false`, and adds

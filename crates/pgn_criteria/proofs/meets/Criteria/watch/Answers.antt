@@ -1,6 +1,8 @@
-use Rattle.pgn_criteria.proofs.Common.{◌∙◌, refl, sym, subst, arith, tag_in, fen_tag, heading_of}
-use Rattle.pgn_criteria.proofs.Common.{AllGood, EachAsksWithin}
+use Rattle.pgn_criteria.proofs.Common.{◌∙◌, ap, refl, sym, subst, arith, length, tag_in, fen_tag}
+use Rattle.pgn_criteria.proofs.Common.{AllGood, EachAsksWithin, heading_of}
+use Rattle.pgn_game.specs.Public.MainLines.{main_words}
 use Rattle.pgn_game.proofs.Beginnings.{beginning_legal}
+use Rattle.pgn_game.proofs.OneLine.{plies_played}
 use Rattle.pgn_criteria.proofs.BeginningFacts.{beginning_fits, within_hold_there}
 use Rattle.pgn_criteria.proofs.StageFacts.{same_plies}
 use Rattle.pgn_criteria.proofs.meets.Criteria.watch.Goals as goal
@@ -10,6 +12,14 @@ returns-in-Some c replay own ply =
     let heading = heading_of c.args.game.now in
     let watched = rw c.in-Some.is at c.in_ok-search.ensures in
     watched replay ply
+
+pub returns-in-Some-2 : goal.returns-in-Some-2
+returns-in-Some-2 c replay own ply =
+    let met = rw c.in-Some-2.is at c.in_ok-search-2.ensures in
+    let words = main_words c.args.game.now.elements 0 in
+    let played = plies_played own.1.start words replay.positions replay.played own.1.line in
+    let counted = ap (λ items. length (main_words items 0)) c.elements.ensures.elements in
+    met replay (sym played ∙ sym counted ∙ sym c.count_main_moves-plies.ensures) ply
 
 pub left_after-requires : goal.left_after-requires
 left_after-requires c k =

@@ -1,72 +1,23 @@
-use Rattle.std.proofs.lemmas.List.{append-nil}
-use Rattle.pgn_criteria.proofs.Common.{◌≡◌, ◌↔◌, ◌++◌, ◌∷◌, ◌+◌, ◌/◌, ℕ, List, length, drop}
-use Rattle.pgn_criteria.proofs.Common.{map, sym, ap, ◌∙◌}
-use Rattle.pgn_criteria.proofs.Common.{arith, map-append, drop-length, State, Replay, Heading}
-use Rattle.pgn_criteria.proofs.Common.{SomeHold, on_positions, heading_of, heading_of_raw}
-use Rattle.pgn_criteria.proofs.MeetFacts.{good_from, alternatives_from}
-use Rattle.pgn_criteria.proofs.StageFacts.{kept_one, dropped_one, same_plies}
-use Rattle.pgn_criteria.proofs.CountedFacts.{all_ask, all_of_counted, not_counted}
+use Rattle.std.proofs.Common.{◌≡◌, ◌∙◌, ◌/◌, ℕ, List, length, Option, Some, None, Result, Ok, Err}
+use Rattle.std.proofs.Common.{sym, ap}
+use Rattle.pgn_criteria.proofs.Common.{IfOk, IfSome, heading_of, heading_of_raw}
 use Rattle.pgn_criteria.proofs.RecordHeadings.{raw_heading, text_heading}
-use Rattle.pgn_criteria.proofs.meets.Criteria.watch_counted.Goals.{then-is_of_counted+else-not-is_free_of_words+in_ok-push}
-use Rattle.pgn_criteria.proofs.meets.Criteria.watch_counted.Goals.{else-is_of_counted}
 use Rattle.pgn_criteria.proofs.meets.Criteria.watch_counted.Goals as goal
 
-pub loop-alternative-preserved : goal.loop-alternative-preserved
-loop-alternative-preserved c =
-    let heading : Heading = heading_of_raw c.args.record.now in
-    let plies = length c.plies.result.now / 3 in
-    let all = c.deref-alternative-items.result.now in
-    let i = c.loop-alternative.alternative-index in
-    let own = c.alternative-item.result in
-    let before = map (λ a. on_positions a.now) c.loop-alternative.left.items in
-    let rest = drop (i + 1) all in
-    let front = alternatives_from all i own c.loop-alternative-test.true c.alternative-item.is in
-    let so_far : (replay : Replay) → length replay.played ≡ plies → (ply : ℕ) (P : State)
-    → SomeHold heading replay ply P (before ++ own ∷ rest)
-    ↔ SomeHold heading replay ply P c.args.self.now =
-    λ replay size ply P. rw (← front) (c.loop-alternative.invariant.kept replay size ply P) in
-    record {
-      good = (good_from all i own c.loop-alternative-test.true c.alternative-item.is
-          c.loop-alternative.invariant.good).1;
-      kept = λ replay size ply P.
-          elim c.if-is_of_counted.branch [
-            | then-is_of_counted+else-not-is_free_of_words+in_ok-push w ↦
-                let free = w.is_free_of_words.ensures.0 w.if-not-is_free_of_words.false in
-                let of_game = all_of_counted heading replay plies size own free
-                (c.is_of_counted.ensures.0 w.if-is_of_counted.true) in
-                let asks = all_ask own free in
-                let one = kept_one heading replay ply P before rest own asks.0 of_game asks.1 in
-                let items = ap (map (λ a. on_positions a.now)) (ap (λ v. v.items) w.left-is
-                ∙ w.in_ok-push.ensures.items)
-                ∙ map-append (λ a. on_positions a.now) c.loop-alternative.left.items _ in
-                rw items (
-                  λ s. (so_far replay size ply P).0 (one.0 s),
-                  λ s. one.1 ((so_far replay size ply P).1 s),
-                )
-            | else-is_of_counted w ↦
-                let one = dropped_one heading replay ply P before rest own c.is_of_counted.result
-                w.if-is_of_counted.false
-                (not_counted heading replay plies size own c.is_of_counted.result
-                w.if-is_of_counted.false c.is_of_counted.ensures) in
-                rw w.left-is (
-                  λ s. (so_far replay size ply P).0 (one.0 s),
-                  λ s. one.1 ((so_far replay size ply P).1 s),
-                )
-          ];
-    }
+-- what is watched is so in other words
+said_so : {X E : Type 0} {P Q : X → Type 0} (r : Result (Option X) E) → ((x : X) → P x → Q x)
+    → IfOk r (λ o. IfSome o P) → IfOk r (λ o. IfSome o Q)
+said_so (Ok (Some x)) so all = so x all
+said_so (Ok None) so all = tt
+said_so (Err e) so all = tt
 
 pub returns : goal.returns
-returns c game replay packed is fits shows any size =
-    let raw = c.args.record.now in
-    let all = c.deref-alternative-items.result.now in
-    let left = map (λ a. on_positions a.now) c.loop-alternative.left.items in
-    let end : c.loop-alternative.alternative-index ≡ length all = omega arith in
-    let none : left ++ drop c.loop-alternative.alternative-index all ≡ left =
-    ap (λ n. left ++ drop n all) end ∙ ap (λ x. left ++ x) (drop-length all) ∙ append-nil left in
-    let heading : heading_of_raw raw ≡ heading_of game =
+returns c =
+    said_so c.watch_plies.result
+    (λ search met game replay packed is fits shows any size ply.
+    let heading : heading_of_raw c.args.record.now ≡ heading_of game =
     ap heading_of_raw (sym shows) ∙ raw_heading packed fits
     ∙ text_heading packed.name packed.number packed.offset game replay packed is in
-    let told : length any.played ≡ length c.plies.result.now / 3 =
-    size ∙ ap (λ (bytes : List ℕ). length bytes / 3) (sym c.plies.ensures) in
-    rw (← heading) (same_plies (heading_of_raw raw) any left c.args.self.now (λ ply P.
-    rw (← none) (c.loop-alternative.invariant.kept any told ply P)))
+    rw (← heading) (met any (size ∙ ap (λ (bytes : List ℕ). length bytes / 3)
+    (sym c.plies.ensures)) ply))
+    c.watch_plies.ensures

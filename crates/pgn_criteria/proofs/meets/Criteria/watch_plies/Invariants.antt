@@ -1,13 +1,13 @@
 use Rattle.pgn_criteria.proofs.Common.{◌≡◌, ◌↔◌, ◌++◌, ℕ, length, drop, map, State, Replay}
-use Rattle.pgn_criteria.proofs.Common.{SomeHold, AllGood, on_positions, heading_of_raw}
-use Rattle.pgn_criteria.proofs.meets.Criteria.watch_counted.Given as goal
+use Rattle.pgn_criteria.proofs.Common.{SomeHold, AllGood, on_positions}
+use Rattle.pgn_criteria.proofs.meets.Criteria.watch_plies.Given as goal
 
 abbrev pub invariant-loop-alternative : goal.invariant-loop-alternative
-invariant-loop-alternative l = record {
+invariant-loop-alternative g l = record {
   good : AllGood (drop l.alternative-index l.alternative-items);
   kept : (replay : Replay) → length replay.played ≡ l.plies → (ply : ℕ) (P : State)
-      → SomeHold (heading_of_raw l.record) replay ply P
+      → SomeHold (g.H.Headed.heading l.game) replay ply P
       (map (λ a. on_positions a.now) l.left.items
       ++ drop l.alternative-index l.alternative-items)
-      ↔ SomeHold (heading_of_raw l.record) replay ply P l.self;
+      ↔ SomeHold (g.H.Headed.heading l.game) replay ply P l.self;
 }
