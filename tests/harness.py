@@ -51,8 +51,9 @@ import make_games  # noqa: E402
 BUILT = TOP / "crates/cli/out/cli"
 # What the commands beside the program share.
 SHARED = TOP / "tools/pgn_tools.py"
-# All modules beside them: what they share, and what pgn-mend and pgn-board have for themselves.
-MODULES = (SHARED, TOP / "tools/pgn_movetext.py", TOP / "tools/pgn_drawing.py")
+# All modules beside them: what they share, what those share that sort games, and what pgn-mend and
+# pgn-board have for themselves.
+MODULES = (SHARED, *(TOP / f"tools/pgn_{it}.py" for it in ("games", "movetext", "drawing")))
 # The variable by which tools are given a program.
 TOOL_VARIABLE = "PGN_EXTRACT"
 # The status of a run that was ended at its time limit, as timeout(1) has it.
