@@ -22,7 +22,7 @@ ghost use Rattle.pgn_text.specs.Private.Readings.{IsReading, IsStep};
 ghost use Rattle.pgn_text.specs.Private.Tokens.{state_of, token_of};
 ghost use Rattle.pgn_text.specs.Private.Walk.{GameTo, GameRead, NoGapPartAt};
 
-mod game_builder;
+pub(crate) mod game_builder;
 pub(crate) mod pieces;
 pub(crate) mod progress;
 

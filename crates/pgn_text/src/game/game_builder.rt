@@ -1,6 +1,7 @@
 //! A game's tags and elements while it is read.
 
-ghost use Rattle.std.specs.Prelude.{◌≡◌, ◌≤◌, ◌++◌, ℕ, List, [], None, IfOk, OnOk, length, map};
+ghost use Rattle.std.specs.Prelude.{◌≡◌, ◌<◌, ◌≤◌, ◌++◌, ◌∷◌, ℕ, List, [], None, IfOk, OnOk};
+ghost use Rattle.std.specs.Prelude.{length, map, vec_capacity, vec_len};
 ghost use Rattle.std.specs.Option.{option_or};
 ghost use Rattle.pgn_text.specs.Public.Elements.{item_of};
 ghost use Rattle.pgn_text.specs.Private.Movetext.{PlainTo};
@@ -60,6 +61,31 @@ fn double_mark(first: u8, second: u8) -> u8
     }
 }
 
+/// Makes room for one more element.
+#[cold]
+fn make_room(elements: &mut Vec<Element<'_>>) -> Result<(), AllocError>
+    ensures items { elements.new.items ≡ elements.old.items }
+    ensures room { OnOk result (vec_len elements.new < vec_capacity elements.new) }
+{
+    elements.reserve(1)
+}
+
+/// Adds an element, for which there is mostly room (`Vec::push` is too large to stand in each
+/// caller).
+#[inline(always)]
+pub(crate) fn push_element<'a>(
+    elements: &mut Vec<Element<'a>>,
+    element: Element<'a>,
+) -> Result<(), AllocError>
+    ensures { OnOk result (elements.new.items ≡ elements.old.items ++ element.entry ∷ []) }
+{
+    if elements.len() >= elements.capacity() {
+        make_room(elements)?;
+    }
+    elements.push_reserved(element);
+    Ok(())
+}
+
 /// Adds the NAGs of a run of marks, which is cut into pairs from the left.
 fn push_marks<'a>(elements: &mut Vec<Element<'a>>, marks: &[u8]) -> Result<(), AllocError>
     ensures { OnOk result (map item_of elements.new.items
@@ -67,11 +93,11 @@ fn push_marks<'a>(elements: &mut Vec<Element<'a>>, marks: &[u8]) -> Result<(), A
 {
     let mut rest = marks;
     while let [first, second, after @ ..] = rest {
-        elements.push(Element::Glyph(double_mark(*first, *second)))?;
+        push_element(elements, Element::Glyph(double_mark(*first, *second)))?;
         rest = after;
     }
     if let [mark] = rest {
-        elements.push(Element::Glyph(single_mark(*mark)))?;
+        push_element(elements, Element::Glyph(single_mark(*mark)))?;
     }
     Ok(())
 }
@@ -83,12 +109,12 @@ fn push_elements<'a>(elements: &mut Vec<Element<'a>>, token: Token<'a>) -> Resul
         ≡ map item_of elements.old.items ++ items_of_kept (token_of token.entry)) }
 {
     match token {
-        Token::Comment(text) => elements.push(Element::Comment(text))?,
-        Token::Move(word) => elements.push(Element::Move(word))?,
-        Token::Glyph(number) => elements.push(Element::Glyph(number))?,
+        Token::Comment(text) => push_element(elements, Element::Comment(text))?,
+        Token::Move(word) => push_element(elements, Element::Move(word))?,
+        Token::Glyph(number) => push_element(elements, Element::Glyph(number))?,
         Token::Marks(marks) => push_marks(elements, marks)?,
-        Token::Open => elements.push(Element::Open)?,
-        Token::Close => elements.push(Element::Close)?,
+        Token::Open => push_element(elements, Element::Open)?,
+        Token::Close => push_element(elements, Element::Close)?,
         _ => {}
     }
     Ok(())

@@ -12,6 +12,7 @@ ghost use Rattle.pgn_text.specs.Private.Masks.{HaveEnds, IsNextMove, NoneFrom, S
 ghost use Rattle.pgn_text.specs.Shared.Lanes.{has_bit, AreLanes};
 
 use crate::game::Element;
+use crate::game::game_builder::push_element;
 use std::alloc::AllocError;
 use std::simd::prelude::*;
 
@@ -227,7 +228,7 @@ fn push_moves<'a>(
         let Some((begin, end)) = next_move(swept, from) else {
             return Ok(());
         };
-        elements.push(Element::Move(&block[at + begin..at + end]))?;
+        push_element(elements, Element::Move(&block[at + begin..at + end]))?;
         from = end;
     }
     Ok(())

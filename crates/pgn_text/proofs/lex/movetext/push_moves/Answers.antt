@@ -36,7 +36,8 @@ loop-from-preserved c =
       moves ++ word ∷ [],
       over.2,
       over.1,
-      ap (map item_of) c.in_ok-push.ensures.items ∙ map-append item_of c.loop-from.elements.items _
+      ap (map item_of) c.in_ok-push_element.ensures
+          ∙ map-append item_of c.loop-from.elements.items _
           ∙ ap (λ xs. xs ++ word ∷ []) kept.5
           ∙ append_assoc (map item_of a.elements.now.items) moves (word ∷ []),
     )
@@ -70,8 +71,8 @@ returns c =
       kept.5,
     )
 
-pub slice_bounds-push-end : goal.slice_bounds-push-end
-slice_bounds-push-end c =
+pub slice_bounds-push_element-end : goal.slice_bounds-push_element-end
+slice_bounds-push_element-end c =
     let a = c.args in
     let kept = c.loop-from.invariant in
     let over =
