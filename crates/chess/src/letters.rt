@@ -61,19 +61,16 @@ static KINDS: [Option<Kind>; 256] = [
     O, O, O, O, O, O, O, O, O, O, O, O, O, O, O, O,
 ];
 
-/// The letter of a kind, in upper case.
+/// The letters of the kinds, in upper case and in the order of `Kind`.
+static LETTERS: [u8; 6] = [b'K', b'Q', b'R', b'B', b'N', b'P'];
+
+/// The letter of a kind, in upper case: by a table, so that no jump depends on the kind.
+#[inline(always)]
 pub(crate) fn kind_letter(kind: Kind) -> u8
     ensures letter { result ≡ kind_letter kind }
     ensures ascii { result ≤ 82 }
 {
-    match kind {
-        Kind::King => b'K',
-        Kind::Queen => b'Q',
-        Kind::Rook => b'R',
-        Kind::Bishop => b'B',
-        Kind::Knight => b'N',
-        Kind::Pawn => b'P',
-    }
+    LETTERS[kind as usize]
 }
 
 /// The kind of that letter in upper case, if there is one: by a table, so that no jump depends on

@@ -90,9 +90,6 @@ impl CastlingRights {
         ensures { IsTrue result
             ↔ ((side : Side) × (wing : Wing) × IsTrue (has_right self side wing)) }
     {
-        self.white_king_side
-            || self.white_queen_side
-            || self.black_king_side
-            || self.black_queen_side
+        self.white_king_side | self.white_queen_side | self.black_king_side | self.black_queen_side
     }
 }

@@ -65,8 +65,9 @@ fn rights_left(rights: CastlingRights, m: Move) -> CastlingRights
 fn end_rights(rights: &mut CastlingRights, m: &Move)
     ensures { rights.new ≡ rights_after rights.old m.now }
 {
-    if is_home(m.from) || is_home(m.to) {
-        if rights.has_some() {
+    // (that rights are left is asked first, since it seldom changes)
+    if rights.has_some() {
+        if is_home(m.from) || is_home(m.to) {
             *rights = rights_left(*rights, *m);
         }
     }
@@ -226,10 +227,7 @@ impl<B: Board> Position<B> {
     pub(crate) fn fullmove_number_after(&self) -> u32
         ensures { result ≡ fullmove_number_after self.now.turn self.now.fullmove_number }
     {
-        match self.side() {
-            Side::White => self.number(),
-            Side::Black => one_more(self.number()),
-        }
+        self.number().saturating_add(self.side() as u32)
     }
 
     /// The side to move after a move.

@@ -15,10 +15,13 @@ use crate::position::Position;
 pub(crate) fn square_ahead(side: Side, from: Square) -> Option<Square>
     ensures { IsSquareAhead side from result }
 {
-    match side {
-        Side::White => Direction::North.ahead(from, 1),
-        Side::Black => Direction::South.ahead(from, 1),
-    }
+    // (both ranks are told before the side is asked, so that no jump hangs on it)
+    let (up, down) = (from.rank() + 1, from.rank() - 1);
+    let rank = match side {
+        Side::White => up,
+        Side::Black => down,
+    };
+    Square::new(from.file(), rank)
 }
 
 /// Whether a pawn may become that.
