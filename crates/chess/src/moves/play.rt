@@ -227,6 +227,7 @@ impl<B: Board> Position<B> {
     pub(crate) fn fullmove_number_after(&self) -> u32
         ensures { result ≡ fullmove_number_after self.now.turn self.now.fullmove_number }
     {
+        // (0 for White, 1 for Black, so that no jump hangs on the side)
         self.number().saturating_add(self.side() as u32)
     }
 
