@@ -215,6 +215,15 @@ impl<'a> RawGame<'a> {
         Ok(own)
     }
 
+    /// The game with this result in place of its own; its Result tag stays as it is.
+    pub fn with_result(mut self, ending: &'a [u8]) -> Self
+        requires { IsResult ending.now }
+        ensures { result ≡ record self.entry { result = ending.entry.now } }
+    {
+        self.result = ending;
+        self
+    }
+
     /// The game with these contents under the name in place of its own, or with no tag of that
     /// name.
     pub fn retagged(
