@@ -140,7 +140,7 @@ first_plies_beginning plies items =
 -- ---- they are sound
 
 -- the line up to a ply
-abbrev cut : ℕ → Line → Line
+abbrev pub cut : ℕ → Line → Line
 cut plies LineEnd = LineEnd
 cut zero (ThenMove word rest) = LineEnd
 cut (suc plies) (ThenMove word rest) = ThenMove word (cut plies rest)
@@ -173,7 +173,7 @@ passed_over (ThenVariation inner rest) plies depth more =
     ∙ sym (append_assoc (spelled inner) (VariationClose ∷ spelled rest)
     (first_plies plies (suc depth) more)))
 
-first_spelled : (line : Line) (plies : ℕ)
+pub first_spelled : (line : Line) (plies : ℕ)
     → first_plies plies 0 (spelled line) ≡ spelled (cut plies line)
 first_spelled LineEnd plies = refl
 first_spelled (ThenMove word rest) zero = refl
@@ -189,20 +189,22 @@ first_spelled (ThenVariation inner rest) plies =
     (passed_over inner plies 0 (VariationClose ∷ spelled rest)
     ∙ ap (λ items. spelled inner ++ VariationClose ∷ items) (first_spelled rest plies))
 
-first_turns : (line : Line) (plies : ℕ) (before now : State) (turns : List LineMove)
-    → IsPlayed false before now line turns
-    → (own : List LineMove) × IsPlayed false before now (cut plies line) own
-first_turns LineEnd plies before now turns played = ([], refl)
-first_turns (ThenMove word rest) zero before now turns played = ([], refl)
-first_turns (ThenMove word rest) (suc plies) before now turns (turn, more, is, says, played) =
-    let (own, later) = first_turns rest plies now (after_turn now turn) more played in
+pub first_turns : (line : Line) (plies : ℕ) (inside : Bool) (before now : State)
+    (turns : List LineMove) → IsPlayed inside before now line turns
+    → (own : List LineMove) × IsPlayed inside before now (cut plies line) own
+first_turns LineEnd plies inside before now turns played = ([], refl)
+first_turns (ThenMove word rest) zero inside before now turns played = ([], refl)
+first_turns (ThenMove word rest) (suc plies) inside before now turns
+    (turn, more, is, says, played) =
+    let (own, later) = first_turns rest plies inside now (after_turn now turn) more played in
     (turn ∷ own, (turn, own, refl, says, later))
-first_turns (ThenGlyph number rest) plies before now turns played =
-    first_turns rest plies before now turns played
-first_turns (ThenComment text rest) plies before now turns played =
-    first_turns rest plies before now turns played
-first_turns (ThenVariation inner rest) plies before now turns (own, more, is, played, later) =
-    let (others, ends) = first_turns rest plies before now more later in
+first_turns (ThenGlyph number rest) plies inside before now turns played =
+    first_turns rest plies inside before now turns played
+first_turns (ThenComment text rest) plies inside before now turns played =
+    first_turns rest plies inside before now turns played
+first_turns (ThenVariation inner rest) plies inside before now turns
+    (own, more, is, played, later) =
+    let (others, ends) = first_turns rest plies inside before now more later in
     (own ++ others, (own, others, refl, played, ends))
 
 first_line : (plies : ℕ) (now : State) (words : List (List ℕ)) (positions : List State)
@@ -219,7 +221,7 @@ first_of_all : (lines : Lines) (plies : ℕ) (start : State) (items : List Item)
     → (own : List LineMove) × AreTurns lines start (first_plies plies 0 items) own
 first_of_all Main plies start items turns are = ([], refl)
 first_of_all All plies start items turns (line, spells, played) =
-    let (own, ends) = first_turns line plies start start turns played in
+    let (own, ends) = first_turns line plies false start start turns played in
     (own, (cut plies line, ap (first_plies plies 0) spells ∙ first_spelled line plies, ends))
 
 pub sound_first : (lines : Lines) (fen : Option (List ℕ)) (plies : ℕ) (items : List Item)

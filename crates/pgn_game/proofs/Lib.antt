@@ -33,6 +33,7 @@ pub mod BegunGames
 pub mod TagsInOrder
 pub mod examples
 pub mod OneExport
+pub mod OneEdited
 pub mod PackOnce
 pub mod PackRoom
 pub mod SomeExport

@@ -2,11 +2,11 @@
 use Rattle.std.specs.Prelude.{Option, Some, None, flat_map}
 use Rattle.pgn_game.proofs.Common.{◌≡◌, ℕ, List, [], ◌∷◌, ◌++◌, sym, ap, ◌∙◌, subst, tag_in}
 use Rattle.pgn_game.proofs.Common.{fen_tag, missing_text, escaped, IsTagText, tag_line, AreLinesOf}
-use Rattle.pgn_game.proofs.Common.{written_names, IsLaid, GameText, Style}
-use Rattle.pgn_game.specs.Public.Exports.{IsOrderedExport}
+use Rattle.pgn_game.proofs.Common.{written_names, IsLaid, GameText, Style, Bool, false}
+use Rattle.pgn_game.specs.Public.Exports.{IsLineExport, IsOrderedExport}
 use Rattle.pgn_game.specs.Public.Laws.{GameHasOneExport}
 use Rattle.pgn_game.proofs.laws.LaidOnce.{one_text}
-use Rattle.pgn_game.proofs.laws.OneMovetext.{one_movetext}
+use Rattle.pgn_game.proofs.laws.OneMovetext.{one_line_movetext}
 use Rattle.pgn_game.proofs.OneReplay.{same_value, one_start}
 
 one_tag_text : (contents : Option (List ℕ)) (missing text other : List ℕ)
@@ -32,22 +32,27 @@ one_head tags result (name ∷ names) lines others (
     lines_are ∙ ap (λ xs. xs ++ more) same
     ∙ ap (λ xs. line2 ++ xs) (one_head tags result names more more2 rest rest2) ∙ sym lines_are2
 
-pub one_ordered : (order : List (List ℕ)) (style : Style) (game : GameText) (text other : List ℕ)
-    → IsOrderedExport order style game text → IsOrderedExport order style game other → text ≡ other
-one_ordered order style game text other is is2 =
+pub one_line_export : (inside : Bool) (order : List (List ℕ)) (style : Style) (game : GameText)
+    (text other : List ℕ) → IsLineExport inside order style game text
+    → IsLineExport inside order style game other → text ≡ other
+one_line_export inside order style game text other is is2 =
     let heads : is.head ≡ is2.head =
     one_head game.tags game.result (written_names order style game.tags) is.head is2.head is.tags
     is2.tags in
     let starts : is2.start ≡ is.start =
     one_start (tag_in fen_tag game.tags) is2.start is.start is2.is_start is.is_start in
     let tokens : is2.tokens ≡ is.tokens =
-    one_movetext style is.start game.elements game.result is2.tokens is.tokens
+    one_line_movetext inside style is.start game.elements game.result is2.tokens is.tokens
     (rw (← starts) is2.are_tokens) is.are_tokens in
     let movetexts : is.movetext ≡ is2.movetext =
     one_text style.width is.tokens is.movetext is2.movetext is.laid
     (subst (λ ts. IsLaid style.width ts is2.movetext) tokens is2.laid) in
     is.spells ∙ ap (λ head. head ++ 10 ∷ (is.movetext ++ 10 ∷ [])) heads
     ∙ ap (λ movetext. is2.head ++ 10 ∷ (movetext ++ 10 ∷ [])) movetexts ∙ sym is2.spells
+
+pub one_ordered : (order : List (List ℕ)) (style : Style) (game : GameText) (text other : List ℕ)
+    → IsOrderedExport order style game text → IsOrderedExport order style game other → text ≡ other
+one_ordered = one_line_export false
 
 pub one_export : GameHasOneExport
 one_export = one_ordered []

@@ -3,6 +3,10 @@ pub mod CommentFacts
 pub mod EvenFacts
 pub mod EditFacts
 pub mod ExportFacts
+pub mod LineItems
+pub mod LinePathFacts
+pub mod LineSounds
+pub mod LineTags
 pub mod LineWrapperFacts
 pub mod MovetextFacts
 pub mod MovetextLines

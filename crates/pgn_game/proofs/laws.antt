@@ -1,5 +1,6 @@
 pub mod CommandsLeftOut
 pub mod LaidOnce
+pub mod LinesOnce
 pub mod OneMovetext
 pub mod OneOpening
 pub mod PlainExport

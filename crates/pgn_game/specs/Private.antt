@@ -5,6 +5,7 @@ pub mod Walks
 pub mod LineTexts
 pub mod LineWalks
 pub mod Steps
+pub mod LinePaths
 pub mod RefusalWalks
 pub mod LineWrappers
 pub mod CommentWords

@@ -13,6 +13,7 @@ pub mod TextLines
 pub mod Comments
 pub mod Exports
 pub mod Edits
+pub mod LineGames
 pub mod LaterPlies
 pub mod GameLines
 pub mod PlyCodes

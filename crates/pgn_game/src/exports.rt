@@ -7,6 +7,7 @@ pub mod following;
 pub(crate) mod game_line;
 pub mod later;
 mod line_wrapper;
+pub mod lines;
 mod movetext;
 pub(crate) mod notation;
 pub(crate) mod style;

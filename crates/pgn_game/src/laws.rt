@@ -10,6 +10,7 @@ ghost use Rattle.pgn_game.specs.Public.GameLines.{SoundGameHasALine, GameHasOneL
 ghost use Rattle.pgn_game.specs.Public.Laws.{EachMoveIsNamed, MainLineIsTheLine, EachMoveHasATurn};
 ghost use Rattle.pgn_game.specs.Public.Laws.{EachMainMoveIsAPly, FirstPliesAreABeginning};
 ghost use Rattle.pgn_game.specs.Public.Laws.{LaterPliesAreReplayed, LaterPliesAreTheRest};
+ghost use Rattle.pgn_game.specs.Public.Laws.{EachElementIsOfOneLine, LinesHaveOneText};
 ghost use Rattle.pgn_game.specs.Public.Laws.{SameNamesInOrder};
 ghost use Rattle.pgn_game.specs.Public.Laws.{GameHasOneReplay, GameHasOneBeginning};
 ghost use Rattle.pgn_game.specs.Public.Laws.{GameHasOneOpening, OpeningIsOneOrNone, OpeningIsThere};
@@ -47,6 +48,13 @@ pub fn edited_games()
 pub fn later_games()
     ensures rest { LaterPliesAreTheRest }
     ensures replayed { LaterPliesAreReplayed }
+{}
+
+/// Each move, NAG and comment of a game is one line's own, and no other's; and after edits and in a
+/// style a game has one text of its lines at most.
+pub fn lines_of_a_game()
+    ensures each { EachElementIsOfOneLine }
+    ensures one { LinesHaveOneText }
 {}
 
 /// Where all lines are replayed, there is one turn for each move text.

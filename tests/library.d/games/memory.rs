@@ -2,7 +2,7 @@
 //! the calls go well; `rt try --test --fail-alloc N` refuses the Nth request of each test, and
 //! these hold for each N.
 use crate::support::{Pieces, TWO_GAMES, first_game};
-use pgn_game::{Commands, GameFault, Lines, Style, export, replay};
+use pgn_game::{Commands, GameFault, Lines, Style, export, export_lines, replay};
 use pgn_text::{Blocks, ReadError, Tally, games};
 use std::alloc::Global;
 use std::test::Fail;
@@ -68,6 +68,25 @@ fn export_leaves(alloc: Global) -> bool {
     }
 }
 
+/// Whether the lines of a game leave the vector as it was where memory is refused, and are written
+/// after it where it is not.
+fn lines_leave(alloc: Global) -> bool {
+    let game = match first_game(alloc, ELEMENTS) {
+        Ok(Some(game)) => game,
+        Ok(None) => return false,
+        Err(_) => return true,
+    };
+    let mut out = Vec::new(alloc);
+    if out.push(b'>').is_err() {
+        return true;
+    }
+    match export_lines(alloc, &game, None, &WHOLE, &mut out) {
+        Ok(()) => out.as_slice().starts_with(b">[Event \"?\"]\n") && out.len() > 400,
+        Err(GameFault::OutOfMemory) => out.as_slice() == b">".as_slice(),
+        Err(_) => false,
+    }
+}
+
 #[test]
 fn next_fails_after_a_refusal(rt: HostRuntime) -> Result<(), Fail> {
     assert!(rt; next_fails(rt.alloc()));
@@ -83,5 +102,11 @@ fn games_end_after_a_refusal(rt: HostRuntime) -> Result<(), Fail> {
 #[test]
 fn an_export_that_is_refused_leaves_its_vector(rt: HostRuntime) -> Result<(), Fail> {
     assert!(rt; export_leaves(rt.alloc()));
+    Ok(())
+}
+
+#[test]
+fn lines_that_are_refused_leave_their_vector(rt: HostRuntime) -> Result<(), Fail> {
+    assert!(rt; lines_leave(rt.alloc()));
     Ok(())
 }

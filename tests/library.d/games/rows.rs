@@ -1,4 +1,5 @@
 //! What the rows of each table say. In a text `\n` is a line feed, `\\` a backslash.
+use crate::games::lines::writes_lines;
 use crate::games::openings::has_opening;
 use crate::games::records::has_record;
 use crate::games::refusals::{is_refused, names, tag_stands};
@@ -20,6 +21,7 @@ pub enum Says {
     FirstFault,
     Turns,
     Packed,
+    Lines,
     Refused,
     TagStands,
     Names,
@@ -59,6 +61,7 @@ fn holds(alloc: Global, says: &Says, block: &[u8], columns: [&str; 5]) -> Option
         Says::FirstFault => Some(has_fault(alloc, &game, Lines::All, columns)),
         Says::Turns => has_lines(alloc, &game, columns),
         Says::Packed => has_record(alloc, &game, columns),
+        Says::Lines => writes_lines(alloc, &game, columns),
         Says::Refused => is_refused(alloc, block, &game, columns),
         Says::TagStands => tag_stands(block, &game, columns),
         Says::Names | Says::Opened => None,

@@ -9,7 +9,7 @@ use Rattle.pgn_game.proofs.Common.{State, GameText, tag_in, fen_tag, IsStart, St
 use Rattle.pgn_game.proofs.Common.{Bor, IsContents, get_or, take, ◌+◌, ◌≤◌, take_more, take_all}
 use Rattle.pgn_game.proofs.EditedTags.{start_stays}
 use Rattle.pgn_game.proofs.OneMore.{get_more}
-use Rattle.pgn_game.proofs.exports.ExportFacts.{export_of}
+use Rattle.pgn_game.proofs.exports.ExportFacts.{line_export_of}
 use Rattle.pgn_text.specs.Public.GameTexts.{IsGameText, IsRetagged}
 use Rattle.pgn_game.specs.Public.Edits.{AreEditable, EditedTag, Edits, IsEditable, IsEditedBy}
 use Rattle.pgn_game.specs.Public.Edits.{all_edits, ply_count}
@@ -18,7 +18,8 @@ use Rattle.pgn_text.specs.Public.Strings.{Single, is_sign}
 use Rattle.pgn_game.proofs.PlainTokens.{AreDigits, decimal_digits}
 use Rattle.pgn_game.specs.Public.Edits.{IsTagged}
 use Rattle.pgn_game.specs.Public.Edits.{edit_of, edited_tag}
-use Rattle.pgn_game.specs.Public.Exports.{IsMovetext, IsOrderedExport}
+use Rattle.pgn_game.specs.Public.Exports.{IsLineExport, IsLineMovetext, IsMovetext}
+use Rattle.pgn_game.specs.Public.Exports.{IsOrderedExport}
 use Rattle.pgn_game.specs.Public.TagLines.{AreTagLines}
 use Rattle.pgn_game.specs.declared.exports.edits.TagEdit.{TagEdit}
 
@@ -132,18 +133,18 @@ given_contents edit None able is = tt
 given_contents edit (Some own) able is = subst (λ c. IfSome c IsContents) (sym is) able.contents
 
 -- the tags of the head that is edited, before the movetext of the game as it stands
-pub export_with : (style : Style) (edits : Edits) (game head : GameText) (start : State)
-    (lines movetext : List ℕ) → IsGameText game → IsGameText head
+pub line_export_with : (inside : Bool) (style : Style) (edits : Edits) (game head : GameText)
+    (start : State) (lines movetext : List ℕ) → IsGameText game → IsGameText head
     → IsStart (tag_in fen_tag game.tags) start
     → AreEditable (all_edits edits game)
     → IsEditedBy (all_edits edits game) (record game { elements = [] }) head
     → tag_in fen_tag head.tags ≡ tag_in fen_tag game.tags
     → AreTagLines edits.order style head.tags head.result lines
-    → IsMovetext style start game movetext
+    → IsLineMovetext inside style start game movetext
     → (own : GameText) × IsTagged edits game own
-    × IsOrderedExport edits.order style own (lines ++ 10 ∷ (movetext ++ 10 ∷ []))
-export_with style edits game head start lines movetext good fine is_start able is fen tags
-    is_movetext = (
+    × IsLineExport inside edits.order style own (lines ++ 10 ∷ (movetext ++ 10 ∷ []))
+line_export_with inside style edits game head start lines movetext good fine is_start able is fen
+    tags is_movetext = (
       record head { elements = game.elements },
       (
         λ _. (
@@ -164,9 +165,21 @@ export_with style edits game head start lines movetext good fine is_start able i
         ),
         λ none. absurd (none able),
       ),
-      export_of edits.order style (record head { elements = game.elements }) start lines movetext
-          (rw fen is_start) tags (rw is.result is_movetext),
+      line_export_of inside edits.order style (record head { elements = game.elements }) start
+          lines movetext (rw fen is_start) tags (rw is.result is_movetext),
     )
+
+pub export_with : (style : Style) (edits : Edits) (game head : GameText) (start : State)
+    (lines movetext : List ℕ) → IsGameText game → IsGameText head
+    → IsStart (tag_in fen_tag game.tags) start
+    → AreEditable (all_edits edits game)
+    → IsEditedBy (all_edits edits game) (record game { elements = [] }) head
+    → tag_in fen_tag head.tags ≡ tag_in fen_tag game.tags
+    → AreTagLines edits.order style head.tags head.result lines
+    → IsMovetext style start game movetext
+    → (own : GameText) × IsTagged edits game own
+    × IsOrderedExport edits.order style own (lines ++ 10 ∷ (movetext ++ 10 ∷ []))
+export_with = line_export_with false
 
 -- the edit at a place may be made
 pub editable_there : (items : List TagEdit) (place : ℕ) (d : TagEdit) → place < length items

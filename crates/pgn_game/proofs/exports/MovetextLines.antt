@@ -272,25 +272,26 @@ skipped (ThenVariation inner line) more depth inside =
     ∙ ap (outside (spelled line ++ more)) back ∙ skipped line more depth inside
 
 -- the line has tokens, and they are written
-record WrittenMain (style : Style) (apart : Bool) (at : Level) (line : Line)
+record WrittenMain (style : Style) (apart : Bool) (at : Level) (outer : List Level) (line : Line)
     (old new : MovetextWriter) : Type 0 where
   own : List (List ℕ)
   put : HasPut old.wrapper new.wrapper old.out.items new.out.items own
-  tokens : AreTokens style false at.before at.now apart line own
+  tokens : AreTokens style (is_inside outer) at.before at.now apart line own
 
 module _ (style : Style) where
-  main_written : (line : Line) (apart : Bool) (at : Level) (steps : List Step)
-      (old new : MovetextWriter) → style.variations ≡ false → old.style ≡ style → old.apart ≡ apart
-      → Walks (outside (spelled line) 0) at [] steps → Visits WritesStep old steps new
-      → WrittenMain style apart at line old new
-  main_written LineEnd apart at steps old new hidden same stands none visits =
+  main_written : (line : Line) (apart : Bool) (at : Level) (outer : List Level)
+      (steps : List Step) (old new : MovetextWriter) → style.variations ≡ false
+      → old.style ≡ style → old.apart ≡ apart
+      → Walks (outside (spelled line) 0) at outer steps → Visits WritesStep old steps new
+      → WrittenMain style apart at outer line old new
+  main_written LineEnd apart at outer steps old new hidden same stands none visits =
       let last : new ≡ old = subst (λ ss. Visits WritesStep old ss new) none visits in
       record {
         own = [];
         put = rw last (λ more. refl);
         tokens = refl;
       }
-  main_written (ThenMove word line) apart at steps old new hidden same stands (
+  main_written (ThenMove word line) apart at outer steps old new hidden same stands (
     turn,
     more,
     is,
@@ -301,7 +302,7 @@ module _ (style : Style) where
       let text = first.1.0 in
       let puts = first.1.2 in
       let there =
-      main_written line false (gone_on at turn) more first.0 new hidden (puts.same
+      main_written line false (gone_on at turn) outer more first.0 new hidden (puts.same
       ∙ same) puts.stands walks first.2 in
       let number = number_tokens at.now.turn at.now.fullmove_number apart in
       let put : HasPut old.wrapper first.0.wrapper old.out.items first.0.out.items (number
@@ -316,7 +317,7 @@ module _ (style : Style) where
             (number ++ text ∷ []) there.own put there.put);
         tokens = (turn, text, there.own, says, first.1.1, refl, there.tokens);
       }
-  main_written (ThenGlyph number line) apart at steps old new hidden same stands (
+  main_written (ThenGlyph number line) apart at outer steps old new hidden same stands (
     more,
     is,
     walks,
@@ -324,7 +325,7 @@ module _ (style : Style) where
       let first = subst (λ ss. Visits WritesStep old ss new) is visits in
       let puts = first.1 in
       let there =
-      main_written line apart at more first.0 new hidden (puts.same ∙ same) (puts.stands
+      main_written line apart at outer more first.0 new hidden (puts.same ∙ same) (puts.stands
       ∙ stands) walks first.2 in
       let glyph = kept style.glyphs ((36 ∷ decimal number) ∷ []) in
       let put : HasPut old.wrapper first.0.wrapper old.out.items first.0.out.items glyph =
@@ -336,7 +337,7 @@ module _ (style : Style) where
             glyph there.own put there.put;
         tokens = (there.own, refl, there.tokens);
       }
-  main_written (ThenComment text line) apart at steps old new hidden same stands (
+  main_written (ThenComment text line) apart at outer steps old new hidden same stands (
     more,
     is,
     walks,
@@ -344,8 +345,8 @@ module _ (style : Style) where
       let first = subst (λ ss. Visits WritesStep old ss new) is visits in
       let puts = first.1 in
       let there =
-      main_written line (apart || shows style text) at more first.0 new hidden (puts.same ∙ same)
-      (puts.stands ∙ ap (λ a. a || shows old.style text) stands
+      main_written line (apart || shows style text) at outer more first.0 new hidden
+      (puts.same ∙ same) (puts.stands ∙ ap (λ a. a || shows old.style text) stands
       ∙ ap (λ (s : Style). apart || shows s text) same) walks first.2 in
       let remark = kept (shows style text) (shown_tokens style.commands text) in
       let put : HasPut old.wrapper first.0.wrapper old.out.items first.0.out.items remark =
@@ -357,8 +358,9 @@ module _ (style : Style) where
             remark there.own put there.put;
         tokens = (there.own, refl, there.tokens);
       }
-  main_written (ThenVariation inner line) apart at steps old new hidden same stands walks visits =
-      let there = main_written line apart at steps old new hidden same stands
+  main_written (ThenVariation inner line) apart at outer steps old new hidden same stands walks
+      visits =
+      let there = main_written line apart at outer steps old new hidden same stands
       (rw (← (skipped inner (VariationClose ∷ spelled line) 1 (omega arith))) walks) visits in
       record {
         own = there.own;
@@ -368,38 +370,38 @@ module _ (style : Style) where
           there.own,
           ap (λ b. kept b (codes "(" ∷ codes ")" ∷ []) ++ there.own) (sym hidden),
           (λ shown. let never : true ≡ false = sym shown ∙ hidden in absurd (cc)),
-          subst (λ a. AreTokens style false at.before at.now a line there.own) (or_comm false apart
-              ∙ ap (λ b. apart || b) (sym hidden)) there.tokens,
+          subst (λ a. AreTokens style (is_inside outer) at.before at.now a line there.own)
+              (or_comm false apart ∙ ap (λ b. apart || b) (sym hidden)) there.tokens,
         );
       }
 
 -- ---- the tokens of a game
 
 -- the elements have tokens, and they are written
-pub record WrittenTokens (style : Style) (start : State) (items : List Item)
+pub record WrittenTokens (style : Style) (start : State) (items : List Item) (outer : List Level)
     (old new : MovetextWriter) : Type 0 where
   pub line : Line
   pub own : List (List ℕ)
   pub spells : items ≡ spelled line
-  pub tokens : AreTokens style false start start true line own
+  pub tokens : AreTokens style (is_inside outer) start start true line own
   pub put : HasPut old.wrapper new.wrapper old.out.items new.out.items own
 
-pub written_tokens : (start : State) (items : List Item) (steps : List Step)
+pub written_tokens : (start : State) (items : List Item) (outer : List Level) (steps : List Step)
     (old new : MovetextWriter) → IsPaired 0 items → old.apart ≡ true
-    → Walks (shown_items old.style.variations 0 items) (first_level start) [] steps
-    → Visits WritesStep old steps new → WrittenTokens old.style start items old new
-written_tokens start items steps old new paired stands on visits =
+    → Walks (shown_items old.style.variations 0 items) (first_level start) outer steps
+    → Visits WritesStep old steps new → WrittenTokens old.style start items outer old new
+written_tokens start items outer steps old new paired stands on visits =
     let spelt = one_spelt items paired in
     let walks = rw spelt.1 at on in
     by old.style.variations refl spelt.0 spelt.1 walks
   where
     by : (variations : Bool) → old.style.variations ≡ variations → (line : Line)
         → items ≡ spelled line
-        → Walks (shown_items variations 0 (spelled line)) (first_level start) [] steps
-        → WrittenTokens old.style start items old new
+        → Walks (shown_items variations 0 (spelled line)) (first_level start) outer steps
+        → WrittenTokens old.style start items outer old new
     by true shown line spells walks =
         let there =
-        line_written old.style line [] true (first_level start) [] steps old new shown refl
+        line_written old.style line [] true (first_level start) outer steps old new shown refl
         stands
         (rw (← (append-nil (spelled line))) at walks) visits in
         let last : new ≡ there.mid =
@@ -413,8 +415,8 @@ written_tokens start items steps old new paired stands on visits =
         }
     by false hidden line spells walks =
         let there =
-        main_written old.style line true (first_level start) steps old new hidden refl stands
-        walks visits in
+        main_written old.style line true (first_level start) outer steps old new hidden refl
+        stands walks visits in
         record {
           line = line;
           own = there.own;

@@ -4,8 +4,8 @@ use Rattle.pgn_game.proofs.Common.{◌≡◌, ℕ, Bool, true, false, ◌&&◌, 
 use Rattle.pgn_game.proofs.Common.{ap, ◌∙◌, subst, codes, decimal, State, one_san, Line, LineEnd}
 use Rattle.pgn_game.proofs.Common.{ThenMove, ThenGlyph, ThenComment, ThenVariation, is_pass}
 use Rattle.pgn_game.proofs.Common.{after_turn, shows, shown_tokens, number_tokens, IsTurnText, kept}
-use Rattle.pgn_game.proofs.Common.{AreTokens, Style, LineMove, Played, Passed}
-use Rattle.pgn_game.specs.Public.Exports.{MovetextHasOneList}
+use Rattle.pgn_game.proofs.Common.{AreTokens, Item, Style, LineMove, Played, Passed}
+use Rattle.pgn_game.specs.Public.Exports.{AreLineTokens, MovetextHasOneList}
 use Rattle.pgn_game.proofs.OneLine.{one_turn}
 use Rattle.pgn_game.proofs.Spelling.{one_tree}
 
@@ -72,8 +72,11 @@ one_list (ThenVariation inner line) style inside before now apart tokens others 
     ++ ts) (one_list line style inside before now (apart
     || style.variations) more more2 rest rest2) ∙ sym is2
 
-pub one_movetext : MovetextHasOneList
-one_movetext style start items result tokens others (line, own, is, are, all) (
+pub one_line_movetext : (inside : Bool) (style : Style) (start : State) (items : List Item)
+    (result : List ℕ) (tokens others : List (List ℕ))
+    → AreLineTokens inside style start items result tokens
+    → AreLineTokens inside style start items result others → tokens ≡ others
+one_line_movetext inside style start items result tokens others (line, own, is, are, all) (
   line2,
   own2,
   is2,
@@ -82,5 +85,8 @@ one_movetext style start items result tokens others (line, own, is, are, all) (
 ) =
     let same : line2 ≡ line = one_tree line2 line (sym is2 ∙ is) in
     all ∙ ap (λ ts. ts ++ result
-    ∷ []) (one_list line style false start start true own own2 are
-    (subst (λ l. AreTokens style false start start true l own2) same are2)) ∙ sym all2
+    ∷ []) (one_list line style inside start start true own own2 are
+    (subst (λ l. AreTokens style inside start start true l own2) same are2)) ∙ sym all2
+
+pub one_movetext : MovetextHasOneList
+one_movetext = one_line_movetext false

@@ -1,8 +1,9 @@
--- How edits are stored.
-use Rattle.std.specs.Prelude.{ℕ, Bool, List, Option, refl}
+-- How edits are stored, and what they leave of a game.
+use Rattle.std.specs.Prelude.{ℕ, Bool, List, Option, Some, None, refl}
 use Rattle.std.specs.Coded.{Coded, coded_ℕ, coded_list, coded_option, coded×, code_by}
 use Rattle.std.specs.Coded.{coded_bool}
-use Rattle.pgn_game.specs.Public.Edits.{EditedTag, Edits}
+use Rattle.pgn_text.specs.Public.Games.{Item}
+use Rattle.pgn_game.specs.Public.Edits.{EditedTag, Edits, first_plies}
 
 -- an edit is stored as its name and its contents
 abbrev pub coded_edit : Coded EditedTag
@@ -20,3 +21,8 @@ coded_edits =
     (λ e. ((e.tags, e.counts_plies), (e.last_ply, e.order)))
     (λ p. record { tags = p.0.0; counts_plies = p.0.1; last_ply = p.1.0; order = p.1.1 })
     (λ _. refl)
+
+-- the elements up to the last ply that is written, or all
+abbrev pub plies_up_to : Option ℕ → List Item → List Item
+plies_up_to None items = items
+plies_up_to (Some plies) items = first_plies plies 0 items

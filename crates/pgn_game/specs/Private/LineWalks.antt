@@ -26,6 +26,11 @@ begun level = record { before = level.before; now = level.before; plies = level.
 abbrev pub first_level : State → Level
 first_level start = record { before = start; now = start; plies = 0 }
 
+-- the lines around the first one of a walk: where that is a variation, one that begins with it
+abbrev pub lines_around : Bool → State → List Level
+lines_around false start = []
+lines_around true start = first_level start ∷ []
+
 -- with these lines around this one, what is left of the elements is played by these turns
 abbrev pub Runs : List Item → Level → List Level → List LineMove → Type 0
 Runs [] level outer turns = turns ≡ []

@@ -1,13 +1,18 @@
 -- The movetext while it is written: what is written at each step. Nothing but the proof of its
 -- writer cites these.
-use Rattle.std.specs.Prelude.{◌≡◌, ◌||◌, ℕ, Bool, true, false, codes, decimal, List, [], ◌∷◌, ◌++◌}
-use Rattle.pgn_text.specs.Public.Games.{MoveText, GlyphNumber, CommentText, VariationOpen}
+use Rattle.std.specs.Prelude.{◌≡◌, ◌⊎◌, ◌||◌, ℕ, Bool, true, false, codes, decimal, List, [], ◌∷◌}
+use Rattle.std.specs.Prelude.{◌++◌, Option}
+use Rattle.chess.specs.Public.Positions.{State}
+use Rattle.pgn_text.specs.Public.Games.{Item, MoveText, GlyphNumber, CommentText, VariationOpen}
 use Rattle.pgn_text.specs.Public.Games.{VariationClose}
 use Rattle.pgn_game.specs.Public.Comments.{shown_tokens}
 use Rattle.pgn_game.specs.Public.Exports.{number_tokens, IsTurnText, kept}
 use Rattle.pgn_game.specs.Public.Exports.{shows}
+use Rattle.pgn_game.specs.Public.Faults.{BadStart, Fault}
+use Rattle.pgn_game.specs.Public.Starts.{IsBadStart, IsStart}
+use Rattle.pgn_game.specs.Private.LineWalks.{Stops, first_level, lines_around}
 use Rattle.pgn_game.specs.Private.LineWrappers.{HasPut}
-use Rattle.pgn_game.specs.Private.Steps.{Step, Turned, Beside}
+use Rattle.pgn_game.specs.Private.Steps.{Step, Turned, Beside, shown_items}
 use Rattle.pgn_game.specs.declared.exports.movetext.MovetextWriter.{MovetextWriter}
 use Rattle.pgn_game.specs.declared.exports.style.Style.{Style}
 
@@ -40,3 +45,11 @@ WritesStep old (Beside (CommentText text)) new =
     (old.apart || shows old.style text)
 WritesStep old (Beside VariationOpen) new = Puts old new (codes "(" ∷ []) true
 WritesStep old (Beside VariationClose) new = Puts old new (codes ")" ∷ []) true
+
+-- the lines of these elements that are written have the fault, where the first one is a variation
+-- or the main line
+abbrev pub IsFaultOfLine : Bool → Bool → Option (List ℕ) → List Item → Fault → Type 0
+IsFaultOfLine inside variations fen items fault =
+    (IsBadStart fen × (fault ≡ BadStart))
+    ⊎ ((start : State) × IsStart fen start
+    × Stops (shown_items variations 0 items) (first_level start) (lines_around inside start) fault)

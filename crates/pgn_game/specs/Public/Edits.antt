@@ -1,5 +1,6 @@
 -- Edits of the tags of a game that is written.
-use Rattle.std.specs.Prelude.{◌≡◌, ℕ, Bool, List, [], ◌∷◌, ◌++◌, Option, Some, None, IfSome, IsTrue}
+use Rattle.std.specs.Prelude.{◌≡◌, ℕ, Bool, false, List, [], ◌∷◌, ◌++◌, Option, Some, None, IfSome}
+use Rattle.std.specs.Prelude.{IsTrue}
 use Rattle.std.specs.Prelude.{if◌then◌else◌, bytes_eq, codes, decimal, length, option_map}
 use Rattle.std.specs.Prelude.{◌+◌, ◌-◌, ◌==◌}
 use Rattle.std.specs.List.{list_all, slice_get}
@@ -8,7 +9,7 @@ use Rattle.pgn_text.specs.Public.GameTexts.{GameText, IsGameText, tag_in}
 use Rattle.pgn_text.specs.Public.Strings.{IsContents}
 use Rattle.pgn_text.specs.Public.Games.{Item, MoveText, GlyphNumber, CommentText, VariationOpen}
 use Rattle.pgn_text.specs.Public.Games.{VariationClose}
-use Rattle.pgn_game.specs.Public.Exports.{IsOrderedExport}
+use Rattle.pgn_game.specs.Public.Exports.{IsLineExport}
 use Rattle.pgn_game.specs.Public.MainLines.{main_words}
 use Rattle.pgn_game.specs.Public.Starts.{fen_tag}
 use Rattle.pgn_game.specs.declared.exports.edits.TagEdit.{TagEdit}
@@ -112,7 +113,11 @@ abbrev pub order_of : Option Edits → List (List ℕ)
 order_of None = []
 order_of (Some edits) = edits.order
 
--- the text is the export in the style of the game once it is edited
+-- the text is the export in the style of the game once it is edited; `inside` where its first line
+-- is a variation
+abbrev pub IsEditedLine : Bool → Option Edits → Style → GameText → List ℕ → Type 0
+IsEditedLine inside edits style game text = (own : GameText) × IsEdited edits game own
+    × IsLineExport inside (order_of edits) style own text
+
 abbrev pub IsEditedExport : Option Edits → Style → GameText → List ℕ → Type 0
-IsEditedExport edits style game text = (own : GameText) × IsEdited edits game own
-    × IsOrderedExport (order_of edits) style own text
+IsEditedExport = IsEditedLine false

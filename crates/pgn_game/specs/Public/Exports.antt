@@ -64,17 +64,25 @@ AreTokens style inside before now apart (ThenVariation inner rest) tokens =
     × (style.variations ≡ true → AreTokens style true before before true inner own)
     × AreTokens style inside before now (apart || style.variations) rest more
 
--- the tokens of the movetext: those of the lines, and then the result
-abbrev pub AreMovetextTokens : Style → State → List Item → List ℕ → List (List ℕ) → Type 0
-AreMovetextTokens style start items result tokens =
+-- the tokens of a movetext: those of the lines, and then the result. `inside` where the first line,
+-- which is played from the start, is a variation: a pass may be made in it
+abbrev pub AreLineTokens : Bool → Style → State → List Item → List ℕ → List (List ℕ) → Type 0
+AreLineTokens inside style start items result tokens =
     (line : Line) × (own : List (List ℕ)) × (items ≡ spelled line)
-    × AreTokens style false start start true line own × (tokens ≡ own ++ result ∷ [])
+    × AreTokens style inside start start true line own × (tokens ≡ own ++ result ∷ [])
+
+-- those of a game: its first line is the main line
+abbrev pub AreMovetextTokens : Style → State → List Item → List ℕ → List (List ℕ) → Type 0
+AreMovetextTokens = AreLineTokens false
 
 -- the text is the movetext of the game in the style, played from this start
-abbrev pub IsMovetext : Style → State → GameText → List ℕ → Type 0
-IsMovetext style start game text = (tokens : List (List ℕ))
-    × AreMovetextTokens style start game.elements game.result tokens
+abbrev pub IsLineMovetext : Bool → Style → State → GameText → List ℕ → Type 0
+IsLineMovetext inside style start game text = (tokens : List (List ℕ))
+    × AreLineTokens inside style start game.elements game.result tokens
     × IsLaid style.width tokens text
+
+abbrev pub IsMovetext : Style → State → GameText → List ℕ → Type 0
+IsMovetext = IsLineMovetext false
 
 -- the lines of a game that are written, where variations are kept or left out
 abbrev pub lines_with : Bool → Lines
@@ -88,17 +96,20 @@ IsReplayFor style fen items replay = (lines : Lines) × (style.variations ≡ tr
 
 -- the text is the export of the game in the style, where some tags are asked for first: its tag
 -- lines, an empty line, the lines of its movetext, and an empty line
-pub record IsOrderedExport (order : List (List ℕ)) (style : Style) (game : GameText)
+pub record IsLineExport (inside : Bool) (order : List (List ℕ)) (style : Style) (game : GameText)
     (text : List ℕ) : Type 0 where
   pub start : State
   pub is_start : IsStart (tag_in fen_tag game.tags) start
   pub head : List ℕ
   pub tags : AreTagLines order style game.tags game.result head
   pub tokens : List (List ℕ)
-  pub are_tokens : AreMovetextTokens style start game.elements game.result tokens
+  pub are_tokens : AreLineTokens inside style start game.elements game.result tokens
   pub movetext : List ℕ
   pub laid : IsLaid style.width tokens movetext
   pub spells : text ≡ head ++ 10 ∷ (movetext ++ 10 ∷ [])
+
+abbrev pub IsOrderedExport : List (List ℕ) → Style → GameText → List ℕ → Type 0
+IsOrderedExport = IsLineExport false
 
 -- the text is the export of the game in the style
 abbrev pub IsExport : Style → GameText → List ℕ → Type 0

@@ -1,7 +1,7 @@
 -- What holds of every game, whatever replays it.
 use Rattle.std.specs.Prelude.{◌≡◌, ◌⊎◌, ℕ, ◌+◌, ◌/◌, ◌%◌, ◌^◌, ◌==◌, ◌<◌, ◌≤◌, List, [], ◌∷◌, ◌++◌}
 use Rattle.std.specs.Prelude.{◌↔◌, length, Option, Some, IfSome, IsSome, IsTrue, is_some, take}
-use Rattle.std.specs.Prelude.{drop}
+use Rattle.std.specs.Prelude.{drop, IsPermutation}
 use Rattle.std.specs.List.{slice_get, AllByRecursion}
 use Rattle.chess.specs.Public.Positions.{State}
 use Rattle.chess.specs.Public.Moves.{after, IsPseudoLegal}
@@ -17,7 +17,8 @@ use Rattle.pgn_text.specs.Public.Parts.{Part}
 use Rattle.pgn_text.specs.Public.Strings.{IsContents}
 use Rattle.pgn_game.specs.Public.AllLines.{Line, spelled, own_words}
 use Rattle.pgn_game.specs.Public.MainLines.{main_words}
-use Rattle.pgn_game.specs.Public.Edits.{first_plies}
+use Rattle.pgn_game.specs.Public.Edits.{Edits, first_plies}
+use Rattle.pgn_game.specs.Public.LineGames.{AreLineExports, LineGame, lines_of}
 use Rattle.pgn_game.specs.Public.LaterPlies.{later_plies}
 use Rattle.pgn_game.specs.Public.TagLines.{in_order, is_among}
 use Rattle.pgn_game.specs.Public.Faults.{Fault, IsFault}
@@ -114,6 +115,32 @@ abbrev pub OpeningIsThere : Type 0
 OpeningIsThere = (ends positions : List State) (answer : Option Opening)
     → IsOpeningIn ends positions answer
     → IsSome answer ↔ ((ply : ℕ) × (line : ℕ) × EndsAt ends positions ply line)
+
+-- the elements but for the parentheses of variations
+abbrev pub without_parentheses : List Item → List Item
+without_parentheses [] = []
+without_parentheses (MoveText word ∷ items) = MoveText word ∷ without_parentheses items
+without_parentheses (GlyphNumber number ∷ items) = GlyphNumber number ∷ without_parentheses items
+without_parentheses (CommentText text ∷ items) = CommentText text ∷ without_parentheses items
+without_parentheses (VariationOpen ∷ items) = without_parentheses items
+without_parentheses (VariationClose ∷ items) = without_parentheses items
+
+-- what is the lines' own, one line after the other
+abbrev pub own_parts : List LineGame → List Item
+own_parts [] = []
+own_parts (line ∷ more) = line.own ++ own_parts more
+
+-- each move, NAG and comment of a game is one line's own, and no other's: what is the lines' own is
+-- the elements of the game in another order
+abbrev pub EachElementIsOfOneLine : Type 0
+EachElementIsOfOneLine = (line : Line)
+    → IsPermutation (without_parentheses (spelled line)) (own_parts (lines_of line))
+
+-- after edits and in a style a game has one text of its lines at most
+abbrev pub LinesHaveOneText : Type 0
+LinesHaveOneText =
+    (edits : Option Edits) (style : Style) (game : GameText) (text other : List ℕ)
+    → AreLineExports edits style game text → AreLineExports edits style game other → text ≡ other
 
 -- these lines of a game have one fault at most
 abbrev pub GameHasOneFault : Type 0

@@ -6,6 +6,7 @@ ghost use Rattle.pgn_text.specs.Public.GameTexts.{GameText, tag_in};
 ghost use Rattle.pgn_game.specs.Public.Edits.{AreEditable, IsEditable, IsEditedBy};
 ghost use Rattle.pgn_game.specs.Public.Edits.{IsEditedExport, IsTagged, all_edits, edit_of};
 ghost use Rattle.pgn_game.specs.Public.Edits.{first_plies};
+ghost use Rattle.pgn_game.specs.Private.Editing.{plies_up_to};
 ghost use Rattle.pgn_game.specs.Public.Exports.{IsOrderedExport, lines_with};
 ghost use Rattle.pgn_game.specs.Public.Faults.{IsFault};
 ghost use Rattle.pgn_game.specs.Public.Replays.{IsSoundGame, fault_of};
@@ -107,6 +108,23 @@ impl TagEdits {
         Ok(self)
     }
 
+    /// The names of the tags that stand first after the roster.
+    pub(crate) fn order(&self) -> &[Vec<u8>]
+        ensures { map (λ name. name.items) result.now ≡ self.now.order }
+    {
+        &self.order
+    }
+
+    /// Leaves the elements out that stand after the last ply that is written.
+    pub(crate) fn cut(&self, elements: &mut Vec<Element<'_>>)
+        ensures { map item_of elements.new.items
+            ≡ plies_up_to self.now.last_ply (map item_of elements.old.items) }
+    {
+        if let Some(last_ply) = self.last_ply {
+            elements.truncate(end_of_plies(elements, last_ply));
+        }
+    }
+
     /// The head of the game after the edits but for that of PlyCount.
     fn head_of<'b>(
         &'b self,
@@ -126,7 +144,7 @@ impl TagEdits {
 
     /// The head of the game after all edits, with the digits of its plies in the buffer where they
     /// are counted. It starts where it did.
-    fn counted_head<'b>(
+    pub(crate) fn counted_head<'b>(
         &'b self,
         alloc: Global,
         game: &'b RawGame<'_>,

@@ -125,7 +125,7 @@ pub(crate) fn play_movetext<'a>(
 
 /// Appends the tags of the game, with those first that are asked for first, an empty line, this
 /// movetext and an empty line; where memory is refused, some bytes of these.
-fn put_parts(
+pub(crate) fn put_parts(
     game: &RawGame,
     order: &[Vec<u8>],
     movetext: &[u8],

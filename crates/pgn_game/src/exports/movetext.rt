@@ -1,14 +1,17 @@
 //! The movetext of a game, written at each step of a walk over its lines.
 ghost use Rattle.std.specs.Prelude.{◌≡◌, ◌++◌, ◌∷◌, ℕ, List, [], codes, decimal, false, map, true};
-ghost use Rattle.std.specs.Prelude.{IfErr, IfSome, MatchResult, OnOk, ◌||◌};
+ghost use Rattle.std.specs.Prelude.{IfErr, IfOk, IfSome, MatchResult, OnOk, ◌||◌};
 ghost use Rattle.pgn_text.specs.Public.Elements.{item_of};
-ghost use Rattle.pgn_text.specs.Public.GameTexts.{IsPaired};
+ghost use Rattle.chess.specs.Public.Positions.{State};
+ghost use Rattle.pgn_text.specs.Public.GameTexts.{IsPaired, tag_in};
 ghost use Rattle.pgn_game.specs.Public.Comments.{is_written, shown_tokens};
 ghost use Rattle.pgn_game.specs.Public.Exports.{kept, lines_with, number_tokens, IsMovetext};
+ghost use Rattle.pgn_game.specs.Public.Exports.{IsLineMovetext};
 ghost use Rattle.pgn_game.specs.Public.Faults.{HasLineFault};
 ghost use Rattle.pgn_game.specs.Public.Replays.{fault_of};
+ghost use Rattle.pgn_game.specs.Public.Starts.{IsStart, fen_tag};
 ghost use Rattle.pgn_game.specs.Private.LineWalks.{first_level};
-ghost use Rattle.pgn_game.specs.Private.MovetextWalks.{IsNew, Puts, WritesStep};
+ghost use Rattle.pgn_game.specs.Private.MovetextWalks.{IsFaultOfLine, IsNew, Puts, WritesStep};
 ghost use Rattle.pgn_game.specs.Private.Steps.{Step, Visits, Walks, shown_items};
 
 use crate::exports::comment::{put_comment, put_left};
@@ -16,10 +19,11 @@ use crate::exports::line_wrapper::LineWrapper;
 use crate::exports::style::{Commands, Style};
 use crate::exports::tokens::{play_turn_san, put_glyph, put_number};
 use crate::replays::line_stack::LineStack;
-use crate::replays::walk::{Level, StepVisitor, walk};
+use crate::replays::walk::{Level, StepVisitor, first_line, walk};
 use crate::turns::fault::GameFault;
 use crate::turns::line_move::LineMove;
 use crate::turns::replayed::GamePosition;
+use crate::turns::starting::starting_position;
 use arrayvec::ArrayString;
 use chess::Side;
 use pgn_text::{Element, RawGame};
@@ -189,4 +193,33 @@ pub(crate) fn put_movetext<'a>(
     *out = text;
     walked?;
     Ok(wrapper.put_last(out, game.result())?)
+}
+
+/// The movetext in the style of a game that is one line, which is a variation or not; or the first
+/// fault of it.
+pub(crate) fn play_line<'a>(
+    alloc: Global,
+    line: &RawGame<'a>,
+    inside: bool,
+    style: &Style,
+) -> Result<Vec<u8>, GameFault<'a>>
+    ensures text { IfOk result (λ movetext. (start : State)
+        × IsStart (tag_in fen_tag line.now.tags) start
+        × IsLineMovetext inside style.now start line.now movetext.items) }
+    ensures fault { IfErr result (λ fault.
+        IfSome (fault_of fault)
+        (IsFaultOfLine inside style.now.variations (tag_in fen_tag line.now.tags)
+        line.now.elements)) }
+{
+    let start = starting_position(alloc, line.tags())?;
+    let mut stack = first_line(alloc, &start, inside)?;
+    let mut writer = MovetextWriter::new(alloc, Vec::new(alloc), style);
+    walk(&mut stack, line.elements(), style.variations, &mut writer)?;
+    let MovetextWriter {
+        out: mut movetext,
+        mut wrapper,
+        ..
+    } = writer;
+    wrapper.put_last(&mut movetext, line.result())?;
+    Ok(movetext)
 }

@@ -1,6 +1,6 @@
 //! One walk over the lines of a game, with a visitor of its steps.
 ghost use Rattle.std.specs.Prelude.{◌≡◌, Bool, ◌+◌, ◌≤◌, ◌<◌, ◌∷◌, ◌++◌, ℕ, List, [], map};
-ghost use Rattle.std.specs.Prelude.{MatchResult, IfErr, IfSome, OnOk};
+ghost use Rattle.std.specs.Prelude.{MatchResult, IfErr, IfOk, IfSome, OnOk};
 ghost use Rattle.pgn_text.specs.Public.Elements.{item_of};
 ghost use Rattle.pgn_text.specs.Public.GameTexts.{IsPaired};
 ghost use Rattle.pgn_text.specs.Public.Games.{Item};
@@ -9,6 +9,7 @@ ghost use Rattle.pgn_game.specs.Public.Faults.{Fault, HaveFault, IsRefusedTurn};
 ghost use Rattle.pgn_game.specs.Public.Replays.{fault_of};
 ghost use Rattle.pgn_game.specs.declared.replays.walk.Level.{Level};
 ghost use Rattle.pgn_game.specs.Private.LineWalks.{begun, first_level, gone_on, is_inside};
+ghost use Rattle.pgn_game.specs.Private.LineWalks.{lines_around};
 ghost use Rattle.pgn_game.specs.Private.Steps.{Beside, IsNoMove, LeadsAt, Step, StopsAt, Turned};
 ghost use Rattle.pgn_game.specs.Private.Steps.{Visits, Walks, WalksOn, around, shown_if};
 ghost use Rattle.pgn_game.specs.Private.Steps.{shown_items, IsWithin};
@@ -43,6 +44,22 @@ impl Level {
             plies: 0,
         }
     }
+}
+
+/// A line before its first turn: the main line, or a variation as the first line of a walk.
+pub(crate) fn first_line(
+    alloc: Global,
+    start: &GamePosition,
+    inside: bool,
+) -> Result<LineStack<Level>, AllocError>
+    ensures line { IfOk result (λ stack. stack.line ≡ first_level start.now) }
+    ensures around { IfOk result (λ stack. around stack ≡ lines_around inside start.now) }
+{
+    let mut stack = LineStack::new(alloc, Level::first(start));
+    if inside {
+        stack.push(Level::first(start))?;
+    }
+    Ok(stack)
 }
 
 /// What is done at the steps of a walk, in the order of the text.
@@ -209,7 +226,7 @@ pub(crate) fn walk<'a, V: StepVisitor>(
     variations: bool,
     visitor: &mut V,
 ) -> Result<(), GameFault<'a>>
-    requires begun { (stack.old.line.plies ≡ 0) × (around stack.old ≡ []) }
+    requires begun { IsWithin 0 stack.old }
     ensures walked { MatchResult result
         (λ _. (steps : List Step)
         × WalksOn stack.old (shown_items variations 0 (map item_of elements.now)) steps

@@ -1,6 +1,6 @@
 use Rattle.pgn_game.proofs.Common.{◌+◌, ◌≤◌, ◌∷◌, ◌++◌, [], drop, map, refl, sym, ap, ◌∙◌, subst}
 use Rattle.pgn_game.proofs.Common.{append-nil, append_assoc, arith, IfSome_then}
-use Rattle.pgn_game.proofs.Common.{err_from_is_err_and, item_of, AreWithin, StopsAt, WalksOn}
+use Rattle.pgn_game.proofs.Common.{err_from_is_err_and, item_of, StopsAt, WalksOn}
 use Rattle.pgn_game.proofs.Common.{around, shown_items}
 use Rattle.pgn_game.proofs.StepFacts.{none_shown, visits_one_more, within_more}
 use Rattle.pgn_game.proofs.WalkFacts.{items_step, items_end}
@@ -11,7 +11,7 @@ loop-element-init g c =
     record {
       done = ([], refl, λ more on. on);
       sticks = λ fault on. on;
-      within = (omega (arith, c.requires.begun.0), subst (AreWithin 0) (sym c.requires.begun.1) tt);
+      within = c.requires.begun;
       depth = omega arith;
       kept = ([], sym (append-nil (g.V.StepVisitor.text c.args.visitor.now)));
     }

@@ -1,0 +1,85 @@
+//! The lines of games as games of their own.
+use crate::games::rows::Says;
+use crate::support::rows_hold;
+use pgn_game::{Commands, GameFault, Style, TagEdits, export_lines};
+use pgn_text::RawGame;
+use std::alloc::Global;
+use std::str;
+use std::test::Fail;
+
+/// Everything is kept.
+const WHOLE: Style = Style {
+    comments: true,
+    commands: Commands::InWords,
+    glyphs: true,
+    variations: true,
+    roster_only: false,
+    width: 80,
+};
+
+/// What stands in the string of a tag line that begins so.
+fn contents<'a>(line: &'a str, front: &str) -> Option<&'a str> {
+    let (_, rest) = line.split_once(front)?;
+    let (contents, _) = rest.split_once("\"")?;
+    Some(contents)
+}
+
+/// Of an export the contents of Result, those of PlyCount and a p, and the lines of movetext, each
+/// of these before a semicolon.
+fn shown(alloc: Global, text: &[u8]) -> Option<Vec<u8>> {
+    let mut shown = Vec::new(alloc);
+    for line in str::from_utf8(text).ok()?.lines() {
+        if let Some(result) = contents(line, "[Result \"") {
+            shown.extend_from_slice(result.as_bytes()).ok()?;
+            shown.push(b' ').ok()?;
+        } else if let Some(plies) = contents(line, "[PlyCount \"") {
+            shown.extend_from_slice(plies.as_bytes()).ok()?;
+            shown.extend_from_slice(b"p ").ok()?;
+        } else if !line.is_empty() && !line.starts_with("[") {
+            shown.extend_from_slice(line.as_bytes()).ok()?;
+            shown.push(b';').ok()?;
+        }
+    }
+    Some(shown)
+}
+
+/// Whether the lines of the game are written so, up to this ply where it is a number; or are
+/// refused for a fault, and nothing is written.
+pub fn writes_lines(alloc: Global, game: &RawGame<'_>, columns: [&str; 5]) -> Option<bool> {
+    let [_, last_ply, wanted, ..] = columns;
+    let edits = match last_ply.parse::<u32>() {
+        Ok(last_ply) => Some(TagEdits::new(alloc, true, Some(last_ply))),
+        Err(_) => None,
+    };
+    let mut out = Vec::new(alloc);
+    match export_lines(alloc, game, edits.as_ref(), &WHOLE, &mut out) {
+        Ok(()) => Some(shown(alloc, &out)?.as_slice() == wanted.as_bytes()),
+        Err(GameFault::OutOfMemory) => None,
+        Err(_) => Some(wanted == "fault" && out.is_empty()),
+    }
+}
+
+/// A game, the last ply that is written, and its lines. Their moves are those that Debian's
+/// pgn-extract writes with --splitvariants.
+const LINES: &str = r#"
+1. e4 e5 1-0 | - | 1-0 1. e4 e5 1-0;
+1. e4 (1. d4 d5) e5 1-0 | - | 1-0 1. e4 e5 1-0;* 1. d4 d5 *;
+[Result "1-0"]\n\n1. e4 e5 (1... c5) 1-0 | - | 1-0 1. e4 e5 1-0;* 1. e4 c5 *;
+1. e4 (1. d4 d5 (1... f5 2. c4) 2. c4) * | - | * 1. e4 *;* 1. d4 d5 2. c4 *;* 1. d4 f5 2. c4 *;
+1. e4 (1. d4) (1. c4) e5 (1... c5) * | - | * 1. e4 e5 *;* 1. d4 *;* 1. c4 *;* 1. e4 c5 *;
+1. e4 (1. d4 (1. c4 (1. b4) c5) d5) * | - | * 1. e4 *;* 1. d4 d5 *;* 1. c4 c5 *;* 1. b4 *;
+1. e4 {a} e5 ({b} 1... c5 $1 {c}) * | - | * 1. e4 {a} 1... e5 *;* 1. e4 {b} 1... c5 $1 {c} *;
+1. e4 (1. d4 () d5) * | - | * 1. e4 *;* 1. d4 d5 *;* *;
+1. e4 e5 (1... -- 2. d4 Z0) * | - | * 1. e4 e5 *;* 1. e4 -- 2. d4 -- *;
+1. e4 (1. -- e5 (1... d5)) * | - | * 1. e4 *;* 1. -- e5 *;* 1. -- d5 *;
+[FEN "4k3/8/8/8/8/8/8/4K2R b K - 0 9"]\n\nKd7 (Kd8) * | - | * 9... Kd7 *;* 9... Kd8 *;
+1. e4 (1. d4 d5 2. c4) e5 2. Nf3 * | 2 | * 2p 1. e4 e5 *;* 2p 1. d4 d5 *;
+1. e4 e5 (1... c5) * | 1 | * 1p 1. e4 *;* 1p 1. e4 *;
+1. e4 (1. Qh5) e5 * | - | fault
+1. e4 -- * | - | fault
+"#;
+
+#[test]
+fn each_line_is_a_game(rt: HostRuntime) -> Result<(), Fail> {
+    rows_hold(&Says::Lines.over(rt.alloc()), LINES, 15)
+}
