@@ -29,64 +29,70 @@ _pgn_extract_options='--list --fen --next --rows --csv --tsv --jsonl --no-header
     --moves --uci --pack --criteria --where --openings --min-ply --max-ply --first --tags-first
     --others --faulty --as-is -C --no-comments --keep-commands --strip-commands -N --no-glyphs -V
     --no-variations --roster -w --width --set --drop --fix-results --plycount --order --to-ply
-    --from-position --explain --summary --progress --no-progress --from --until --at --with-names
-    --no-names -h --help --version'
+    --from-position --lines --explain --summary --progress --no-progress --from --until --at
+    --with-names --no-names -h --help --version'
 # Takes out what the program refuses beside an option.
 _pgn_extract_excluded() {
     case $1 in
     --list) _pgn_extract_without --rows --csv --tsv --jsonl --no-header --index --moves --uci \
         --pack --others --faulty --as-is --set --drop --fix-results --plycount --order --to-ply \
-        --from-position ;;
+        --from-position --lines ;;
     --fen) _pgn_extract_without --rows --csv --tsv --jsonl --no-header --index --moves --uci \
         --pack --others --faulty --as-is --set --drop --fix-results --plycount --order --to-ply \
-        --from-position ;;
+        --from-position --lines ;;
     --next) _pgn_extract_without --rows --csv --tsv --jsonl --no-header --index --moves --uci \
         --pack --others --faulty --as-is --set --drop --fix-results --plycount --order --to-ply \
-        --from-position ;;
+        --from-position --lines ;;
     --rows) _pgn_extract_without --list --fen --next --index --moves --uci --pack --others \
-        --faulty --as-is --set --drop --fix-results --plycount --order --to-ply --from-position ;;
+        --faulty --as-is --set --drop --fix-results --plycount --order --to-ply --from-position \
+        --lines ;;
     --csv) _pgn_extract_without --list --fen --next --tsv --jsonl --index --moves --uci --pack \
         --others --faulty --as-is --set --drop --fix-results --plycount --order --to-ply \
-        --from-position ;;
+        --from-position --lines ;;
     --tsv) _pgn_extract_without --list --fen --next --csv --jsonl --index --moves --uci --pack \
         --others --faulty --as-is --set --drop --fix-results --plycount --order --to-ply \
-        --from-position ;;
+        --from-position --lines ;;
     --jsonl) _pgn_extract_without --list --fen --next --csv --tsv --index --moves --uci --pack \
         --others --faulty --as-is --set --drop --fix-results --plycount --order --to-ply \
-        --from-position ;;
+        --from-position --lines ;;
     --no-header) _pgn_extract_without --list --fen --next --index --moves --uci --pack --others \
-        --faulty --as-is --set --drop --fix-results --plycount --order --to-ply --from-position ;;
+        --faulty --as-is --set --drop --fix-results --plycount --order --to-ply --from-position \
+        --lines ;;
     --packed) _pgn_extract_without --moves --uci --pack --tags-first --others --faulty --as-is \
-        --set --drop --fix-results --plycount --order --to-ply --from-position --from --until --at \
-        --with-names --no-names ;;
+        --set --drop --fix-results --plycount --order --to-ply --from-position --lines --from \
+        --until --at --with-names --no-names ;;
     --index) _pgn_extract_without --list --fen --next --rows --csv --tsv --jsonl --no-header \
         --moves --uci --pack --tags-first --others --faulty --as-is --set --drop --fix-results \
-        --plycount --order --to-ply --from-position ;;
+        --plycount --order --to-ply --from-position --lines ;;
     --moves) _pgn_extract_without --list --fen --next --rows --csv --tsv --jsonl --no-header \
         --packed --index --uci --pack --faulty --as-is --set --drop --fix-results --plycount \
-        --order --to-ply --from-position ;;
+        --order --to-ply --from-position --lines ;;
     --uci) _pgn_extract_without --list --fen --next --rows --csv --tsv --jsonl --no-header \
         --packed --index --moves --pack --faulty --as-is --set --drop --fix-results --plycount \
-        --order --to-ply --from-position ;;
+        --order --to-ply --from-position --lines ;;
     --pack) _pgn_extract_without --list --fen --next --rows --csv --tsv --jsonl --no-header \
         --packed --index --moves --uci --tags-first --faulty --as-is -C --no-comments \
         --keep-commands --strip-commands -N --no-glyphs -V --no-variations --roster -w --width \
-        --set --drop --fix-results --plycount --order --to-ply --from-position ;;
-    --openings) _pgn_extract_without --tags-first ;;
-    --tags-first) _pgn_extract_without --packed --index --pack --openings --others --faulty ;;
+        --set --drop --fix-results --plycount --order --to-ply --from-position --lines ;;
+    --criteria) _pgn_extract_without --lines ;;
+    --where) _pgn_extract_without --lines ;;
+    --openings) _pgn_extract_without --tags-first --lines ;;
+    --min-ply) _pgn_extract_without --lines ;;
+    --tags-first) _pgn_extract_without --packed --index --pack --openings --others --faulty \
+        --lines ;;
     --others) _pgn_extract_without --list --fen --next --rows --csv --tsv --jsonl --no-header \
-        --packed --index --tags-first --faulty --from-position ;;
+        --packed --index --tags-first --faulty --from-position --lines ;;
     --faulty) _pgn_extract_without --list --fen --next --rows --csv --tsv --jsonl --no-header \
         --packed --index --moves --uci --pack --tags-first --others --set --drop --fix-results \
-        --plycount --order --to-ply --from-position ;;
+        --plycount --order --to-ply --from-position --lines ;;
     --as-is) _pgn_extract_without --list --fen --next --rows --csv --tsv --jsonl --no-header \
         --packed --index --moves --uci --pack --set --drop --fix-results --plycount --order \
-        --to-ply --from-position ;;
+        --to-ply --from-position --lines ;;
     -C | --no-comments) _pgn_extract_without --pack ;;
     --keep-commands) _pgn_extract_without --pack --strip-commands ;;
     --strip-commands) _pgn_extract_without --pack --keep-commands ;;
     -N | --no-glyphs) _pgn_extract_without --pack ;;
-    -V | --no-variations) _pgn_extract_without --pack ;;
+    -V | --no-variations) _pgn_extract_without --pack --lines ;;
     --roster) _pgn_extract_without --pack ;;
     -w | --width) _pgn_extract_without --pack ;;
     --set) _pgn_extract_without --list --fen --next --rows --csv --tsv --jsonl --no-header \
@@ -102,7 +108,10 @@ _pgn_extract_excluded() {
     --to-ply) _pgn_extract_without --list --fen --next --rows --csv --tsv --jsonl --no-header \
         --packed --index --moves --uci --pack --faulty --as-is ;;
     --from-position) _pgn_extract_without --list --fen --next --rows --csv --tsv --jsonl \
-        --no-header --packed --index --moves --uci --pack --others --faulty --as-is ;;
+        --no-header --packed --index --moves --uci --pack --others --faulty --as-is --lines ;;
+    --lines) _pgn_extract_without --list --fen --next --rows --csv --tsv --jsonl --no-header \
+        --packed --index --moves --uci --pack --criteria --where --openings --min-ply --tags-first \
+        --others --faulty --as-is -V --no-variations --from-position ;;
     --progress) _pgn_extract_without --no-progress ;;
     --no-progress) _pgn_extract_without --progress ;;
     --from) _pgn_extract_without --packed ;;

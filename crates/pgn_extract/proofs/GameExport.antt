@@ -1,10 +1,10 @@
 -- A game that some parts make: there is one at most; and its export and its record are those of the
 -- game that is given where these parts stand.
 use Rattle.pgn_extract.proofs.Common.{◌≡◌, ℕ, List, Option, refl, sym, subst, ◌∙◌, GameText}
-use Rattle.pgn_extract.proofs.Common.{IsGameText, ShowsGame}
+use Rattle.pgn_extract.proofs.Common.{IsGameText, ShowsGame, Bool, false}
 use Rattle.pgn_extract.proofs.Common.{Part, IsRecordOf, Style, by_itself, IsGameOf}
 use Rattle.pgn_text.proofs.ShownOnce.{one_game_text}
-use Rattle.pgn_game.specs.Public.Exports.{IsOrderedExport}
+use Rattle.pgn_game.specs.Public.Exports.{IsLineExport, IsOrderedExport}
 
 pub one_game : (parts : List Part) (game other : GameText) → IsGameOf parts game
     → IsGameOf parts other → game ≡ other
@@ -41,9 +41,10 @@ own_game is shows = (
   },
 )
 
-pub own_export : (order : List (List ℕ)) (style : Style) (game : GameText) (text : List ℕ)
-    → IsOrderedExport order style game text → IsOrderedExport order style (by_itself game) text
-own_export order style game text own = record {
+pub own_line_export : (inside : Bool) (order : List (List ℕ)) (style : Style) (game : GameText)
+    (text : List ℕ) → IsLineExport inside order style game text
+    → IsLineExport inside order style (by_itself game) text
+own_line_export inside order style game text own = record {
   start = own.start;
   is_start = own.is_start;
   head = own.head;
@@ -54,6 +55,10 @@ own_export order style game text own = record {
   laid = own.laid;
   spells = own.spells;
 }
+
+pub own_export : (order : List (List ℕ)) (style : Style) (game : GameText) (text : List ℕ)
+    → IsOrderedExport order style game text → IsOrderedExport order style (by_itself game) text
+own_export = own_line_export false
 
 pub own_record : (name : Option (List ℕ)) (number offset : ℕ) (game : GameText) (bytes : List ℕ)
     → IsRecordOf name number offset game bytes

@@ -20,6 +20,7 @@ pub mod Picks
 pub mod Decided
 pub mod SomeCounted
 pub mod SomeEdited
+pub mod LineExports
 pub mod LaterGames
 pub mod SomeReport
 pub mod StopNotes

@@ -84,6 +84,8 @@ pub enum Form {
     Standard,
     /// In the standard's format, from the position of its first entry on; whole, where it has none.
     FromEntry,
+    /// Each of its lines in the standard's format, as a game of its own.
+    EachLine,
     /// As it stands, followed by two line feeds.
     AsItStands,
     /// On a line of its own: its mark, the position that it starts from, and the moves of its main

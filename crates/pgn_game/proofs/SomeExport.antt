@@ -23,7 +23,7 @@ some_tag_text tags strings name missing (Some contents) is =
     )
 
 -- so tags have lines
-some_lines : (tags : List (List ℕ × List ℕ)) → HoldStrings tags
+pub some_lines : (tags : List (List ℕ × List ℕ)) → HoldStrings tags
     → (result : List ℕ) (names : List (List ℕ))
     → (lines : List ℕ) × AreLinesOf tags result names lines
 some_lines tags strings result [] = ([], refl)

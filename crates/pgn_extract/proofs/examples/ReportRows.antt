@@ -81,6 +81,7 @@ bytes_are_asked : (request : Request)
       uci = false;
       as_is = false;
       from_position = false;
+      lines = false;
     }) ∷ []
     ≡ AsItStands ∷ Standard ∷ []
 bytes_are_asked request = refl

@@ -9,8 +9,8 @@ use Rattle.pgn_extract.proofs.Common.{◌∷◌, ◌++◌, None, Some, codes, ap
 use Rattle.pgn_extract.proofs.Common.{sym, subst, ◌∙◌, Aim}
 use Rattle.pgn_extract.proofs.Common.{game_id, bad_mark, begin_of, end_of, first_line}
 use Rattle.pgn_extract.proofs.Common.{is_one_line, option_refusals, refused, text_refusals, Request}
-use Rattle.pgn_extract.proofs.Common.{Standard, AsItStands, FromEntry, Line, Record, Matching}
-use Rattle.pgn_extract.proofs.Common.{Others, Faulty}
+use Rattle.pgn_extract.proofs.Common.{Standard, AsItStands, EachLine, FromEntry, Line, Record}
+use Rattle.pgn_extract.proofs.Common.{Matching, Others, Faulty}
 use Rattle.pgn_criteria.specs.Public.Conditions.{Conditions}
 use Rattle.pgn_criteria.specs.Public.Lines.{SpellsCriteria}
 use Rattle.pgn_extract.specs.Private.AskedCriteria.{AreAskedCriteria, with_lines}
@@ -73,6 +73,7 @@ plain request = record request {
   order = None;
   to_ply = None;
   from_position = false;
+  lines = false;
   width = None;
   openings = None;
   min_ply = 0;
@@ -270,6 +271,37 @@ positions_of_games request no_sets no_drops = (
   rw (no_sets, no_drops) refl,
   rw (no_sets, no_drops) refl,
   refl,
+)
+
+-- and lines where they are, none of them twice
+abbrev no_lines_written : List ℕ
+no_lines_written = codes
+    "pgn-extract: --lines goes with none of --list, --index, --rows, --moves, --uci, --pack, --as-is, --faulty, --others, --criteria, --where, --min-ply, --openings, --from-position and -V\n"
+
+lines_of_games : (request : Request) (path : Bor (List ℕ)) → request.conditions.items ≡ []
+    → IsTaken (record (plain request) { lines = true; roster = true; criteria = None })
+    × RefusedWith (record (plain request) { lines = true; list = true }) no_lines_written
+    × RefusedWith (record (plain request) { lines = true; pack = true }) no_lines_written
+    × RefusedWith (record (plain request) { lines = true; faulty = true }) no_lines_written
+    × RefusedWith (record (plain request) { lines = true; others = true }) no_lines_written
+    × RefusedWith (record (plain request) { lines = true; min_ply = 1 }) no_lines_written
+    × RefusedWith (record (plain request) { lines = true; criteria = Some path }) no_lines_written
+    × RefusedWith (record (plain request) { lines = true; openings = Some path }) no_lines_written
+    × RefusedWith (record (plain request) { lines = true; from_position = true; criteria = None })
+    no_lines_written
+    × RefusedWith (record (plain request) { lines = true; no_variations = true; criteria = None })
+    no_lines_written
+lines_of_games request path none = (
+  rw none refl,
+  refl,
+  refl,
+  refl,
+  refl,
+  refl,
+  refl,
+  refl,
+  rw none refl,
+  rw none refl,
 )
 
 edits_that_set : (request : Request) (text : Bor (List ℕ)) → request.sets.items ≡ text ∷ []
@@ -511,6 +543,7 @@ each_asked : (request : Request)
     × ((asked_alone (record (plain request) { faulty = true })).select ≡ Faulty)
     × ((asked_alone (record (plain request) { as_is = true })).form ≡ AsItStands)
     × ((asked_alone (record (plain request) { from_position = true })).form ≡ FromEntry)
+    × ((asked_alone (record (plain request) { lines = true })).form ≡ EachLine)
     × ((asked_alone (record (plain request) { moves = true })).form ≡ Line San)
     × ((asked_alone (record (plain request) { uci = true })).form ≡ Line Uci)
     × ((asked_alone (record (plain request) { pack = true })).form ≡ Record)
@@ -527,6 +560,7 @@ each_asked : (request : Request)
     × ((asked true (plain request) no_given).explain ≡ true)
     × ((asked false (plain request) (record no_given { chosen = Some [] })).chosen ≡ Some [])
 each_asked request = (
+  refl,
   refl,
   refl,
   refl,

@@ -22,9 +22,10 @@ use Rattle.pgn_extract.specs.Public.Listing.{IsShownOf}
 use Rattle.pgn_extract.specs.Public.Rows.{place_of}
 use Rattle.pgn_extract.proofs.ShownTexts.{one_shown}
 use Rattle.pgn_extract.proofs.Counting.{one_counted}
-use Rattle.pgn_extract.proofs.SomeEdited.{one_edited_export}
+use Rattle.pgn_game.proofs.OneEdited.{one_edited_line}
+use Rattle.pgn_game.proofs.laws.LinesOnce.{one_text_of_lines}
 use Rattle.pgn_extract.proofs.LaterGames.{one_first, one_from}
-use Rattle.pgn_extract.proofs.Common.{FromEntry, Main}
+use Rattle.pgn_extract.proofs.Common.{EachLine, FromEntry, Main}
 use Rattle.pgn_extract.specs.Public.Exports.{IsFirstOrNone, IsFromEntry}
 use Rattle.pgn_game.specs.Public.Edits.{IsEditedExport}
 use Rattle.pgn_extract.specs.declared.settings.Mode.TheVariants as modes
@@ -33,7 +34,7 @@ use Rattle.pgn_extract.specs.declared.settings.Mode.TheVariants as modes
 one_text : (form : Form) (aim : Aim) (id : GameId) (game : GameText) (x y : List ℕ)
     → IsTextOf form aim id game x → IsTextOf form aim id game y → x ≡ y
 one_text Standard aim id game x y first second =
-    one_edited_export aim.edits aim.style game x y first second
+    one_edited_line false aim.edits aim.style game x y first second
 one_text FromEntry aim id game x y (replay, first, own, is, least, begins, export)
     (other, second, later, also, less, starts, exports) =
     let same : other ≡ replay =
@@ -44,8 +45,10 @@ one_text FromEntry aim id game x y (replay, first, own, is, least, begins, expor
     let games =
     one_from first game own later begins
     (subst (λ f. IsFromEntry f game later) (sym ply) starts) in
-    one_edited_export aim.edits aim.style own x y export
+    one_edited_line false aim.edits aim.style own x y export
     (subst (λ g. IsEditedExport aim.edits aim.style g y) (sym games) exports)
+one_text EachLine aim id game x y first second =
+    one_text_of_lines aim.edits aim.style game x y first second
 one_text AsItStands aim id game x y first second = first ∙ sym second
 one_text (Line notation) aim id game x y (own, is, first) (other, also, second) =
     first ∙ ap (line_with aim.name id)

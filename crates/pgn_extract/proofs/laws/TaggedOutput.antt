@@ -4,7 +4,8 @@ use Rattle.pgn_extract.proofs.Common.{◌≡◌, ℕ, ◌+◌, true, false, List
 use Rattle.pgn_extract.proofs.Common.{inl, inr, refl, sym, ap, ◌∙◌, subst, PieceKind}
 use Rattle.pgn_extract.proofs.Common.{ReadableGame, UnreadableRest, TooLongBlock}
 use Rattle.pgn_extract.proofs.Common.{GameText, Part, Replay, heading_of, Form, Standard}
-use Rattle.pgn_extract.proofs.Common.{AsItStands, FromEntry, Line, Record, IsTextOf, IsWritten}
+use Rattle.pgn_extract.proofs.Common.{AsItStands, EachLine, FromEntry, Line, Record, IsTextOf}
+use Rattle.pgn_extract.proofs.Common.{IsWritten}
 use Rattle.pgn_extract.proofs.Common.{selected}
 use Rattle.pgn_extract.proofs.Common.{unselected, faulty_text, listing, Select}
 use Rattle.pgn_extract.proofs.Common.{plies_of, Verdict, SoundGame, FaultyGame, IsReplayed}
@@ -55,6 +56,7 @@ module _ (aim : Aim) (id : GameId) (game : GameText) where
       → IsTextOf form (with_tags_first true aim) id game text
   same_text Standard text is = is
   same_text FromEntry text is = is
+  same_text EachLine text is = is
   same_text AsItStands text is = is
   same_text (Line notation) text is = is
   same_text Record text is = is

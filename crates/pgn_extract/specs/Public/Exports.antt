@@ -12,10 +12,11 @@ use Rattle.pgn_game.specs.Public.Exports.{lines_with}
 use Rattle.pgn_game.specs.Public.Faults.{Fault}
 use Rattle.pgn_game.specs.Public.GameLines.{IsGameLine}
 use Rattle.pgn_game.specs.Public.PackedGames.{IsRecordOf}
+use Rattle.pgn_game.specs.Public.LineGames.{AreLineExports}
 use Rattle.pgn_game.specs.Public.Replays.{Replay}
 use Rattle.pgn_game.specs.Public.Starts.{fen_tag}
 use Rattle.pgn_game.specs.declared.replays.replayer.Lines.{Lines}
-use Rattle.pgn_game.specs.declared.replays.replayer.Lines.TheVariants.{Main}
+use Rattle.pgn_game.specs.declared.replays.replayer.Lines.TheVariants.{All, Main}
 use Rattle.pgn_game.specs.declared.exports.style.Style.{Style}
 use Rattle.pgn_criteria.specs.Public.Meeting.{Heading, heading_of}
 use Rattle.pgn_extract.specs.Public.Aims.{Aim, GameId, IsEntry, IsWanted}
@@ -25,7 +26,7 @@ use Rattle.pgn_extract.specs.Public.GameReports.{IsReplayOf, IsFaultOf}
 use Rattle.pgn_extract.specs.Public.Listing.{IsCounted}
 use Rattle.pgn_extract.specs.declared.settings.Form.{Form}
 use Rattle.pgn_extract.specs.declared.settings.Form.TheVariants.{Standard, AsItStands, Line, Record}
-use Rattle.pgn_extract.specs.declared.settings.Form.TheVariants.{FromEntry}
+use Rattle.pgn_extract.specs.declared.settings.Form.TheVariants.{EachLine, FromEntry}
 use Rattle.pgn_extract.specs.declared.settings.Mode.{Mode}
 use Rattle.pgn_extract.specs.declared.settings.Mode.TheVariants as modes
 use Rattle.pgn_extract.specs.declared.settings.Select.{Select}
@@ -35,6 +36,7 @@ use Rattle.pgn_extract.specs.declared.settings.Select.TheVariants.{Matching, Oth
 abbrev pub lines_in : Form → Style → Lines
 lines_in Standard style = lines_with style.variations
 lines_in FromEntry style = lines_with style.variations
+lines_in EachLine style = All
 lines_in AsItStands style = lines_with style.variations
 lines_in (Line notation) style = Main
 lines_in Record style = Main
@@ -77,13 +79,14 @@ abbrev pub line_with : Option (List ℕ) → GameId → List ℕ → List ℕ
 line_with name id own = (titled (codes ":") name ++ mark id) ++ 32 ∷ own ++ 10 ∷ []
 
 -- the text of a game that is selected: its export with the edits, or that of the game from its
--- first entry on, or the game as it stands, or its line, or its record
+-- first entry on, or the exports of its lines, or the game as it stands, or its line, or its record
 abbrev pub IsTextOf : Form → Aim → GameId → GameText → List ℕ → Type 0
 IsTextOf Standard aim id game text = IsEditedExport aim.edits aim.style game text
 IsTextOf FromEntry aim id game text =
     (replay : Replay) × (first : Option ℕ) × (own : GameText) × IsReplayOf Main game replay
     × IsFirstOrNone aim (heading_of game) replay first × IsFromEntry first game own
     × IsEditedExport aim.edits aim.style own text
+IsTextOf EachLine aim id game text = AreLineExports aim.edits aim.style game text
 IsTextOf AsItStands aim id game text = text ≡ as_it_stands game.text
 IsTextOf (Line notation) aim id game text =
     (own : List ℕ) × IsGameLine notation (tag_in fen_tag game.tags) game.elements own

@@ -22,7 +22,7 @@ use Rattle.pgn_extract.specs.declared.settings.EntryLine.{EntryLine}
 use Rattle.pgn_extract.specs.declared.settings.EntryLine.TheVariants.{Marked, InColumns}
 use Rattle.pgn_extract.specs.declared.settings.Form.{Form}
 use Rattle.pgn_extract.specs.declared.settings.Form.TheVariants.{Standard, AsItStands, Line, Record}
-use Rattle.pgn_extract.specs.declared.settings.Form.TheVariants.{FromEntry}
+use Rattle.pgn_extract.specs.declared.settings.Form.TheVariants.{EachLine, FromEntry}
 use Rattle.pgn_extract.specs.declared.settings.Mode.{Mode}
 use Rattle.pgn_extract.specs.declared.settings.Mode.TheVariants as modes
 use Rattle.pgn_extract.specs.declared.settings.Select.{Select}
@@ -42,14 +42,15 @@ asked_select request = if request.others then Others
     else (if request.faulty then Faulty else Matching)
 
 -- how a game is written: as a record, on a line with its moves, as it stands, or in the standard's
--- form, from its first entry on or whole
+-- form, from its first entry on, line by line or whole
 abbrev pub asked_form : Request → Form
 asked_form request =
     if request.pack then Record else
     (if request.moves then Line San else
     (if request.uci then Line Uci else
     (if request.as_is then AsItStands else
-    (if request.from_position then FromEntry else Standard))))
+    (if request.from_position then FromEntry else
+    (if request.lines then EachLine else Standard)))))
 
 -- what becomes of the commands of comments
 abbrev pub asked_commands : Request → Commands
@@ -235,7 +236,25 @@ edit_refusals request =
     }
     ∷ file_refusals request
 
--- the refusals of tags that come first, those of edits, and those of files
+-- games are looked for, or have the tags of their openings
+abbrev pub asks_of_games : Request → Bool
+asks_of_games request = request.others || nat_lt 0 request.min_ply || is_some request.openings
+    || gives_criteria request
+
+-- the refusals of lines as games beside another form or a search of games, those of edits, and
+-- those of files
+abbrev pub line_refusals : Request → List Refusal
+line_refusals request =
+    record {
+      applies = request.lines
+          && (asks_no_form request || asks_of_games request
+          || (request.from_position || request.no_variations));
+      line = codes
+          "pgn-extract: --lines goes with none of --list, --index, --rows, --moves, --uci, --pack, --as-is, --faulty, --others, --criteria, --where, --min-ply, --openings, --from-position and -V\n";
+    }
+    ∷ edit_refusals request
+
+-- the refusals of tags that come first, those of lines and edits, and those of files
 abbrev pub search_refusals : Request → List Refusal
 search_refusals request =
     record {
@@ -247,7 +266,7 @@ search_refusals request =
       line = codes
           "pgn-extract: --tags-first goes with none of --index, --packed, --others, --faulty, --pack and --openings\n";
     }
-    ∷ edit_refusals request
+    ∷ line_refusals request
 
 -- something is asked for that is no row
 abbrev pub asks_beside_rows : Request → Bool

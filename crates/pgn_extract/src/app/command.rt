@@ -53,6 +53,8 @@ pub struct Request<'a> {
     pub to_ply: Option<u32>,
     /// `--from-position` was given.
     pub from_position: bool,
+    /// `--lines` was given.
+    pub lines: bool,
     /// The number after `-w`.
     pub width: Option<u16>,
     /// The path after `--openings`.
@@ -356,6 +358,12 @@ const EDITS: &[Choice] = &[
         "Begin each game with its first position that is\n\
          looked for",
     ),
+    choice!(
+        "lines",
+        "Write each line of a game as a game of its own: the\n\
+         main line, and each variation after the moves that\n\
+         lead to it, without a result",
+    ),
 ];
 
 /// What goes to standard error.
@@ -519,6 +527,7 @@ pub fn read_arguments<'a>(alloc: Global, arguments: &'a [String]) -> Result<Requ
         order: matches.get_str("order"),
         to_ply: matches.get_one("to-ply"),
         from_position: matches.get_flag("from-position"),
+        lines: matches.get_flag("lines"),
         width: matches.get_one("width"),
         openings: matches.get_str("openings"),
         criteria: matches.get_str("criteria"),

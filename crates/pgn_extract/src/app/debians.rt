@@ -1,7 +1,7 @@
 //! Options of Debian's `pgn-extract` that are none here, with what to use in their place.
 
 /// Each option, and what does its work here.
-const OPTIONS: [(&str, &str); 22] = [
+const OPTIONS: [(&str, &str); 23] = [
     ("-o", "redirect the output: > FILE"),
     ("--output", "redirect the output: > FILE"),
     ("-a", "append to a file: >> FILE"),
@@ -18,6 +18,7 @@ const OPTIONS: [(&str, &str); 22] = [
     ("-W", "use --moves, --uci, or --list --fen"),
     ("--json", "use --moves or --list --fen, on lines"),
     ("--fixresulttags", "use --fix-results"),
+    ("--splitvariants", "use --lines"),
     ("-t", "use --criteria FILE, or --where LINE"),
     ("-T", "use --where with a line tag"),
     ("-x", "use --criteria FILE with a line fen"),

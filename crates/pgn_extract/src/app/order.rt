@@ -6,7 +6,7 @@ ghost use Rattle.pgn_extract.specs.Private.Lines.{is_bare};
 ghost use Rattle.pgn_extract.specs.Public.Requests.{asked, asked_form, asked_mode, asked_select};
 ghost use Rattle.pgn_extract.specs.Public.Requests.{asked_commands, asked_style, asks_names};
 ghost use Rattle.pgn_extract.specs.Public.Requests.{bad_mark, begin_of, edit_refusals, end_of};
-ghost use Rattle.pgn_extract.specs.Public.Requests.{file_refusals, form_refusals};
+ghost use Rattle.pgn_extract.specs.Public.Requests.{file_refusals, form_refusals, line_refusals};
 ghost use Rattle.pgn_extract.specs.Public.Requests.{first_line, gives_criteria, gives_mark};
 ghost use Rattle.pgn_extract.specs.Public.Requests.{has_style, needs_each_game, option_refusals};
 ghost use Rattle.pgn_extract.specs.Public.Requests.{other_refusals, row_refusals, search_refusals};
@@ -151,7 +151,7 @@ fn refused_forms(request: &Request<'_>) -> Option<&'static str>
 }
 
 /// The line that refuses tags that come first: without criteria, or where each game is looked at;
-/// or edits of tags, or the options of files.
+/// or lines as games, edits of tags, or the options of files.
 fn refused_searches(request: &Request<'_>) -> Option<&'static str>
     ensures { option_map (λ line. line.now) result ≡ first_line (search_refusals request.now) }
 {
@@ -160,6 +160,23 @@ fn refused_searches(request: &Request<'_>) -> Option<&'static str>
     }
     if request.tags_first & needs_each_game(request) {
         return Some(messages::TAGS_ARE_NOT_FIRST);
+    }
+    refused_lines(request)
+}
+
+/// The line that refuses lines as games beside another form or a search of games; or edits of tags,
+/// or the options of files.
+fn refused_lines(request: &Request<'_>) -> Option<&'static str>
+    ensures { option_map (λ line. line.now) result ≡ first_line (line_refusals request.now) }
+{
+    let has_mode = request.list | request.index | request.rows.is_some();
+    let has_form = request.moves | request.uci | request.pack | request.as_is;
+    let is_other = has_mode | has_form | request.faulty;
+    let is_search = request.others | (request.min_ply > 0) | has_criteria(request);
+    let is_of_games = is_search | request.openings.is_some();
+    let is_cut = request.from_position | request.no_variations;
+    if request.lines & (is_other | is_of_games | is_cut) {
+        return Some(messages::LINES_ARE_GAMES);
     }
     refused_edits(request)
 }
@@ -275,6 +292,8 @@ fn form_of(request: &Request<'_>) -> Form
         Form::AsItStands
     } else if request.from_position {
         Form::FromEntry
+    } else if request.lines {
+        Form::EachLine
     } else {
         Form::Standard
     }

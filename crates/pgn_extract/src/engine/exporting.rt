@@ -6,10 +6,11 @@ ghost use Rattle.pgn_game.specs.Public.Edits.{IsEditedExport};
 ghost use Rattle.pgn_game.specs.Public.Exports.{lines_with};
 ghost use Rattle.pgn_game.specs.Public.Faults.{IsFault};
 ghost use Rattle.pgn_game.specs.Public.GameLines.{IsGameLine};
+ghost use Rattle.pgn_game.specs.Public.LineGames.{AreLineExports};
 ghost use Rattle.pgn_game.specs.Public.PackedGames.{IsRecordOf};
 ghost use Rattle.pgn_game.specs.Public.Replays.{IsSoundGame, Replay, fault_of};
 ghost use Rattle.pgn_game.specs.Public.Starts.{fen_tag};
-ghost use Rattle.pgn_game.specs.declared.replays.replayer.Lines.TheVariants.{Main};
+ghost use Rattle.pgn_game.specs.declared.replays.replayer.Lines.TheVariants.{All, Main};
 ghost use Rattle.pgn_extract.specs.Public.Aims.{aim_of};
 ghost use Rattle.pgn_extract.specs.Private.Blockwise.{AddsText, ExportsAll, PutsText, StopsIn};
 ghost use Rattle.pgn_extract.specs.Private.Blockwise.{TakesAll};
@@ -25,8 +26,8 @@ use crate::output::texts::push_named_mark;
 use crate::settings::{Form, Mode, Select, Settings};
 use pgn_game::pack::{GameOrigin, push_record};
 use pgn_game::{
-    GameFault, Lines, Notation, check_lines, check_variations, export_edited, export_played,
-    later_game, lines_with, push_line,
+    GameFault, Lines, Notation, check_lines, check_variations, export_edited, export_lines,
+    export_played, later_game, lines_with, push_line,
 };
 use pgn_text::RawGame;
 use std::alloc::{AllocError, Global};
@@ -37,6 +38,7 @@ pub fn written_lines(settings: &Settings) -> Lines
 {
     match settings.form {
         Form::Standard | Form::FromEntry | Form::AsItStands => lines_with(&settings.style),
+        Form::EachLine => Lines::All,
         Form::Line(_) | Form::Record => Lines::Main,
     }
 }
@@ -284,10 +286,34 @@ fn put_later<'a>(
     }
 }
 
+/// Appends the exports of the lines of a game with the edits, each line as a game of its own. Where
+/// a line is faulty, the first fault is answered; then, and where memory is refused, nothing is
+/// appended.
+fn put_lines<'a>(
+    alloc: Global,
+    text: &mut Vec<u8>,
+    settings: &Settings,
+    game: &RawGame<'a>,
+) -> Result<(), GameFault<'a>>
+    ensures text { OnOk result ((own : List ℕ)
+        × AreLineExports settings.now.edits settings.now.style game.now own
+        × (text.new.items ≡ text.old.items ++ own)) }
+    ensures sound { OnOk result
+        (IsSoundGame All (tag_in fen_tag game.now.tags) game.now.elements) }
+    ensures fault { IfErr result (λ fault.
+        IfSome (fault_of fault) (IsFault All (tag_in fen_tag game.now.tags) game.now.elements)) }
+    ensures left { OnErr result (text.new.items ≡ text.old.items) }
+{
+    match &settings.edits {
+        Some(edits) => export_lines(alloc, game, Some(edits), &settings.style, text),
+        None => export_lines(alloc, game, None, &settings.style, text),
+    }
+}
+
 /// Appends the text of a game whose first entry stands at this ply, played while it is written: its
-/// export, whole or from that entry on, its line, its record, or the game as it stands. Where one
-/// of the lines that are written is faulty, the first fault is answered, and some bytes of the text
-/// may be appended.
+/// export, whole, from that entry on or line by line, its line, its record, or the game as it
+/// stands. Where one of the lines that are written is faulty, the first fault is answered, and some
+/// bytes of the text may be appended.
 fn put_text<'a>(
     text: &mut Vec<u8>,
     context: GameContext<'a>,
@@ -307,6 +333,7 @@ fn put_text<'a>(
     match settings.form {
         Form::Standard => put_export(context.alloc, text, settings, game),
         Form::FromEntry => put_later(text, context, game, first),
+        Form::EachLine => put_lines(context.alloc, text, settings, game),
         Form::AsItStands => put_as_is(context.alloc, text, settings, game),
         Form::Line(notation) => push_game_line(text, context, notation, game),
         Form::Record => push_game_record(text, context, game),
@@ -319,7 +346,8 @@ fn is_as_it_stands(settings: &Settings) -> bool
 {
     match settings.form {
         Form::AsItStands => true,
-        Form::Standard | Form::FromEntry | Form::Line(_) | Form::Record => false,
+        Form::Standard | Form::FromEntry | Form::EachLine => false,
+        Form::Line(_) | Form::Record => false,
     }
 }
 

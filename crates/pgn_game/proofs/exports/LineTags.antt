@@ -35,7 +35,7 @@ module _ (name : List ℕ) where
       by true later = ap (λ names. tag.0 ∷ names) later
       by false later = later
 
-  sorted_left : (tags : List (List ℕ × List ℕ))
+  pub sorted_left : (tags : List (List ℕ × List ℕ))
       → IsStrictlySortedBy (slice_cmp nat_cmp) (tag_names tags)
       → IsStrictlySortedBy (slice_cmp nat_cmp)
       (tag_names (filter (λ tag. not (bytes_eq name tag.0)) tags))
@@ -44,7 +44,7 @@ module _ (name : List ℕ) where
       (IsStrictlySortedBy-filter (slice_cmp nat_cmp) (λ other. not (bytes_eq name other))
       (tag_names tags) sorted)
 
-  left_in : (wanted : List ℕ) (tags : List (List ℕ × List ℕ))
+  pub left_in : (wanted : List ℕ) (tags : List (List ℕ × List ℕ))
       → tag_in wanted (filter (λ tag. not (bytes_eq name tag.0)) tags)
       ≡ (if bytes_eq name wanted then None else tag_in wanted tags)
   left_in wanted [] = by (bytes_eq name wanted)

@@ -29,7 +29,7 @@ SomeTokens style inside before now apart line =
     (tokens : List (List ℕ)) × AreTokens style inside before now apart line tokens
 
 -- all lines that are played
-all_tokens : (line : Line) (style : Style) (inside : Bool) (before now : State) (apart : Bool)
+pub all_tokens : (line : Line) (style : Style) (inside : Bool) (before now : State) (apart : Bool)
     (turns : List LineMove) → AreOnBoard before.men → AreOnBoard now.men
     → IsPlayed inside before now line turns → SomeTokens style inside before now apart line
 all_tokens LineEnd style inside before now apart turns on_board stands played = ([], refl)

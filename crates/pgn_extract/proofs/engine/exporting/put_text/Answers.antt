@@ -1,10 +1,12 @@
 use Rattle.pgn_extract.proofs.Common.{[], refl, MatchResult-weaker, on_ok_weaker}
-use Rattle.pgn_extract.proofs.Common.{fault_of, aim_of, by_itself, FromEntry}
+use Rattle.pgn_extract.proofs.Common.{fault_of, aim_of, by_itself, EachLine, FromEntry}
 use Rattle.pgn_extract.proofs.Common.{as_it_stands, line_with, Standard, AsItStands, Line, Record}
 use Rattle.pgn_extract.proofs.Common.{lines_with}
 use Rattle.pgn_extract.proofs.engine.AllTaken.{put_as, put_or_left, stops_left}
 use Rattle.pgn_extract.proofs.Finds.{on_result}
 use Rattle.pgn_extract.proofs.GameExport.{own_record}
+use Rattle.pgn_game.specs.declared.replays.replayer.Lines.TheVariants.{All}
+use Rattle.pgn_extract.proofs.LineExports.{own_line_exports}
 use Rattle.pgn_extract.proofs.SomeEdited.{own_edited_export}
 use Rattle.pgn_extract.proofs.LaterGames.{own_from}
 use Rattle.pgn_extract.proofs.engine.exporting.put_text.Goals as goal
@@ -56,6 +58,25 @@ returns-in-FromEntry c =
     ))
     (λ fault fails left.
     stops_left (lines_with aim.style.variations) game old new (fault_of fault) fails left))
+
+pub returns-in-EachLine : goal.returns-in-EachLine
+returns-in-EachLine c =
+    let aim = aim_of c.args.context.settings.now in
+    let game = c.args.game.now in
+    let old = c.args.text.now.items in
+    let new = c.put_lines.new.text.items in
+    let put = c.put_lines.ensures in
+    put_as aim c.args.context.own game old new c.put_lines.result (λ fault. fault_of fault)
+    EachLine c.in-EachLine.is
+    (put_or_left c.put_lines.result put.text put.sound put.fault put.left
+    (λ text sound. (
+      sound.0,
+      sound.1,
+      text.0,
+      own_line_exports aim.edits aim.style game text.0 text.1,
+      text.2,
+    ))
+    (λ fault fails left. stops_left All game old new (fault_of fault) fails left))
 
 pub returns-in-AsItStands : goal.returns-in-AsItStands
 returns-in-AsItStands c =

@@ -1,0 +1,96 @@
+-- A sound game has a text of its lines, and that of a game that is given is that of the game by
+-- itself.
+use Rattle.std.proofs.Common.{◌≡◌, ℕ, Bool, true, false, List, [], ◌∷◌, ◌++◌, Option, Some, None}
+use Rattle.std.proofs.Common.{inl, inr, refl, subst, ◌∙◌}
+use Rattle.std.specs.List.{AllByRecursion}
+use Rattle.pgn_extract.proofs.Common.{GameText, IsGameText, Style, tag_in, fen_tag, by_itself}
+use Rattle.pgn_game.proofs.EditedTags.{start_stays}
+use Rattle.pgn_game.proofs.SomeLines.{LineIsSound, each_line_sound, good_line, some_line_export}
+use Rattle.pgn_game.proofs.SomeLines.{sound_up_to, start_of_line}
+use Rattle.pgn_game.specs.Public.Edits.{Edits, IsEditedLine, IsTagged, all_edits, up_to}
+use Rattle.pgn_game.specs.Public.Exports.{IsLineExport}
+use Rattle.pgn_game.specs.Public.LineGames.{AreExportsOf, AreLineExports, LineGame, as_game}
+use Rattle.pgn_game.specs.Public.LineGames.{ending_as, line_items, lines_of}
+use Rattle.pgn_game.specs.Public.Replays.{IsSoundGame}
+use Rattle.pgn_game.specs.declared.replays.replayer.Lines.TheVariants.{All}
+use Rattle.pgn_extract.proofs.SomeEdited.{edits_or_not, own_edited_line, some_edited, up_to_good}
+
+-- ---- there is one
+
+some_line_tagged : (inside : Bool) (edits : Edits) (style : Style) (game : GameText)
+    → IsGameText game → LineIsSound inside (tag_in fen_tag game.tags) game.elements
+    → (own : GameText) × (text : List ℕ) × IsTagged edits game own
+    × IsLineExport inside edits.order style own text
+some_line_tagged inside edits style game good sound = elim (edits_or_not (all_edits edits game)) [
+  | inr none ↦
+      let own = some_line_export inside edits.order style game good sound in
+      (game, own.0, ((λ able. absurd (none able)), (λ _. refl)), own.1)
+  | inl able ↦
+      let (other, fine, is) = some_edited (all_edits edits game) game good able in
+      let start =
+      is.tags fen_tag ∙ start_stays (all_edits edits game) (tag_in fen_tag game.tags) able in
+      let own =
+      some_line_export inside edits.order style other fine (rw (start, is.elements) sound) in
+      (other, own.0, ((λ _. (fine, is)), (λ none. absurd (none able))), own.1)
+]
+
+some_edited_line : (inside : Bool) (edits : Option Edits) (style : Style) (game : GameText)
+    → IsGameText game → LineIsSound inside (tag_in fen_tag game.tags) game.elements
+    → (text : List ℕ) × IsEditedLine inside edits style game text
+some_edited_line inside None style game good sound =
+    let own = some_line_export inside [] style game good sound in (own.0, (game, refl, own.1))
+some_edited_line inside (Some edits) style game good sound =
+    let (own, text, is, exports) =
+    some_line_tagged inside edits style (up_to edits.last_ply game)
+    (up_to_good edits.last_ply game good) (sound_up_to inside edits.last_ply game sound) in
+    (text, (own, is, exports))
+
+module _ (edits : Option Edits) (style : Style) (game : GameText) (good : IsGameText game) where
+  some_exports : (lines : List LineGame)
+      → AllByRecursion (λ (line : LineGame). LineIsSound line.inside (tag_in fen_tag game.tags)
+      (line_items line)) lines
+      → (text : List ℕ) × AreExportsOf edits style game lines text
+  some_exports [] all = ([], refl)
+  some_exports (line ∷ more) (sound, all) =
+      let (rest, later) = some_exports more all in
+      let (own, is) =
+      some_edited_line line.inside edits style (as_game game line) (good_line game good line sound)
+      (rw (start_of_line game good line) sound) in
+      (own ++ rest, (own, rest, refl, is, later))
+
+  pub some_line_exports : IsSoundGame All (tag_in fen_tag game.tags) game.elements
+      → (text : List ℕ) × AreLineExports edits style game text
+  some_line_exports sound =
+      let (line, spells, all) = each_line_sound (tag_in fen_tag game.tags) game.elements sound in
+      let (text, exports) = some_exports (lines_of line) all in
+      (text, (line, spells, exports))
+
+-- ---- by itself
+
+as_itself : (game : GameText) (line : LineGame)
+    → by_itself (as_game game line) ≡ as_game (by_itself game) line
+as_itself game line = by line.inside
+  where
+    by : (inside : Bool)
+        → by_itself (record (ending_as inside game) { elements = line_items line })
+        ≡ record (ending_as inside (by_itself game)) { elements = line_items line }
+    by true = refl
+    by false = refl
+
+own_exports : (edits : Option Edits) (style : Style) (game : GameText) (lines : List LineGame)
+    (text : List ℕ) → AreExportsOf edits style game lines text
+    → AreExportsOf edits style (by_itself game) lines text
+own_exports edits style game [] text is = is
+own_exports edits style game (line ∷ more) text (own, rest, parted, is, later) = (
+  own,
+  rest,
+  parted,
+  subst (λ g. IsEditedLine line.inside edits style g own) (as_itself game line)
+      (own_edited_line line.inside edits style (as_game game line) own is),
+  own_exports edits style game more rest later,
+)
+
+pub own_line_exports : (edits : Option Edits) (style : Style) (game : GameText) (text : List ℕ)
+    → AreLineExports edits style game text → AreLineExports edits style (by_itself game) text
+own_line_exports edits style game text (line, spells, is) =
+    (line, spells, own_exports edits style game (lines_of line) text is)
