@@ -1,11 +1,11 @@
 -- Where a man arrives by a move whose text is like a word.
-use Rattle.pgn_criteria.proofs.Common.{◌≡◌, ◌⊎◌, ◌+◌, ◌*◌, ◌-◌, ◌≤◌, ◌<◌, ◌++◌, ℕ, suc, List, []}
+use Rattle.pgn_criteria.proofs.Common.{◌≡◌, ◌+◌, ◌*◌, ◌-◌, ◌≤◌, ◌<◌, ◌++◌, ℕ, suc, List, []}
 use Rattle.pgn_criteria.proofs.Common.{◌∷◌, length, get_or, Option, Some, None, IfSome, refl, sym}
 use Rattle.pgn_criteria.proofs.Common.{ap, ◌∙◌, subst, inl, inr, arith, append_assoc, append-nil}
 use Rattle.pgn_criteria.proofs.Common.{length-append, same_Some, file_letter, rank_digit}
 use Rattle.pgn_criteria.proofs.Common.{kind_letter, State, man_at, IsSan, IsLegal, Place, square_at}
 use Rattle.pgn_criteria.proofs.Common.{Kind, King, Queen, Rook, Bishop, Knight, Pawn, Man, Wing}
-use Rattle.pgn_criteria.proofs.Common.{IsLike, without_check_signs, PlyCode, slice_get, Replay}
+use Rattle.pgn_criteria.proofs.Common.{IsLike, without_check_signs, PlyCode, Replay}
 use Rattle.pgn_criteria.proofs.Common.{AllByRecursion, GoesOnBy, true, if◌then◌else◌}
 use Rattle.std.proofs.lemmas.Option.{IfSome_then}
 use Rattle.chess.specs.Public.Letters.{square_text}

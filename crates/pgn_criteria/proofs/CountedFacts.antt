@@ -1,5 +1,5 @@
 -- What conditions say of a game that is known by its heading and the number of its plies.
-use Rattle.pgn_criteria.proofs.Common.{◌≡◌, ◌↔◌, ◌+◌, ◌≤◌, ℕ, suc, Bool, false, List, [], ◌∷◌}
+use Rattle.pgn_criteria.proofs.Common.{◌≡◌, ◌↔◌, ◌+◌, ℕ, suc, Bool, false, List, [], ◌∷◌}
 use Rattle.pgn_criteria.proofs.Common.{length, IsTrue, sym, subst, arith, Replay, Conditions}
 use Rattle.pgn_criteria.proofs.Common.{Heading, Taken, AllTaken, IsSoOfGame, Compares, AllClaims}
 use Rattle.pgn_criteria.proofs.Common.{AsksWithin, AllAskWithin, Stated, GameClaim, Moves, Plies}
@@ -39,7 +39,7 @@ module _ (heading : Heading) (replay : Replay) (plies : ℕ) (size : length repl
         subst (λ n. Taken denied (Compares comparison n count)) (sym size) says
     one_of_counted denied claim free says = says
 
-    games_of_counted : (games : List (Stated (GameClaim (List ℕ)))) → AllClaims IsFreeOfWords games
+    pub games_of_counted : (games : List (Stated (GameClaim (List ℕ)))) → AllClaims IsFreeOfWords games
         → AllOfCounted heading plies games → AllTaken (IsSoOfGame heading replay) games
     games_of_counted [] free says = tt
     games_of_counted (one ∷ more) free says = (

@@ -17,3 +17,4 @@ pub mod Records
 pub mod SightCodes
 pub mod Counted
 pub mod Arrivals
+pub mod Told

@@ -7,6 +7,7 @@ ghost use Rattle.pgn_game.specs.Public.PackReading.{IsRawOfGame};
 ghost use Rattle.pgn_game.specs.Public.Replays.{Replay};
 ghost use Rattle.pgn_criteria.specs.Private.Counted.{AllOfCounted, AreFreeOfWords};
 ghost use Rattle.pgn_criteria.specs.Private.Planning.{Plans};
+ghost use Rattle.pgn_criteria.specs.Private.Told.{AreOfPositions};
 ghost use Rattle.pgn_criteria.specs.Private.Records.{heading_of_raw};
 ghost use Rattle.pgn_criteria.specs.Public.Meeting.{Meets};
 ghost use Rattle.pgn_criteria.specs.Public.Walks.{IsSeenOf};
@@ -34,6 +35,7 @@ use crate::meets::{
 use crate::mirror::{all_mirrored, are_fixed};
 use crate::numbers::numbers_are_shown;
 use crate::plan::Plan;
+use crate::played::are_setups;
 use crate::prefilter::Prefilter;
 use crate::seen::Seen;
 use crate::spans::{are_no_counts, spans_stand};
@@ -87,7 +89,7 @@ impl Model for PlannedConditions {
 #[derive(Drop)]
 pub struct Alternative {
     pub(crate) games: Vec<Stated<GameClaim<Vec<u8>>>>,
-    moves: Vec<Stated<MoveClaim<Vec<u8>>>>,
+    pub(crate) moves: Vec<Stated<MoveClaim<Vec<u8>>>>,
     pub(crate) spans: Vec<SpanClaim>,
     /// The conditions on positions as they stand.
     pub(crate) plain: PlannedConditions,
@@ -361,6 +363,13 @@ impl Alternative {
         ensures { IsTrue result ↔ AreFreeOfWords self.now }
     {
         self.moves.is_empty() && self.spans.is_empty() && are_free_of_words(&self.games)
+    }
+
+    /// Whether none of the conditions speaks of single moves of the game.
+    pub(crate) fn is_of_positions(&self) -> bool
+        ensures { IsTrue result ↔ AreOfPositions self.now }
+    {
+        are_free_of_words(&self.games) && are_setups(&self.moves)
     }
 
     /// The marks of positions with which the conditions hold. It is `None` where one of them has

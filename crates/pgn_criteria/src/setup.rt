@@ -184,7 +184,7 @@ fn are_captures_alike(one: &GamePosition, other: &GamePosition) -> bool
 }
 
 /// Whether the position is that one in the fields that are given.
-fn is_alike(setup: &Setup, position: &GamePosition) -> bool
+pub(crate) fn is_alike(setup: &Setup, position: &GamePosition) -> bool
     ensures { IsTrue result ↔ IsAlike setup.now.given position.now setup.now.position }
 {
     let wanted = &setup.position;

@@ -68,7 +68,7 @@ fn run_from(alternative: &Alternative, replayed: &Replayed, plies: usize) -> u12
 }
 
 /// 1 for what is so, and 0 for what is not.
-fn one_if(is: bool) -> u128
+pub(crate) fn one_if(is: bool) -> u128
     ensures { result ≡ (if is then 1 else 0) }
 {
     if is { 1 } else { 0 }
@@ -116,7 +116,7 @@ fn run_on(alternative: &Alternative, replayed: &Replayed, plies: usize, known: O
 
 /// Whether all that the conditions say is so of a ply that begins a run of so many plies that fit,
 /// where so many fit in all.
-fn stands_about(alternative: &Alternative, run: u128, many: u128) -> bool
+pub(crate) fn stands_about(alternative: &Alternative, run: u128, many: u128) -> bool
     ensures { IsTrue result ↔ ((0 < run) × SpansStand run many alternative.now.spans) }
 {
     run > 0 && alternative.spans_stand(run, many)

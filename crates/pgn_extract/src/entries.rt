@@ -25,12 +25,14 @@ pub(crate) mod row_game;
 pub(crate) mod row_maker;
 mod sink;
 mod ten_lines;
+mod told;
 
 use crate::entries::finding::Finder;
-use crate::entries::kept::{find_kept, first_kept};
+use crate::entries::kept::find_kept;
 use crate::entries::line_maker::LineMaker;
 use crate::entries::played::{Anything, find_played};
 use crate::entries::row_game::RowGame;
+use crate::entries::told::find_told;
 use crate::marks::GameId;
 use crate::output::texts::{MARK_ROOM, push_named_mark};
 use crate::settings::{Fields, Mode, Select, Settings};
@@ -76,9 +78,10 @@ fn finder_of<'a>(
 }
 
 /// Adds the lines of the entries of a game, or answers its fault. Each position is asked as it is
-/// reached, and none is kept, unless the criteria speak of the moves at each ply or a row shows
-/// something of the whole main line. Where that is known to be sound, it is not played to its end
-/// once no more is looked for.
+/// reached, and none is kept, unless the criteria speak of single moves, or a row shows something
+/// of the whole main line. Nor is one kept for `for`, `count` and `position`, where a line shows no
+/// more than the ply. A main line that is known to be sound is not played to its end once no more
+/// is looked for.
 pub fn push_entries<'a>(
     text: &mut Vec<u8>,
     context: GameContext<'a>,
@@ -104,6 +107,9 @@ pub fn push_entries<'a>(
         return find_played(&finder, alloc, game, Anything, text);
     };
     let Some(question) = criteria.watch(alloc, game)? else {
+        if settings.line.is_bare() {
+            return find_told(&finder, alloc, criteria, game, text);
+        }
         return find_kept(&finder, alloc, game, text);
     };
     find_played(&finder, alloc, game, question, text)
@@ -166,9 +172,7 @@ pub fn first_entry<'a>(
     let Some(criteria) = &settings.criteria else {
         return Ok(first_within(settings, count_plies(alloc, game)?));
     };
-    let Some(question) = criteria.watch(alloc, game)? else {
-        return first_kept(alloc, settings, criteria, game);
-    };
+    let question = criteria.watch(alloc, game)?;
     let finder = Finder {
         settings,
         first: true,
@@ -177,6 +181,9 @@ pub fn first_entry<'a>(
         is_sound: false,
     };
     let mut first = None;
-    find_played(&finder, alloc, game, question, &mut first)?;
+    match question {
+        Some(question) => find_played(&finder, alloc, game, question, &mut first)?,
+        None => find_told(&finder, alloc, criteria, game, &mut first)?,
+    }
     Ok(first)
 }

@@ -1,18 +1,16 @@
 -- A line that is kept stands at a position of the game, and goes on by one ply.
-use Rattle.std.proofs.lemmas.Option.{same_Some, slice_get_within}
-use Rattle.std.specs.Prelude.{is_some}
+use Rattle.std.proofs.lemmas.Option.{same_Some}
 use Rattle.pgn_extract.proofs.Common.{◌≡◌, ◌↔◌, ◌+◌, ◌-◌, ◌<◌, ◌≤◌, ℕ, zero, suc, List, [], ◌∷◌}
 use Rattle.pgn_extract.proofs.Common.{◌++◌, length, Option, Some, Bool, true, false, IsTrue, refl}
 use Rattle.pgn_extract.proofs.Common.{sym, ap, ◌∙◌, subst, append_assoc, length-append, arith, None}
 use Rattle.pgn_extract.proofs.Common.{slice_get, after, IsLegal, State, Move, GameText, tag_in}
 use Rattle.pgn_extract.proofs.Common.{positions_from, main_words, Replay, IsReplay, fen_tag, Main}
-use Rattle.pgn_extract.proofs.Common.{line_legal, line_positions, heading_of, Heading, Meets, Aim}
+use Rattle.pgn_extract.proofs.Common.{line_legal, line_positions, heading_of, Heading, Aim}
 use Rattle.pgn_extract.proofs.Common.{GameId, IsMet, IsWanted, IsEntry}
 use Rattle.pgn_extract.proofs.Common.{IsOfGame, GoesTo}
 use Rattle.pgn_extract.proofs.Common.{MeetsHere, HandsOn}
 use Rattle.pgn_extract.proofs.Common.{MatchOption, IsSan, Conditions}
 use Rattle.pgn_game.specs.Public.CodeLines.{AreLegalMoves, IsLegalLine}
-use Rattle.pgn_criteria.specs.Public.Meeting.{IsFirst}
 use Rattle.pgn_extract.specs.Private.KeptLines.{IsKeptWith}
 use Rattle.pgn_extract.specs.Private.Finding.{IsChosen}
 use Rattle.pgn_extract.specs.Private.Lines.{first_ply}
@@ -248,41 +246,3 @@ tells_first aim id game found (replay, is, entries, listed, told) = (
           there.0,
           there.1 refl,
         )
-
--- the first ply that meets the criteria is the first entry, and where none does the game has none
-pub first_entry : (aim : Aim) (game : GameText) (kept other : Replay) → IsOfGame game kept
-    → IsOfGame game other → (alternatives : List Conditions)
-    → aim.criteria ≡ Some alternatives → (found : Option ℕ)
-    → IsFirst (λ n. Meets (heading_of game) kept n alternatives) aim.min_ply aim.max_ply found
-    → IsFirstOrNone aim (heading_of game) other found
-first_entry aim game kept other own also alternatives given found first = of found first
-  where
-    here : (n : ℕ) → Meets (heading_of game) kept n alternatives
-        → IsMet aim.criteria (heading_of game) other n
-    here n met =
-        let same = one_main game kept other own also in
-        subst (λ (c : Option (List Conditions)).
-        IsMet c (heading_of game) other n) (sym given)
-        (met_alike (heading_of game) kept other same.0 same.1 n alternatives met)
-
-    back : (n : ℕ) → IsMet aim.criteria (heading_of game) other n
-        → Meets (heading_of game) kept n alternatives
-    back n met =
-        let same = one_main game other kept also own in
-        met_alike (heading_of game) other kept same.0 same.1 n alternatives
-        (subst (λ (c : Option (List Conditions)). IsMet c (heading_of game) other n) given met)
-
-    there : (n : ℕ) → Meets (heading_of game) kept n alternatives → n < length other.positions
-    there n met =
-        let same = one_main game kept other own also in
-        subst (λ ps. n < length ps) same.0 (slice_get_within kept.positions n met.position met.here)
-
-    of : (found : Option ℕ)
-        → IsFirst (λ n. Meets (heading_of game) kept n alternatives) aim.min_ply aim.max_ply found
-        → IsFirstOrNone aim (heading_of game) other found
-    of None none = λ ply within wanted. none ply wanted.0 wanted.1 (back ply wanted.2)
-    of (Some n) least = (
-      there n least.2,
-      (least.0, least.1, here n least.2),
-      λ m less wanted. least.3 m wanted.0 less (back m wanted.2),
-    )

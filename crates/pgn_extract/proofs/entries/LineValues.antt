@@ -1,6 +1,6 @@
 -- What rows show of a main line that is kept, and which lines show it.
-use Rattle.std.specs.Prelude.{Option, None, zero, suc, replicate, decimal}
-use Rattle.std.proofs.lemmas.Bool.{or_parts}
+use Rattle.std.specs.Prelude.{Option, None, zero, suc, replicate, decimal, not}
+use Rattle.std.proofs.lemmas.Bool.{and_parts, false≢true, or_parts}
 use Rattle.std.proofs.lemmas.Option.{get_or_from_slice_get, slice_get_within}
 use Rattle.std.proofs.lemmas.List.{length-replicate}
 use Rattle.pgn_extract.proofs.Common.{◌≡◌, ◌+◌, ◌<◌, ◌≤◌, ℕ, Bool, true, false, List, [], ◌∷◌, ◌++◌}
@@ -12,7 +12,7 @@ use Rattle.pgn_game.specs.Public.CodeLines.{IsLegalLine}
 use Rattle.pgn_game.specs.Public.GameLines.{AreMoveTexts, IsMoveText}
 use Rattle.pgn_game.specs.declared.exports.notation.Notation.{Notation}
 use Rattle.pgn_extract.specs.Private.KeptLines.{AreReported}
-use Rattle.pgn_extract.specs.Private.Lines.{IsEnoughFor, keeps_line}
+use Rattle.pgn_extract.specs.Private.Lines.{IsEnoughFor, keeps_line, is_bare, made_line}
 use Rattle.pgn_extract.specs.Private.RowTexts.{IsPlainValue, EachColumn, need_line, needs_line}
 use Rattle.pgn_extract.specs.Private.RowTexts.{IsShownWith, part_needs_line}
 use Rattle.pgn_extract.specs.Public.Rows.{IsAt, IsMoveIn, IsLastCell, AreMovesCell, IsLineCell}
@@ -71,6 +71,18 @@ pub enough_played : (lines : LineMaker) → keeps_line lines ≡ false
     → IsEnoughFor (λ column. needs_line column ≡ false) lines
 enough_played (maker.Fields fields) none = (λ is. refl, λ is. refl)
 enough_played (maker.Rows rows) none = no_columns rows.parts.items none
+
+-- one of which nothing but plies is known is enough where no more is shown
+pub enough_told : (lines : LineMaker) → is_bare (made_line lines) ≡ true
+    → IsEnoughFor (λ column. ⊥) lines
+enough_told (maker.Fields fields) bare =
+    let both : (not fields.fen ≡ true) × (not fields.next ≡ true) = and_parts _ _ bare in
+    (λ is. not_both fields.fen is both.0, λ is. not_both fields.next is both.1)
+  where
+    not_both : (b : Bool) → b ≡ true → not b ≡ true → ⊥
+    not_both true is off = false≢true off
+    not_both false is off = false≢true is
+enough_told (maker.Rows rows) bare = absurd (false≢true bare)
 
 -- Without criteria each position is met.
 

@@ -2,18 +2,20 @@
 use Rattle.std.specs.Prelude.{codes, decimal}
 use Rattle.pgn_extract.proofs.Common.{◌≡◌, ◌+◌, ℕ, List, [], ◌∷◌, ◌++◌, length, Option, None, true}
 use Rattle.pgn_extract.proofs.Common.{false, Bool, refl, sym, ap, ◌∙◌, subst, append_assoc}
-use Rattle.pgn_extract.proofs.Common.{append-nil, length-append, inr, arith, Some, State, Move}
+use Rattle.pgn_extract.proofs.Common.{length-append, inr, arith, Some, State, Move}
 use Rattle.pgn_extract.proofs.Common.{GameText, tag_in, Item, IsMainLine, main_words, Replay}
-use Rattle.pgn_extract.proofs.Common.{IsReplay, fen_tag, Main, heading_of, SomeHold, Conditions}
+use Rattle.pgn_extract.proofs.Common.{fen_tag, Main, heading_of, SomeHold, Conditions}
 use Rattle.pgn_extract.proofs.Common.{Aim, AsksFor, Stands, GoesTo}
 use Rattle.pgn_extract.proofs.Common.{NoneAfter, Where, HasFault, IsNeverMet, Fails}
 use Rattle.pgn_extract.proofs.Common.{aim_with, IsNextMove}
-use Rattle.pgn_extract.proofs.Common.{slice_get, MatchOption, after, IsSan, one_start, false≢true}
+use Rattle.pgn_extract.proofs.Common.{slice_get, MatchOption, IsSan, one_start, false≢true}
 use Rattle.pgn_game.specs.Public.Faults.{Fault, IsMoveFault, IsFault}
 use Rattle.pgn_game.specs.Public.PlayedLines.{PlayedLine, PlaysWord, HasEnded, HasAdvanced, IsBegun}
 use Rattle.pgn_game.specs.Public.PlayedLines.{IsNextText}
 use Rattle.pgn_game.specs.Public.Replays.{IsSomeReplay, IsSoundGame}
-use Rattle.pgn_extract.specs.Private.Finding.{IsPlayedTo, StopsInLine, GoesOnWith}
+use Rattle.pgn_criteria.specs.Shared.PlayedTo.{IsPlayedTo, GoesOnWith}
+use Rattle.pgn_criteria.proofs.PlayedFacts.{played_none, played_on, played_all}
+use Rattle.pgn_extract.specs.Private.Finding.{StopsInLine}
 use Rattle.pgn_extract.specs.declared.entries.finding.Finder.{Finder}
 use Rattle.pgn_extract.specs.Private.PlayedLines.{IsPlayedWith}
 use Rattle.pgn_extract.proofs.Finds.{at_seam}
@@ -26,99 +28,6 @@ use Rattle.pgn_extract.specs.declared.rows.column.PlyColumn.TheVariants.{Ply, Of
 use Rattle.pgn_extract.specs.declared.rows.column.PositionColumn.{PositionColumn}
 use Rattle.pgn_extract.proofs.PackedFacts.{line_begins}
 use Rattle.pgn_game.proofs.OneReplay.{one_move}
-
--- what is left after one more move
-goes_after : {old new : PlayedLine} (word : PlaysWord old new) (before positions : List State)
-    (played all : List Move) → GoesOnWith old before played positions all
-    → GoesOnWith new (before ++ old.position ∷ []) (played ++ word.m ∷ []) positions all
-goes_after {old} {new} word before positions played all (later, more, line, positions_is, all_is) =
-    let split : IsMainLine old.position (word.word ∷ new.words) later more =
-    subst (λ ws. IsMainLine old.position ws later more) word.words line in
-    let same : split.0 ≡ word.m = one_move old.position word.word split.0 word.m split.5 word.named
-    in (
-      split.1,
-      split.2,
-      subst (λ s. IsMainLine s new.words split.1 split.2) (ap (λ k. after old.position k) same
-          ∙ sym word.position) split.6,
-      positions_is ∙ ap (λ ps. before ++ ps) split.3
-          ∙ sym (append_assoc before (old.position ∷ []) split.1),
-      all_is ∙ ap (λ ms. played ++ ms) (split.4 ∙ ap (λ k. k ∷ split.2) same)
-          ∙ sym (append_assoc played (word.m ∷ []) split.2),
-    )
-
--- the line at its start
-pub played_none : {fen : Option (List ℕ)} {items : List Item} {line : PlayedLine}
-    → IsBegun fen items line → IsPlayedTo fen items line [] []
-played_none {fen} {items} {line} begun = record {
-  start = line.position;
-  is_start = begun.start;
-  count = sym begun.plies;
-  moves = sym begun.plies;
-  parts = λ positions all is. (
-    positions,
-    all,
-    subst (λ ws. IsMainLine line.position ws positions all) (sym begun.words) is,
-    refl,
-    refl,
-  );
-  completes = λ later more is. subst (λ ws. IsMainLine line.position ws later more) begun.words is;
-  faults = λ fault met. subst (λ ws. IsMoveFault line.position 0 ws fault) begun.words
-      (subst (λ n. IsMoveFault line.position n line.words fault) begun.plies met);
-}
-
--- after one more move
-pub played_on : {fen : Option (List ℕ)} {items : List Item} {old new : PlayedLine}
-    {before : List State} {played : List Move}
-    → IsPlayedTo fen items old before played → (word : PlaysWord old new)
-    → IsPlayedTo fen items new (before ++ old.position ∷ []) (played ++ word.m ∷ [])
-played_on {fen} {items} {old} {new} {before} {played} to word = record {
-  start = to.start;
-  is_start = to.is_start;
-  count = length-append before (old.position ∷ []) ∙ ap (λ n. n + 1) to.count ∙ sym word.plies;
-  moves = length-append played (word.m ∷ []) ∙ ap (λ n. n + 1) to.moves ∙ sym word.plies;
-  parts = λ positions all is. goes_after word before positions played all
-      (to.parts positions all is);
-  completes = λ later more line.
-      subst (λ ps. IsMainLine to.start (main_words items 0) ps ((played ++ word.m ∷ []) ++ more))
-      (sym (append_assoc before (old.position ∷ []) later))
-      (subst (λ ms. IsMainLine to.start (main_words items 0) (before ++ old.position ∷ later) ms)
-      (sym (append_assoc played (word.m ∷ []) more))
-      (to.completes (old.position ∷ later) (word.m ∷ more)
-      (subst (λ ws. IsMainLine old.position ws (old.position ∷ later) (word.m ∷ more))
-      (sym word.words) (
-        word.m,
-        later,
-        more,
-        refl,
-        refl,
-        word.named,
-        subst (λ s. IsMainLine s new.words later more) word.position line,
-      ))));
-  faults = λ fault met. to.faults fault
-      (subst (λ ws. IsMoveFault old.position old.plies ws fault) (sym word.words)
-      (inr (
-        word.m,
-        word.named,
-        subst (λ s. IsMoveFault s (old.plies + 1) new.words fault) word.position
-            (subst (λ n. IsMoveFault new.position n new.words fault) word.plies met),
-      )));
-}
-
--- after the last
-pub played_all : {fen : Option (List ℕ)} {items : List Item} {line : PlayedLine}
-    {before : List State} {played : List Move}
-    → IsPlayedTo fen items line before played → line.words ≡ [] → IsReplay Main fen items
-    (record { positions = before ++ line.position ∷ []; played = played; turns = [] })
-played_all {fen} {items} {line} {before} {played} to ends = record {
-  start = to.start;
-  is_start = to.is_start;
-  line = subst (λ ms. IsMainLine to.start (main_words items 0) (before ++ line.position ∷ []) ms)
-      (append-nil played)
-      (to.completes (line.position
-      ∷ []) [] (subst (λ ws. IsMainLine line.position ws (line.position ∷ []) []) (sym ends)
-      (refl, refl)));
-  turns = refl;
-}
 
 -- the first move that is left of a line is the one that its next word names
 next_left : (P : State) (words : List (List ℕ)) (later : List State) (more : List Move)

@@ -1,19 +1,17 @@
 -- The entries of a game, found while its main line is played: what is found so far, and what is
 -- left completes the whole.
-use Rattle.std.specs.Prelude.{◌≡◌, ◌≢◌, ◌⊎◌, ◌↔◌, ◌<◌, ◌++◌, ◌∷◌, ℕ, Bool, List, []}
+use Rattle.std.specs.Prelude.{◌≡◌, ◌≢◌, ◌⊎◌, ◌↔◌, ◌<◌, ◌++◌, ◌∷◌, ℕ, List, []}
 use Rattle.std.specs.Prelude.{length}
-use Rattle.std.specs.Prelude.{Option, IsTrue, codes}
+use Rattle.std.specs.Prelude.{Option, codes}
 use Rattle.chess.specs.Public.Positions.{State}
 use Rattle.chess.specs.Public.San.{IsOnlyNamed}
 use Rattle.chess.specs.declared.moves.Move.{Move}
 use Rattle.pgn_text.specs.Public.GameTexts.{GameText, tag_in}
-use Rattle.pgn_text.specs.Public.Games.{Item}
 use Rattle.pgn_game.specs.Public.Faults.{Fault, IsMoveFault, IsFault}
 use Rattle.pgn_game.specs.Public.GameLines.{uci_text}
-use Rattle.pgn_game.specs.Public.MainLines.{main_words, IsMainLine}
 use Rattle.pgn_game.specs.Public.PlayedLines.{PlayedLine, IsNextText}
 use Rattle.pgn_game.specs.Public.Replays.{Replay, IsReplay, IsSomeReplay, IsSoundGame}
-use Rattle.pgn_game.specs.Public.Starts.{fen_tag, IsStart}
+use Rattle.pgn_game.specs.Public.Starts.{fen_tag}
 use Rattle.pgn_game.specs.declared.replays.replayer.Lines.TheVariants.{Main}
 use Rattle.pgn_criteria.specs.Public.Meeting.{Heading, heading_of, Meets}
 use Rattle.pgn_criteria.specs.Public.Conditions.{Conditions}
@@ -69,30 +67,6 @@ AddsEntries aim id game old new =
 abbrev pub StopsAtFault : GameText → List ℕ → List ℕ → Fault → Type 0
 StopsAtFault game old new fault = IsFault Main (tag_in fen_tag game.tags) game.elements fault
     × (more : List ℕ) × (new ≡ old ++ more)
-
--- the positions and moves of the whole main line are those before, and then those that are left of
--- the line
-abbrev pub GoesOnWith : PlayedLine → List State → List Move → List State → List Move → Type 0
-GoesOnWith line before played positions moves =
-    (later : List State) × (more : List Move) × IsMainLine line.position line.words later more
-    × (positions ≡ before ++ later) × (moves ≡ played ++ more)
-
--- the game is played up to the line: these are the positions before the one that is reached and the
--- moves between them, and what is left completes the whole
-pub record IsPlayedTo (fen : Option (List ℕ)) (items : List Item) (line : PlayedLine)
-    (before : List State) (played : List Move) : Type 0 where
-  pub start : State
-  pub is_start : IsStart fen start
-  pub count : length before ≡ line.plies
-  pub moves : length played ≡ line.plies
-  pub parts : (positions : List State) (all : List Move)
-      → IsMainLine start (main_words items 0) positions all
-      → GoesOnWith line before played positions all
-  pub completes : (later : List State) (more : List Move)
-      → IsMainLine line.position line.words later more
-      → IsMainLine start (main_words items 0) (before ++ later) (played ++ more)
-  pub faults : (fault : Fault) → IsMoveFault line.position line.plies line.words fault
-      → IsMoveFault start 0 (main_words items 0) fault
 
 -- the mode is that of the listing, and by its heading a game can have no entry
 pub record ListsNone (aim : Aim) (heading : Heading) : Type 0 where

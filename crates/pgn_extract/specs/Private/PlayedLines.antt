@@ -8,8 +8,9 @@ use Rattle.pgn_game.specs.Public.Replays.{IsSoundGame}
 use Rattle.pgn_game.specs.Public.Starts.{fen_tag}
 use Rattle.pgn_game.specs.declared.replays.replayer.Lines.TheVariants.{Main}
 use Rattle.pgn_criteria.specs.Public.Conditions.{Conditions}
+use Rattle.pgn_criteria.specs.Shared.PlayedTo.{IsPlayedTo}
 use Rattle.pgn_extract.specs.Public.Aims.{Aim}
-use Rattle.pgn_extract.specs.Private.Finding.{AsksFor, IsPlayedTo}
+use Rattle.pgn_extract.specs.Private.Finding.{AsksFor}
 use Rattle.pgn_extract.specs.Private.Lines.{Stands}
 
 -- the game is played up to here, and is asked in place of the aim's criteria; that it is sound may

@@ -11,8 +11,8 @@ ghost use Rattle.pgn_criteria.specs.Public.Meeting.{Heading, heading_of};
 ghost use Rattle.pgn_game.specs.Public.Openings.{NamedLine};
 ghost use Rattle.pgn_game.specs.Public.Starts.{fen_tag};
 ghost use Rattle.pgn_game.specs.declared.replays.replayer.Lines.TheVariants.{Main};
-ghost use Rattle.pgn_extract.specs.Public.Aims.{Aim, GameId, aim_of};
-ghost use Rattle.pgn_extract.specs.Private.Finding.{IsChosen, IsOfGame, StopsAtFault};
+ghost use Rattle.pgn_extract.specs.Public.Aims.{Aim, GameId};
+ghost use Rattle.pgn_extract.specs.Private.Finding.{IsOfGame, StopsAtFault};
 ghost use Rattle.pgn_extract.specs.Private.KeptLines.{AreReported, IsKeptWith};
 ghost use Rattle.pgn_extract.specs.Private.RowTexts.{IsPlainValue};
 ghost use Rattle.pgn_extract.specs.Private.Lines.{aim_with, HandsOn, MakesLines, marked_lines};
@@ -26,7 +26,6 @@ use crate::entries::played::push_position_value;
 use crate::output::texts::push_number;
 use crate::rows::column::PlyColumn;
 use crate::rows::uci::push_uci;
-use crate::settings::Settings;
 use chess::san;
 use pgn_criteria::Criteria;
 use pgn_game::{GameFault, Lines, Replayed, replay};
@@ -197,22 +196,4 @@ pub(crate) fn find_kept<'a>(
     let mut line = Kept::of_game(alloc, &finder.settings.criteria, game)?;
     finder.find(&mut line, text, true)?;
     Ok(())
-}
-
-/// The ply of the first entry of a game by criteria, none where it has none; or the fault of its
-/// main line. The positions of its main line are kept meanwhile.
-pub fn first_kept<'a>(
-    alloc: Global,
-    settings: &'a Settings,
-    criteria: &'a Criteria,
-    game: &RawGame<'a>,
-) -> Result<Option<usize>, GameFault<'a>>
-    requires criteria { settings.now.criteria ≡ Some criteria.now }
-    ensures { MatchResult result
-        (IsChosen (aim_of settings.now) game.now)
-        (λ fault.
-        IfSome (fault_of fault) (IsFault Main (tag_in fen_tag game.now.tags) game.now.elements)) }
-{
-    let replayed = replay(alloc, game, Lines::Main)?;
-    Ok(criteria.first(game, &replayed, settings.min_ply, settings.max_ply))
 }

@@ -1,4 +1,4 @@
-use Rattle.pgn_criteria.proofs.Common.{codes_in, IfSome}
+use Rattle.pgn_criteria.proofs.Common.{codes_in}
 use Rattle.pgn_criteria.proofs.ArrivalFacts.{no_such_move}
 use Rattle.pgn_criteria.proofs.by_record.word_is_shown.Goals as goal
 

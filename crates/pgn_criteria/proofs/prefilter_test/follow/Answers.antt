@@ -1,4 +1,4 @@
-use Rattle.pgn_criteria.proofs.Common.{◌≡◌, ◌↔◌, ◌<◌, ◌+◌, ◌*◌, ◌/◌, ◌%◌, true, false, None, arith}
+use Rattle.pgn_criteria.proofs.Common.{◌≡◌, ◌↔◌, ◌<◌, ◌+◌, ◌*◌, ◌/◌, ◌%◌, true, None, arith}
 use Rattle.pgn_criteria.proofs.Common.{square_at, with_man, numbered_man, code_fits}
 use Rattle.pgn_criteria.proofs.prefilter_test.PrefilterTestFacts.{goes, is_taken, is_his_number}
 use Rattle.pgn_criteria.proofs.prefilter_test.PrefilterTestFacts.{no_castle}

@@ -1,5 +1,5 @@
 use Rattle.std.specs.Prelude.{Some}
-use Rattle.pgn_criteria.proofs.Common.{◌<◌, ◌+◌, ◌*◌, ◌/◌, ◌%◌, false, None, arith, square_at}
+use Rattle.pgn_criteria.proofs.Common.{◌<◌, ◌+◌, ◌*◌, ◌/◌, ◌%◌, None, arith, square_at}
 use Rattle.pgn_criteria.proofs.Common.{with_man, numbered_man, code_fits}
 use Rattle.pgn_criteria.proofs.prefilter_test.PrefilterTestFacts.{comes_from, leaves, no_castle}
 use Rattle.pgn_criteria.proofs.prefilter_test.settle.Goals as goal

@@ -49,6 +49,22 @@ returns-then-needs_line c =
     c.find_kept.ensures.found)
     c.find_kept.ensures.fault
 
+pub returns-then-is_bare : goal.returns-then-is_bare
+returns-then-is_bare c =
+    let settings = c.args.context.settings.now in
+    let id = c.args.context.own in
+    let game = c.args.game.now in
+    let finder = c.in_ok-finder in
+    let old = c.args.text.now.items in
+    let new = c.find_told.new.sink.items in
+    on_result c.find_told.result (AddsEntries (aim_of settings) id game old new) (λ fault.
+    IfSome (fault_of fault) (StopsAtFault game old new))
+    (on_ok_weaker c.find_told.result
+    (finder_adds settings id game c.args.is_sound finder.finder finder.ensures old new)
+    c.find_told.ensures.found)
+    (MatchResult-weaker c.find_told.result c.find_told.ensures.fault (λ done none. tt)
+    (λ fault met. IfSome_then _ met (stops_of game old new)))
+
 pub returns-in_default-2 : goal.returns-in_default-2
 returns-in_default-2 c =
     let settings = c.args.context.settings.now in

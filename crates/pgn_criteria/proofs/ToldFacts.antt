@@ -1,0 +1,206 @@
+-- Plies that are told while a game is played.
+use Rattle.pgn_criteria.proofs.Common.{◌≡◌, ◌↔◌, ◌+◌, ◌-◌, ◌<◌, ◌≤◌, ◌++◌, ℕ, Bool, false}
+use Rattle.pgn_criteria.proofs.Common.{List, [], ◌∷◌, length, get_or, Option, Some, IsTrue, refl, sym}
+use Rattle.pgn_criteria.proofs.Common.{ap, ◌∙◌, subst, inl, inr, arith, cases_lt, length-append}
+use Rattle.pgn_criteria.proofs.Common.{append_assoc, append-nil, slice_get, slice_get_within, State, Replay}
+use Rattle.pgn_criteria.proofs.Common.{Conditions, Heading, SomeHold, Meets, AreMet, FitsAt, FitsAbout, IsRun, SpansStand}
+use Rattle.std.proofs.lemmas.List.{get_or_past, get_or_push, get_or_append_left}
+use Rattle.std.proofs.lemmas.List.{get_or-set_same, get_or-set_other}
+use Rattle.std.proofs.Common.{slice_set}
+use Rattle.std.proofs.lemmas.Option.{get_or_from_slice_get}
+use Rattle.std.specs.Option.{is_some}
+use Rattle.std.specs.Prelude.{IfSome, MatchOption, None}
+use Rattle.pgn_criteria.specs.Private.Stages.{AllOfGame, AreSoMany}
+use Rattle.pgn_criteria.specs.Private.Told.{IsTold, AreTold, AreToldOf, AreOfPositions}
+use Rattle.pgn_criteria.proofs.SpanFacts.{all_same, reports_about}
+use Rattle.pgn_criteria.proofs.StageFacts.{one_meets, fits_of, dropped_one, same_plies}
+
+-- none is told past the end
+pub told_within : (told : List Bool) (ply : ℕ) → IsTold told ply → ply < length told
+told_within told ply is = elim (cases_lt ply (length told)) [
+  | inl less ↦ less
+  | inr past ↦ let none : get_or told ply false ≡ false = get_or_past told ply false past in
+      absurd (cc (is, none))
+]
+
+-- at first nothing is told
+pub none_told : (asked : Conditions) → AreToldOf asked [] []
+none_told asked =
+    record { each = refl; exactly = λ replay rest is ply less. absurd (omega (arith, less)) }
+
+at_seam : {A : Type 0} (before : List A) (P : A) (rest : List A)
+    → slice_get (before ++ P ∷ rest) (length before) ≡ Some P
+at_seam [] P rest = refl
+at_seam (first ∷ before) P rest = at_seam before P rest
+
+-- one more ply
+pub told_more : (asked : Conditions) (before : List State) (told new : List Bool) (is : Bool)
+    (P : State) → AreToldOf asked before told → new ≡ told ++ is ∷ []
+    → ((replay : Replay) (ply : ℕ) → slice_get replay.positions ply ≡ Some P
+    → IsTrue is ↔ FitsAt replay asked ply)
+    → AreToldOf asked (before ++ P ∷ []) new
+told_more asked before told new is P so_far items here = record {
+  each = let one = length-append told (is ∷ []) in let all = length-append before (P ∷ []) in
+      let size = ap length items in let each = so_far.each in
+      omega (arith, one, all, size, each);
+  exactly = λ replay rest parts ply less.
+      let whole : replay.positions ≡ before ++ P ∷ rest =
+      parts ∙ append_assoc before (P ∷ []) rest in
+      let each = so_far.each in
+      elim (cases_lt ply (length before)) [
+        | inl sooner ↦
+            let same : get_or new ply false ≡ get_or told ply false =
+            ap (λ xs. get_or xs ply false) items
+            ∙ get_or_append_left told (is ∷ []) false ply (omega (arith, each, sooner)) in
+            let old = so_far.exactly replay (P ∷ rest) whole ply sooner in
+            (λ t. old.0 (sym same ∙ t), λ fits. same ∙ old.1 fits)
+        | inr later ↦
+            let all = length-append before (P ∷ []) in
+            let last : ply ≡ length before = omega (arith, all, less, later) in
+            let same : get_or new ply false ≡ is = ap (λ xs. get_or xs ply false) items
+            ∙ get_or_push told is false ply (omega (arith, each, last)) in
+            let at : slice_get replay.positions ply ≡ Some P =
+            ap (λ ps. slice_get ps ply) whole
+            ∙ ap (λ n. slice_get (before ++ P ∷ rest) n) last ∙ at_seam before P rest in
+            let now = here replay ply at in
+            (λ t. now.0 (sym same ∙ t), λ fits. same ∙ now.1 fits)
+      ];
+}
+
+-- so it is of a whole main line
+pub told_all : (asked : Conditions) (told : List Bool) (replay : Replay)
+    → AreToldOf asked replay.positions told → AreTold (FitsAt replay asked) told
+told_all asked told replay all ply = elim (cases_lt ply (length replay.positions)) [
+  | inl less ↦ all.exactly replay [] (sym (append-nil replay.positions)) ply less
+  | inr past ↦ (
+    λ is. let within = told_within told ply is in let each = all.each in
+        absurd (omega (arith, within, each, past)),
+    λ fits. let within = slice_get_within replay.positions ply fits.0 fits.1 in
+        absurd (omega (arith, within, past)),
+  )
+]
+
+-- ---- runs of plies
+
+pub run_longer : (Such : ℕ → Type 0) (at run : ℕ) → Such at → IsRun Such (at + 1) run
+    → IsRun Such at (run + 1)
+run_longer Such at run such is = record {
+  all = λ i less. elim (cases_lt 0 i) [
+    | inl some ↦ let on : at + 1 + (i - 1) ≡ at + i = omega (arith, some) in
+        subst Such on (is.all (i - 1) (omega (arith, some, less)))
+    | inr none ↦ let on : at ≡ at + i = omega (arith, none) in subst Such on such
+  ];
+  ended = λ more. let on : at + (run + 1) ≡ at + 1 + run = omega arith in
+      is.ended (subst Such on more);
+}
+
+pub run_none : (Such : ℕ → Type 0) (at : ℕ) → (Such at → ⊥) → IsRun Such at 0
+run_none Such at none = record {
+  all = λ i less. absurd (omega (arith, less));
+  ended = λ such. let on : at + 0 ≡ at = omega arith in none (subst Such on such);
+}
+
+run_same : (Such Other : ℕ → Type 0) → ((ply : ℕ) → Such ply ↔ Other ply) → (at run : ℕ)
+    → IsRun Such at run → IsRun Other at run
+run_same Such Other same at run is = record {
+  all = λ i less. (same (at + i)).0 (is.all i less);
+  ended = λ such. is.ended ((same (at + run)).1 such);
+}
+
+-- where `for` and `count` are met at one more ply, from the last one on
+module _ (asked : Conditions) (old now : List Bool) (at run many : ℕ) (is : Bool)
+    (within : at < length now) (begins : IsRun (IsTold old) at run)
+    (all : AreSoMany (IsTold old) many)
+    (stands : IsTrue is ↔ ((0 < run) × SpansStand run many asked.spans)) where
+  pub kept_before : (replay : Replay) → AreTold (FitsAt replay asked) old
+      → ((k : ℕ) → at + 1 ≤ k → IsTold now k ↔ FitsAbout replay asked k)
+      → (k : ℕ) → at ≤ k → IsTold (slice_set now at is) k ↔ FitsAbout replay asked k
+  kept_before replay told done k up = elim (cases_lt at k) [
+    | inl later ↦
+        let same : get_or (slice_set now at is) k false ≡ get_or now k false =
+        get_or-set_other now at k is false (λ e. omega (arith, e, later)) in
+        let there = done k (omega (arith, later)) in
+        (λ t. there.0 (sym same ∙ t), λ about. same ∙ there.1 about)
+    | inr here ↦
+        let last : k ≡ at = omega (arith, up, here) in
+        let put : get_or (slice_set now at is) at false ≡ is =
+        get_or-set_same now at is false within in
+        let Such : ℕ → Type 0 = FitsAt replay asked in
+        let about = reports_about replay asked at run many
+        (run_same (IsTold old) Such told at run begins)
+        (inr (all.0, all_same (IsTold old) Such told all.0 all.1, all.2)) in
+        subst (λ n. IsTold (slice_set now at is) n ↔ FitsAbout replay asked n) (sym last)
+        (λ t. about.0 (stands.0 (sym put ∙ t)), λ fits. put ∙ stands.1 (about.1 fits))
+  ]
+
+-- ---- one alternative alone
+
+-- none of the alternatives so far is left, or one is of which what it says of the game is so; with
+-- those that follow it stands for all
+abbrev pub Leaves : {A : Type 0} → (A → Conditions) → Heading → Replay → List Conditions
+    → Option A → List Conditions → Type 0
+Leaves view heading replay whole only rest =
+    MatchOption only
+    ((ply : ℕ) (P : State) → SomeHold heading replay ply P rest
+    ↔ SomeHold heading replay ply P whole)
+    (λ a. AllOfGame heading replay (view a)
+    × ((ply : ℕ) (P : State) → SomeHold heading replay ply P (view a ∷ rest)
+    ↔ SomeHold heading replay ply P whole))
+
+module _ {A : Type 0} (view : A → Conditions) (heading : Heading) (replay : Replay)
+    (whole left rest : List Conditions) (own : Conditions) (front : left ≡ own ∷ rest) where
+  -- an alternative that is dropped
+  pub leaves_less : (only : Option A) (r : Bool) → r ≡ false
+      → (IsTrue r ↔ AllOfGame heading replay own)
+      → Leaves view heading replay whole only left → Leaves view heading replay whole only rest
+  leaves_less None r fails reports leaves = λ ply P.
+      let one = dropped_one heading replay ply P [] rest own r fails reports in
+      let all = rw front at (leaves ply P) in
+      (λ hold. all.0 (one.0 hold), λ hold. one.1 (all.1 hold))
+  leaves_less (Some a) r fails reports (of_game, leaves) = (
+    of_game,
+    λ ply P.
+        let one = dropped_one heading replay ply P (view a ∷ []) rest own r fails reports in
+        let all = rw front at (leaves ply P) in
+        (λ hold. all.0 (one.0 hold), λ hold. one.1 (all.1 hold)),
+  )
+
+  -- the first that is left
+  pub leaves_one : (only : Option A) → is_some only ≡ false → AllOfGame heading replay own
+      → Leaves view heading replay whole only left → AllOfGame heading replay own
+      × ((ply : ℕ) (P : State) → SomeHold heading replay ply P (own ∷ rest)
+      ↔ SomeHold heading replay ply P whole)
+  leaves_one (Some a) none of_game leaves = absurd (cc (none))
+  leaves_one None none of_game leaves = (of_game, λ ply P. rw front at (leaves ply P))
+
+-- at the end
+pub left_alone : {A : Type 0} (view : A → Conditions) (heading : Heading) (plies : ℕ)
+    (whole rest : List Conditions) (only : Option A) → rest ≡ []
+    → MatchOption only (Unit {0}) (λ a. AreOfPositions (view a))
+    → ((replay : Replay) → length replay.played ≡ plies
+    → Leaves view heading replay whole only rest)
+    → IfSome only (λ a. AreOfPositions (view a)
+    × ((replay : Replay) → length replay.played ≡ plies → AllOfGame heading replay (view a)
+    × ((ply : ℕ) → Meets heading replay ply (view a ∷ []) ↔ Meets heading replay ply whole)))
+left_alone view heading plies whole rest None end are leaves = tt
+left_alone view heading plies whole rest (Some a) end are leaves = (
+  are,
+  λ replay size.
+      let (of_game, same) = leaves replay size in
+      (of_game, same_plies heading replay (view a ∷ []) whole (λ ply P. rw end at (same ply P))),
+)
+
+-- and what is told of it
+pub told_met : (heading : Heading) (replay : Replay) (own : Conditions) (whole : List Conditions)
+    (told : List Bool) → AllOfGame heading replay own
+    → ((ply : ℕ) → Meets heading replay ply (own ∷ []) ↔ Meets heading replay ply whole)
+    → length told ≡ length replay.positions → AreTold (FitsAbout replay own) told
+    → AreMet heading replay whole told
+told_met heading replay own whole told of_game same size are = record {
+  each = size;
+  reports = λ ply is here.
+      let cell : get_or told ply false ≡ is = get_or_from_slice_get told ply is false here in (
+        λ t. (same ply).0 (one_meets heading replay ply own of_game ((are ply).0 (cell ∙ t))),
+        λ met. sym cell ∙ (are ply).1 (fits_of heading replay ply own ((same ply).1 met)),
+      );
+}
