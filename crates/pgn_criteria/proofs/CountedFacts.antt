@@ -39,8 +39,9 @@ module _ (heading : Heading) (replay : Replay) (plies : ℕ) (size : length repl
         subst (λ n. Taken denied (Compares comparison n count)) (sym size) says
     one_of_counted denied claim free says = says
 
-    pub games_of_counted : (games : List (Stated (GameClaim (List ℕ)))) → AllClaims IsFreeOfWords games
-        → AllOfCounted heading plies games → AllTaken (IsSoOfGame heading replay) games
+    pub games_of_counted : (games : List (Stated (GameClaim (List ℕ))))
+        → AllClaims IsFreeOfWords games → AllOfCounted heading plies games
+        → AllTaken (IsSoOfGame heading replay) games
     games_of_counted [] free says = tt
     games_of_counted (one ∷ more) free says = (
       one_of_counted one.is_denied one.claim free.0 says.0,

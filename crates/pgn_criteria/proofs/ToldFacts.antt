@@ -1,18 +1,22 @@
 -- Plies that are told while a game is played.
 use Rattle.pgn_criteria.proofs.Common.{◌≡◌, ◌↔◌, ◌+◌, ◌-◌, ◌<◌, ◌≤◌, ◌++◌, ℕ, Bool, false}
-use Rattle.pgn_criteria.proofs.Common.{List, [], ◌∷◌, length, get_or, Option, Some, IsTrue, refl, sym}
-use Rattle.pgn_criteria.proofs.Common.{ap, ◌∙◌, subst, inl, inr, arith, cases_lt, length-append}
-use Rattle.pgn_criteria.proofs.Common.{append_assoc, append-nil, slice_get, slice_get_within, State, Replay}
-use Rattle.pgn_criteria.proofs.Common.{Conditions, Heading, SomeHold, Meets, AreMet, FitsAt, FitsAbout, IsRun, SpansStand}
+use Rattle.pgn_criteria.proofs.Common.{List, [], ◌∷◌, length, get_or, Option, Some, IsTrue, refl}
+use Rattle.pgn_criteria.proofs.Common.{sym, ap, ◌∙◌, subst, inl, inr, arith, cases_lt}
+use Rattle.pgn_criteria.proofs.Common.{length-append, append_assoc, append-nil, slice_get}
+use Rattle.pgn_criteria.proofs.Common.{slice_get_within}
+use Rattle.pgn_criteria.proofs.Common.{State, Replay}
+use Rattle.pgn_criteria.proofs.Common.{Conditions, Heading, SomeHold, Meets, AreMet, FitsAt}
+use Rattle.pgn_criteria.proofs.Common.{FitsAbout, IsRun, SpansStand}
 use Rattle.std.proofs.lemmas.List.{get_or_past, get_or_push, get_or_append_left}
 use Rattle.std.proofs.lemmas.List.{get_or-set_same, get_or-set_other}
 use Rattle.std.proofs.Common.{slice_set}
 use Rattle.std.proofs.lemmas.Option.{get_or_from_slice_get}
 use Rattle.std.specs.Option.{is_some}
 use Rattle.std.specs.Prelude.{IfSome, MatchOption, None}
+use Rattle.pgn_criteria.proofs.Common.{IsAmong}
 use Rattle.pgn_criteria.specs.Private.Stages.{AllOfGame, AreSoMany}
 use Rattle.pgn_criteria.specs.Private.Told.{IsTold, AreTold, AreToldOf, AreOfPositions}
-use Rattle.pgn_criteria.proofs.SpanFacts.{all_same, reports_about}
+use Rattle.pgn_criteria.proofs.SpanFacts.{all_same, no_spans_hold, reports_about}
 use Rattle.pgn_criteria.proofs.StageFacts.{one_meets, fits_of, dropped_one, same_plies}
 
 -- none is told past the end
@@ -106,6 +110,25 @@ run_same Such Other same at run is = record {
   all = λ i less. (same (at + i)).0 (is.all i less);
   ended = λ such. is.ended ((same (at + run)).1 such);
 }
+
+-- where neither `for` nor `count` is asked for, each ply that fits is met
+pub all_kept : (asked : Conditions) (told : List Bool) (replay : Replay) → asked.spans ≡ []
+    → AreTold (FitsAt replay asked) told → AreTold (FitsAbout replay asked) told
+all_kept asked told replay free are ply =
+    let spans = no_spans_hold (FitsAt replay asked) ply asked.spans free in
+    (λ t. ((are ply).0 t, spans), λ about. (are ply).1 about.0)
+
+none_among : (plies : List ℕ) → length plies ≡ 0 → (ply : ℕ) → IsAmong ply plies → ⊥
+none_among [] none ply among = among
+none_among (first ∷ more) none ply among = absurd (omega (arith, none))
+
+-- where none fits, none is met
+pub none_kept : (asked : Conditions) (told : List Bool) (replay : Replay)
+    → AreSoMany (IsTold told) 0 → AreTold (FitsAt replay asked) told
+    → AreTold (FitsAbout replay asked) told
+none_kept asked told replay (plies, all, none) are ply =
+    let never : IsTold told ply → ⊥ = λ t. none_among plies none ply ((all.exactly ply).1 t) in
+    (λ t. absurd (never t), λ about. absurd (never ((are ply).1 about.0)))
 
 -- where `for` and `count` are met at one more ply, from the last one on
 module _ (asked : Conditions) (old now : List Bool) (at run many : ℕ) (is : Bool)

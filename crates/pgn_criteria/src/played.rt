@@ -1,5 +1,5 @@
 //! The plies of a game that meet criteria, found while its main line is played.
-ghost use Rattle.std.specs.Prelude.{◌≡◌, ◌↔◌, ◌++◌, ◌∷◌, [], ℕ, List, Bool, Some, IsTrue, IfSome};
+ghost use Rattle.std.specs.Prelude.{◌≡◌, ◌↔◌, ◌++◌, ◌∷◌, [], ℕ, Bool, Some, IsTrue, IfSome};
 ghost use Rattle.std.specs.Prelude.{OnOk, MatchResult, map, length};
 ghost use Rattle.std.specs.List.{slice_get};
 ghost use Rattle.pgn_text.specs.Public.GameTexts.{tag_in};
@@ -7,7 +7,8 @@ ghost use Rattle.pgn_game.specs.Public.Faults.{IsFault};
 ghost use Rattle.pgn_game.specs.Public.Replays.{Replay, IsReplay, fault_of};
 ghost use Rattle.pgn_game.specs.Public.Starts.{fen_tag};
 ghost use Rattle.pgn_game.specs.declared.replays.replayer.Lines.TheVariants.{Main};
-ghost use Rattle.pgn_criteria.specs.Public.Meeting.{heading_of, AllTaken, AreMet, IsSoOfMoves, Meets};
+ghost use Rattle.pgn_criteria.specs.Public.Meeting.{heading_of, AllTaken, AreMet, IsSoOfMoves};
+ghost use Rattle.pgn_criteria.specs.Public.Meeting.{Meets};
 ghost use Rattle.pgn_criteria.specs.Private.Stages.{AllClaims, AllOfGame, AreSoMany, FitsAbout};
 ghost use Rattle.pgn_criteria.specs.Private.Stages.{FitsAt, move_seen, stated};
 ghost use Rattle.pgn_criteria.specs.Private.Told.{AreOfPositions, AreTold, IsSetup, IsTold};
@@ -79,12 +80,14 @@ fn add_ply(
 }
 
 /// Plays the main line of the game, and answers for each of its plies whether the position meets
-/// what the conditions say of it; or the fault of the main line. No position is kept.
+/// what the conditions say of it; or the fault of the main line. No position is kept, and there is
+/// room for so many plies from the first.
 #[inline(never)]
 fn fitting_plies<'a>(
     alloc: Global,
     alternative: &Alternative,
     game: &RawGame<'a>,
+    plies: usize,
 ) -> Result<Vec<bool>, GameFault<'a>>
     requires { AllClaims IsSetup alternative.now.moves }
     ensures { MatchResult result
@@ -96,7 +99,7 @@ fn fitting_plies<'a>(
         IfSome (fault_of fault) (IsFault Main (tag_in fen_tag game.now.tags) game.now.elements)) }
 {
     let mut line = MainLine::begin(alloc, game)?;
-    let mut fits = Vec::new(alloc);
+    let mut fits = Vec::with_capacity(alloc, plies.saturating_add(1))?;
     loop {
         add_ply(&mut fits, alternative, line.position())?;
         if !line.advance()? {
@@ -123,7 +126,13 @@ fn keep_spans(fits: &mut [bool], alternative: &Alternative)
     ensures { (replay : Replay) → AreTold (FitsAt replay alternative.now) fits.old
         → AreTold (FitsAbout replay alternative.now) fits.new }
 {
+    if alternative.is_free_of_spans() {
+        return;
+    }
     let many = count_told(fits);
+    if many == 0 {
+        return;
+    }
     let mut run = 0u128;
     let mut ply = fits.len();
     while ply > 0 {
@@ -171,8 +180,9 @@ impl Criteria {
             IfSome (fault_of fault)
             (IsFault Main (tag_in fen_tag game.now.tags) game.now.elements)) }
     {
-        if let Some(only) = self.only_left(game, count_main_moves(game.elements())) {
-            let mut met = fitting_plies(alloc, only, game)?;
+        let plies = count_main_moves(game.elements());
+        if let Some(only) = self.only_left(game, plies) {
+            let mut met = fitting_plies(alloc, only, game, plies)?;
             keep_spans(&mut met, only);
             return Ok(met);
         }

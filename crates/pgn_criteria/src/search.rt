@@ -269,7 +269,7 @@ impl Criteria {
     /// played. Conditions on tags, on the number of plies and on the first moves are decided here,
     /// once. No more of the main line is played than conditions on its first moves ask for; where
     /// it is faulty there, the fault is answered. It is `None` where a condition speaks of the
-    /// moves at each ply, or of several plies: `met_plies` finds the plies then.
+    /// moves at each ply, or of several plies: `met_of_game` finds the plies then.
     pub fn watch<'a>(
         &'a self,
         alloc: Global,

@@ -73,16 +73,18 @@ enough_played (maker.Fields fields) none = (λ is. refl, λ is. refl)
 enough_played (maker.Rows rows) none = no_columns rows.parts.items none
 
 -- one of which nothing but plies is known is enough where no more is shown
-pub enough_told : (lines : LineMaker) → is_bare (made_line lines) ≡ true
-    → IsEnoughFor (λ column. ⊥) lines
-enough_told (maker.Fields fields) bare =
-    let both : (not fields.fen ≡ true) × (not fields.next ≡ true) = and_parts _ _ bare in
-    (λ is. not_both fields.fen is both.0, λ is. not_both fields.next is both.1)
+pub enough_told : (Shows : PlyColumn → Type 0) (lines : LineMaker)
+    → is_bare (made_line lines) ≡ true → IsEnoughFor Shows lines
+enough_told Shows (maker.Fields fields) bare =
+    let both : (not fields.fen ≡ true) × (not fields.next ≡ true) = and_parts _ _ bare in (
+      λ is. absurd (not_both fields.fen is both.0),
+      λ is. absurd (not_both fields.next is both.1),
+    )
   where
     not_both : (b : Bool) → b ≡ true → not b ≡ true → ⊥
     not_both true is off = false≢true off
     not_both false is off = false≢true is
-enough_told (maker.Rows rows) bare = absurd (false≢true bare)
+enough_told Shows (maker.Rows rows) bare = absurd (false≢true bare)
 
 -- Without criteria each position is met.
 

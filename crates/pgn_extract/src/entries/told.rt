@@ -9,11 +9,14 @@ ghost use Rattle.pgn_game.specs.Public.Starts.{fen_tag};
 ghost use Rattle.pgn_game.specs.declared.replays.replayer.Lines.TheVariants.{Main};
 ghost use Rattle.pgn_extract.specs.Public.Aims.{GameId};
 ghost use Rattle.pgn_extract.specs.Private.KeptLines.{IsKeptWith};
-ghost use Rattle.pgn_extract.specs.Private.Lines.{aim_with, HandsOn, MakesLines, is_bare, made_line};
+ghost use Rattle.pgn_extract.specs.Private.Lines.{aim_with, HandsOn, MakesLines, is_bare};
+ghost use Rattle.pgn_extract.specs.Private.Lines.{made_line};
+ghost use Rattle.pgn_extract.specs.declared.rows.column.PlyColumn.TheVariants.{Ply};
 
 use crate::entries::finding::Finder;
 use crate::entries::line::Line;
 use crate::entries::sink::Sink;
+use crate::output::texts::push_number;
 use crate::rows::column::PlyColumn;
 use pgn_criteria::Criteria;
 use pgn_game::GameFault;
@@ -36,7 +39,7 @@ impl Line for Told {
 
     ghost Valid = { λ own. Unit {0} };
 
-    ghost Shows = { λ column. ⊥ };
+    ghost Shows = { λ column. column ≡ Ply };
 
     ghost size = { λ own. length own.met.items - own.ply };
 
@@ -52,8 +55,11 @@ impl Line for Told {
         self.met[self.ply]
     }
 
-    fn push_value(&self, _: &mut Vec<u8>, _: PlyColumn) -> Result<(), AllocError> {
-        unreachable!()
+    fn push_value(&self, text: &mut Vec<u8>, column: PlyColumn) -> Result<(), AllocError> {
+        match column {
+            PlyColumn::Ply => push_number(text, self.ply),
+            _ => unreachable!(),
+        }
     }
 
     #[inline(always)]

@@ -14,7 +14,7 @@ loop-fits-init c = record {
   before = [];
   played = [];
   to = played_none c.in_ok-line.ensures;
-  told = subst (AreToldOf c.args.alternative.now []) (sym c.new-fits.ensures.items)
+  told = subst (AreToldOf c.args.alternative.now []) (sym c.in_ok-fits.ensures.items)
       (none_told c.args.alternative.now);
 }
 

@@ -1,10 +1,21 @@
 use Rattle.pgn_criteria.proofs.Common.{◌≡◌, ◌<◌, ◌≤◌, ◌+◌, ◌-◌, ℕ, false, get_or, length, sym, ◌∙◌}
 use Rattle.pgn_criteria.proofs.Common.{subst, arith, IsRun}
 use Rattle.std.proofs.lemmas.List.{get_or-set_other}
-use Rattle.pgn_criteria.proofs.ToldFacts.{run_longer, run_none, kept_before}
+use Rattle.pgn_criteria.proofs.ToldFacts.{run_longer, run_none, kept_before, all_kept, none_kept}
+use Rattle.pgn_criteria.specs.Private.Stages.{AreSoMany}
 use Rattle.pgn_criteria.specs.Private.Told.{IsTold}
 use Rattle.pgn_criteria.proofs.played.keep_spans.Goals.{then-fits-ply, else-fits-ply}
 use Rattle.pgn_criteria.proofs.played.keep_spans.Goals as goal
+
+pub returns-then-is_free_of_spans : goal.returns-then-is_free_of_spans
+returns-then-is_free_of_spans c replay told =
+    all_kept c.args.alternative.now c.args.fits.now replay
+    (c.is_free_of_spans.ensures.0 c.if-is_free_of_spans.true) told
+
+pub returns-then-many-eq0 : goal.returns-then-many-eq0
+returns-then-many-eq0 c replay told =
+    none_kept c.args.alternative.now c.args.fits.now replay
+    (subst (AreSoMany (IsTold c.args.fits.now)) c.if-many-eq0.true c.count_told-many.ensures) told
 
 pub loop-ply-preserved : goal.loop-ply-preserved
 loop-ply-preserved c =
@@ -23,7 +34,8 @@ loop-ply-preserved c =
     let both : IsRun (IsTold old) at c.if-fits-ply.run × (c.if-fits-ply.run ≤ c.loop-ply.run + 1) =
     elim c.if-fits-ply.branch [
       | then-fits-ply w ↦ (
-        rw w.run-is (run_longer (IsTold old) at c.loop-ply.run (sym same ∙ w.if-fits-ply.true) after),
+        rw w.run-is
+            (run_longer (IsTold old) at c.loop-ply.run (sym same ∙ w.if-fits-ply.true) after),
         omega (arith, w.run-is),
       )
       | else-fits-ply w ↦ (

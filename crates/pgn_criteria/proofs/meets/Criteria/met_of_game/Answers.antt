@@ -1,6 +1,6 @@
 use Rattle.std.proofs.lemmas.List.{take_at}
-use Rattle.pgn_criteria.proofs.Common.{◌≡◌, ◌++◌, ◌∙◌, ap, sym, subst, List, Bool, length, take, drop}
-use Rattle.pgn_criteria.proofs.Common.{heading_of, AreMet, FitsAt}
+use Rattle.pgn_criteria.proofs.Common.{◌≡◌, ◌++◌, ◌∙◌, ap, sym, subst, List, Bool, length, take}
+use Rattle.pgn_criteria.proofs.Common.{drop, heading_of, AreMet, FitsAt}
 use Rattle.pgn_game.specs.Public.MainLines.{main_words}
 use Rattle.pgn_game.proofs.OneLine.{plies_played}
 use Rattle.pgn_criteria.specs.Private.Told.{AreTold}
@@ -17,7 +17,7 @@ returns-in-Some c =
     let played = plies_played is.start words replay.positions replay.played is.line in
     let counted = ap (λ items. length (main_words items 0)) c.elements.ensures.elements in
     let left = c.in-Some.ensures.1 replay
-    (sym played ∙ sym counted ∙ sym c.count_main_moves.ensures) in
+    (sym played ∙ sym counted ∙ sym c.count_main_moves-plies.ensures) in
     let new = c.keep_spans.new.fits in
     let whole : List Bool = take c.in_ok-met.met.len (new
     ++ drop (length new) c.in_ok-met.met.items) in

@@ -1,4 +1,5 @@
-use Rattle.pgn_extract.proofs.Common.{[], sym, subst, aim_with, List, Option, heading_of}
+use Rattle.pgn_extract.specs.declared.rows.column.PlyColumn.TheVariants.{Ply}
+use Rattle.pgn_extract.proofs.Common.{◌≡◌, [], sym, subst, aim_with, List, Option, heading_of}
 use Rattle.pgn_extract.proofs.Common.{Conditions, arith, ap, length, main_words}
 use Rattle.pgn_extract.proofs.PackedFacts.{line_begins}
 use Rattle.pgn_extract.proofs.Finds.{none_yet}
@@ -18,7 +19,8 @@ invariant_of-line g c =
     record { within = omega (arith, size, some) }
 
 pub find-requires-clause-shows : goal.find-requires-clause-shows
-find-requires-clause-shows g c = enough_told c.args.finder.now.lines c.requires.bare
+find-requires-clause-shows g c =
+    enough_told (λ column. column ≡ Ply) c.args.finder.now.lines c.requires.bare
 
 pub returns-clause-found : goal.returns-clause-found
 returns-clause-found g c name openings id of =
