@@ -103,6 +103,21 @@ impl<B: Board> Position<B> {
         }
     }
 
+    /// Makes it exactly the other position. No memory is needed.
+    #[inline(always)]
+    pub fn copy_from(&mut self, other: &Self)
+        ensures { self.new ≡ other.now }
+    {
+        self.board = other.board;
+        self.turn = other.turn;
+        self.rights = other.rights;
+        self.en_passant = other.en_passant;
+        self.halfmove_clock = other.halfmove_clock;
+        self.fullmove_number = other.fullmove_number;
+        self.white_king = other.white_king;
+        self.black_king = other.black_king;
+    }
+
     /// Every position keeps the facts of `IsSound`, however it was come by: a caller that asks
     /// knows them. Nothing is done.
     pub fn invariant(&self)

@@ -3,10 +3,14 @@ use Rattle.std.specs.Prelude.{is_some}
 use Rattle.pgn_criteria.proofs.Common.{◌≡◌, ◌↔◌, ◌⊎◌, ◌-◌, ◌++◌, ◌<◌, ◌≤◌, ℕ, Bool, true, false}
 use Rattle.pgn_criteria.proofs.Common.{List, [], ◌∷◌, length, get_or, Option, Some, None, IsTrue}
 use Rattle.pgn_criteria.proofs.Common.{refl, sym, ap, ◌∙◌, subst, append_assoc, arith, inl, inr}
-use Rattle.pgn_criteria.proofs.Common.{false≢true, nat_tests, slice_get, if◌then◌else◌, Place}
+use Rattle.pgn_criteria.proofs.Common.{false≢true, nat_tests, if◌then◌else◌, Place}
 use Rattle.pgn_criteria.proofs.Common.{State, kind_letter, file_letter, rank_digit, is_check_sign}
 use Rattle.pgn_criteria.proofs.Common.{IsSan, Kind, King, Queen, Rook, Bishop, Knight, Pawn, Wing}
-use Rattle.pgn_criteria.proofs.Common.{KingSide, Replay, without_check_signs, IsLike, GoesOnBy}
+use Rattle.pgn_criteria.proofs.Common.{KingSide, without_check_signs, IsLike}
+use Rattle.std.specs.List.{list_any}
+use Rattle.std.proofs.lemmas.Bool.{or_cases, or_left, or_right}
+use Rattle.chess.specs.Public.Squares.{IsOnBoard}
+use Rattle.std.specs.Prelude.{◌==◌}
 use Rattle.chess.specs.Public.Letters.{square_text}
 use Rattle.chess.specs.Public.San.{promotion_text, castling_text, IsDisambiguation, is_capture}
 use Rattle.chess.specs.Public.San.{capture_text, IsPieceText, IsBody, IsCheckSign}
@@ -14,7 +18,7 @@ use Rattle.chess.specs.Public.San.IsDisambiguation.{alone, by_file, by_rank, by_
 use Rattle.chess.specs.Public.San.IsCheckSign.{mate}
 use Rattle.chess.specs.declared.board.man.Wing.TheVariants.{QueenSide}
 use Rattle.chess.specs.declared.moves.Move.{Move}
-use Rattle.pgn_criteria.specs.Private.MoveEnds.{BeginsWith, EndsWith, RulesOut}
+use Rattle.pgn_criteria.specs.Private.MoveEnds.{BeginsWith, EndsWith, HasByte, IsMoveLike, RulesOut}
 
 -- each byte is above those of the marks
 abbrev AreAbove : List ℕ → Type 0
@@ -285,17 +289,111 @@ word_ends word text some plain like =
     like_ends parts.0 (get_or word (length word - 1) 0) text plain
     (subst (λ w. IsLike w text) parts.1 like)
 
--- what rules out the move of a ply rules out that the main line goes on so
-pub not_gone_on : (replay : Replay) (plies : ℕ) (word : List ℕ) (P : State) (m : Move) (r : Bool)
-    → slice_get replay.positions plies ≡ Some P
-    → slice_get replay.played plies ≡ Some m → RulesOut r P m (IsLike word) → r ≡ false
-    → IsTrue false ↔ GoesOnBy replay plies word
-not_gone_on replay plies word P m r here played rules out = (
+-- ---- the sign of a capture
+
+-- each byte is below that sign
+abbrev AreBelow : List ℕ → Type 0
+AreBelow [] = Unit {0}
+AreBelow (b ∷ x) = (b < 120) × AreBelow x
+
+below_both : (x y : List ℕ) → AreBelow x → AreBelow y → AreBelow (x ++ y)
+below_both [] y first other = other
+below_both (b ∷ x) y first other = (first.0, below_both x y first.1 other)
+
+below_kind : (piece : Kind) → kind_letter piece < 120
+below_kind King = omega arith
+below_kind Queen = omega arith
+below_kind Rook = omega arith
+below_kind Bishop = omega arith
+below_kind Knight = omega arith
+below_kind Pawn = omega arith
+
+below_square : (s : Place) → IsOnBoard s → AreBelow (square_text s)
+below_square s on =
+    let file = on.file_high in let rank = on.rank_high in
+    (omega (arith, file), (omega (arith, rank), tt))
+
+below_promotion : (promote : Option Kind) → AreBelow (promotion_text true promote)
+below_promotion None = tt
+below_promotion (Some piece) = (omega arith, (below_kind piece, tt))
+
+module _ (P : State) (m : Move) (from_on : IsOnBoard m.from) (to_on : IsOnBoard m.to)
+    (quiet : is_capture P m ≡ false) where
+  below_origin : (origin : List ℕ) → IsDisambiguation P m origin → AreBelow origin
+  below_origin _ (alone never) = tt
+  below_origin _ (by_file some never) = ((below_square m.from from_on).0, tt)
+  below_origin _ (by_rank some never) = ((below_square m.from from_on).1.0, tt)
+  below_origin _ (by_both some other) = below_square m.from from_on
+
+  below_piece : (piece : Kind) (x : List ℕ) → IsPieceText P m piece x → AreBelow x
+  below_piece piece x (origin, is, text) =
+      subst AreBelow (sym text) (
+        below_kind piece,
+        below_both origin (capture_text P m ++ square_text m.to) (below_origin origin is)
+            (subst (λ t. AreBelow ((if t then 120 ∷ [] else []) ++ square_text m.to)) (sym quiet)
+            (below_square m.to to_on)),
+      )
+
+  below_body : (castle : Option Wing) (piece : Kind) (x : List ℕ) → IsBody P m castle piece x
+      → AreBelow x
+  below_body (Some KingSide) piece x is =
+      subst AreBelow (sym is) (omega arith, (omega arith, (omega arith, tt)))
+  below_body (Some QueenSide) piece x is =
+      subst AreBelow (sym is) (
+        omega arith,
+        (omega arith, (omega arith, (omega arith, (omega arith, tt)))),
+      )
+  below_body None Pawn x is =
+      subst AreBelow (sym is)
+      (subst (λ t. AreBelow ((if t then file_letter m.from.file ∷ 120 ∷ [] else [])
+      ++ (square_text m.to ++ promotion_text true m.promote))) (sym quiet)
+      (below_both (square_text m.to) (promotion_text true m.promote) (below_square m.to to_on)
+      (below_promotion m.promote)))
+  below_body None King x is = below_piece King x is
+  below_body None Queen x is = below_piece Queen x is
+  below_body None Rook x is = below_piece Rook x is
+  below_body None Bishop x is = below_piece Bishop x is
+  below_body None Knight x is = below_piece Knight x is
+
+  below_lacks : (x : List ℕ) → AreBelow x → HasByte 120 x → ⊥
+  below_lacks [] below has = absurd (cc (has))
+  below_lacks (b ∷ x) below has = elim (or_cases (b == 120) (list_any (λ y. y == 120) x) has) [
+    | inl here ↦ let less = below.0 in grind (arith, nat_tests, here, less)
+    | inr later ↦ below_lacks x below.1 later
+  ]
+
+  -- a move that takes nothing has no such sign
+  pub quiet_text : (text : List ℕ) → IsSan P m text → HasByte 120 (without_check_signs text) → ⊥
+  quiet_text text san has =
+      below_lacks san.body (below_body m.castle san.man.kind san.body san.body_is)
+      (subst (HasByte 120) (bare_text P m text san) has)
+
+has_after : (b : ℕ) (some x : List ℕ) → HasByte b x → HasByte b (some ++ x)
+has_after b [] x has = has
+has_after b (a ∷ some) x has =
+    or_right (a == b) (list_any (λ y. y == b) (some ++ x)) (has_after b some x has)
+
+-- a byte of the word that is no star stands in a text that is like it
+pub like_has : (b : ℕ) (word text : List ℕ) → (b ≡ 42 → ⊥) → HasByte b word → IsLike word text
+    → HasByte b text
+like_has b [] text plain has like = absurd (cc (has))
+like_has b (a ∷ word) text plain has (inl (is, (some, rest, parts, like))) =
+    elim (or_cases (a == b) (list_any (λ y. y == b) word) has) [
+      | inl here ↦ absurd (grind (arith, nat_tests, here, is, plain))
+      | inr later ↦ subst (HasByte b) (sym parts)
+          (has_after b some rest (like_has b word rest plain later like))
+    ]
+like_has b (a ∷ word) text plain has (inr (rest, parts, like)) =
+    subst (HasByte b) (sym parts) (elim (or_cases (a == b) (list_any (λ y. y == b) word) has) [
+      | inl here ↦ or_left (a == b) (list_any (λ y. y == b) rest) here
+      | inr later ↦ or_right (a == b) (list_any (λ y. y == b) rest)
+          (like_has b word rest plain later like)
+    ])
+
+-- what rules out a move rules out that it is like the word
+pub not_like : (P : State) (m : Move) (word : List ℕ) (r : Bool) → RulesOut r P m (IsLike word)
+    → r ≡ false → IsTrue false ↔ IsMoveLike P m word
+not_like P m word r rules out = (
   λ t. absurd (false≢true t),
-  λ goes.
-      let same_position : goes.position ≡ P = cc (goes.here, here) in
-      let same_move : goes.move ≡ m = cc (goes.played, played) in
-      absurd (rules out goes.text
-      (subst (λ p. IsSan p m goes.text) same_position
-      (subst (λ n. IsSan goes.position n goes.text) same_move goes.is_text)) goes.like),
+  λ found. absurd (rules out found.0 found.1 found.2),
 )

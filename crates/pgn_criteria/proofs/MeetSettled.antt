@@ -27,7 +27,7 @@ use Rattle.pgn_criteria.specs.Public.Meeting.{IsSoOfValue}
 use Rattle.pgn_criteria.specs.Public.Laws.{EachPositionMeetsOrDoesNot}
 use Rattle.pgn_criteria.proofs.MeetFacts.{meets_at}
 use Rattle.pgn_criteria.proofs.MoveFacts.{by_move, star_now, star_on, star_none, star_cases}
-use Rattle.pgn_criteria.proofs.MoveFacts.{byte_now, byte_back, byte_none, by_like}
+use Rattle.pgn_criteria.proofs.MoveFacts.{byte_now, byte_back, byte_none, gone_on, like_move}
 use Rattle.pgn_criteria.proofs.SetupFacts.{settled_set_up}
 use Rattle.pgn_criteria.proofs.MirrorFacts.{mirrored_on}
 use Rattle.pgn_criteria.proofs.laws.MenSettled.{settled_material}
@@ -132,7 +132,8 @@ settled_on replay plies word on_board legal =
             | Some m ↦ λ played.
                 let text = some_san P m (on_board plies P here) (legal plies P m here played) in
                 settled_by (λ r reports.
-                by_like replay plies word text.0 P m r one_san here played text.1 reports)
+                gone_on replay plies word P m r here played
+                (like_move P m word text.0 r one_san text.1 reports))
                 (settled_alike word (without_check_signs text.0))
           ] refl
     ] refl

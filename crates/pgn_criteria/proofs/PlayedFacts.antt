@@ -6,7 +6,7 @@ use Rattle.chess.specs.Public.Moves.{after}
 use Rattle.chess.specs.declared.moves.Move.{Move as OneMove}
 use Rattle.pgn_text.specs.Public.Games.{Item}
 use Rattle.pgn_game.proofs.OneReplay.{one_move}
-use Rattle.pgn_game.specs.Public.Faults.{IsMoveFault}
+use Rattle.pgn_game.specs.Public.Faults.{Fault, IsFault, IsMoveFault}
 use Rattle.pgn_game.specs.Public.MainLines.{main_words, IsMainLine}
 use Rattle.pgn_game.specs.Public.PlayedLines.{PlayedLine, PlaysWord, IsBegun}
 use Rattle.pgn_game.specs.Public.Replays.{IsReplay}
@@ -105,3 +105,10 @@ played_all {fen} {items} {line} {before} {played} to ends = record {
       (refl, refl)));
   turns = refl;
 }
+
+-- a fault of what is left is one of the game
+pub played_fault : {fen : Option (List ℕ)} {items : List Item} {line : PlayedLine}
+    {before : List State} {played : List OneMove}
+    → IsPlayedTo fen items line before played → (fault : Fault)
+    → IsMoveFault line.position line.plies line.words fault → IsFault Main fen items fault
+played_fault to fault met = inr (to.start, to.is_start, to.faults fault met)

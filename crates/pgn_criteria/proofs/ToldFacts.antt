@@ -2,7 +2,7 @@
 use Rattle.pgn_criteria.proofs.Common.{◌≡◌, ◌↔◌, ◌+◌, ◌-◌, ◌<◌, ◌≤◌, ◌++◌, ℕ, Bool, false}
 use Rattle.pgn_criteria.proofs.Common.{List, [], ◌∷◌, length, get_or, Option, Some, IsTrue, refl}
 use Rattle.pgn_criteria.proofs.Common.{sym, ap, ◌∙◌, subst, inl, inr, arith, cases_lt}
-use Rattle.pgn_criteria.proofs.Common.{length-append, append_assoc, append-nil, slice_get}
+use Rattle.pgn_criteria.proofs.Common.{length-append}
 use Rattle.pgn_criteria.proofs.Common.{slice_get_within}
 use Rattle.pgn_criteria.proofs.Common.{State, Replay}
 use Rattle.pgn_criteria.proofs.Common.{Conditions, Heading, SomeHold, Meets, AreMet, FitsAt}
@@ -13,9 +13,10 @@ use Rattle.std.proofs.Common.{slice_set}
 use Rattle.std.proofs.lemmas.Option.{get_or_from_slice_get}
 use Rattle.std.specs.Option.{is_some}
 use Rattle.std.specs.Prelude.{IfSome, MatchOption, None}
-use Rattle.pgn_criteria.proofs.Common.{IsAmong}
+use Rattle.pgn_criteria.proofs.Common.{AllClaims, IsAmong}
 use Rattle.pgn_criteria.specs.Private.Stages.{AllOfGame, AreSoMany}
-use Rattle.pgn_criteria.specs.Private.Told.{IsTold, AreTold, AreToldOf, AreOfPositions}
+use Rattle.pgn_criteria.specs.Private.Told.{IsTold, AreTold, AreToldOf}
+use Rattle.pgn_criteria.specs.Private.Counted.{IsFreeOfWords}
 use Rattle.pgn_criteria.proofs.SpanFacts.{all_same, no_spans_hold, reports_about}
 use Rattle.pgn_criteria.proofs.StageFacts.{one_meets, fits_of, dropped_one, same_plies}
 
@@ -28,54 +29,43 @@ told_within told ply is = elim (cases_lt ply (length told)) [
 ]
 
 -- at first nothing is told
-pub none_told : (asked : Conditions) → AreToldOf asked [] []
-none_told asked =
-    record { each = refl; exactly = λ replay rest is ply less. absurd (omega (arith, less)) }
-
-at_seam : {A : Type 0} (before : List A) (P : A) (rest : List A)
-    → slice_get (before ++ P ∷ rest) (length before) ≡ Some P
-at_seam [] P rest = refl
-at_seam (first ∷ before) P rest = at_seam before P rest
+pub none_told : (asked : Conditions) (Of : Replay → Type 0) → AreToldOf asked 0 Of []
+none_told asked Of =
+    record { each = refl; exactly = λ replay of ply less. absurd (omega (arith, less)) }
 
 -- one more ply
-pub told_more : (asked : Conditions) (before : List State) (told new : List Bool) (is : Bool)
-    (P : State) → AreToldOf asked before told → new ≡ told ++ is ∷ []
-    → ((replay : Replay) (ply : ℕ) → slice_get replay.positions ply ≡ Some P
-    → IsTrue is ↔ FitsAt replay asked ply)
-    → AreToldOf asked (before ++ P ∷ []) new
-told_more asked before told new is P so_far items here = record {
-  each = let one = length-append told (is ∷ []) in let all = length-append before (P ∷ []) in
-      let size = ap length items in let each = so_far.each in
-      omega (arith, one, all, size, each);
-  exactly = λ replay rest parts ply less.
-      let whole : replay.positions ≡ before ++ P ∷ rest =
-      parts ∙ append_assoc before (P ∷ []) rest in
+pub told_more : (asked : Conditions) (count : ℕ) (Old New : Replay → Type 0) (told new : List Bool)
+    (is : Bool) → AreToldOf asked count Old told → new ≡ told ++ is ∷ []
+    → ((replay : Replay) → New replay → Old replay × (IsTrue is ↔ FitsAt replay asked count))
+    → AreToldOf asked (count + 1) New new
+told_more asked count Old New told new is so_far items here = record {
+  each = let one = length-append told (is ∷ []) in let size = ap length items in
+      let each = so_far.each in omega (arith, one, size, each);
+  exactly = λ replay of ply less.
       let each = so_far.each in
-      elim (cases_lt ply (length before)) [
+      let (old, now) = here replay of in
+      elim (cases_lt ply count) [
         | inl sooner ↦
             let same : get_or new ply false ≡ get_or told ply false =
             ap (λ xs. get_or xs ply false) items
             ∙ get_or_append_left told (is ∷ []) false ply (omega (arith, each, sooner)) in
-            let old = so_far.exactly replay (P ∷ rest) whole ply sooner in
-            (λ t. old.0 (sym same ∙ t), λ fits. same ∙ old.1 fits)
+            let there = so_far.exactly replay old ply sooner in
+            (λ t. there.0 (sym same ∙ t), λ fits. same ∙ there.1 fits)
         | inr later ↦
-            let all = length-append before (P ∷ []) in
-            let last : ply ≡ length before = omega (arith, all, less, later) in
+            let last : ply ≡ count = omega (arith, less, later) in
             let same : get_or new ply false ≡ is = ap (λ xs. get_or xs ply false) items
             ∙ get_or_push told is false ply (omega (arith, each, last)) in
-            let at : slice_get replay.positions ply ≡ Some P =
-            ap (λ ps. slice_get ps ply) whole
-            ∙ ap (λ n. slice_get (before ++ P ∷ rest) n) last ∙ at_seam before P rest in
-            let now = here replay ply at in
-            (λ t. now.0 (sym same ∙ t), λ fits. same ∙ now.1 fits)
+            let at = subst (λ n. IsTrue is ↔ FitsAt replay asked n) (sym last) now in
+            (λ t. at.0 (sym same ∙ t), λ fits. same ∙ at.1 fits)
       ];
 }
 
 -- so it is of a whole main line
-pub told_all : (asked : Conditions) (told : List Bool) (replay : Replay)
-    → AreToldOf asked replay.positions told → AreTold (FitsAt replay asked) told
-told_all asked told replay all ply = elim (cases_lt ply (length replay.positions)) [
-  | inl less ↦ all.exactly replay [] (sym (append-nil replay.positions)) ply less
+pub told_all : (asked : Conditions) (Of : Replay → Type 0) (told : List Bool) (replay : Replay)
+    → Of replay → AreToldOf asked (length replay.positions) Of told
+    → AreTold (FitsAt replay asked) told
+told_all asked Of told replay of all ply = elim (cases_lt ply (length replay.positions)) [
+  | inl less ↦ all.exactly replay of ply less
   | inr past ↦ (
     λ is. let within = told_within told ply is in let each = all.each in
         absurd (omega (arith, within, each, past)),
@@ -199,10 +189,10 @@ module _ {A : Type 0} (view : A → Conditions) (heading : Heading) (replay : Re
 -- at the end
 pub left_alone : {A : Type 0} (view : A → Conditions) (heading : Heading) (plies : ℕ)
     (whole rest : List Conditions) (only : Option A) → rest ≡ []
-    → MatchOption only (Unit {0}) (λ a. AreOfPositions (view a))
+    → MatchOption only (Unit {0}) (λ a. AllClaims IsFreeOfWords (view a).games)
     → ((replay : Replay) → length replay.played ≡ plies
     → Leaves view heading replay whole only rest)
-    → IfSome only (λ a. AreOfPositions (view a)
+    → IfSome only (λ a. AllClaims IsFreeOfWords (view a).games
     × ((replay : Replay) → length replay.played ≡ plies → AllOfGame heading replay (view a)
     × ((ply : ℕ) → Meets heading replay ply (view a ∷ []) ↔ Meets heading replay ply whole)))
 left_alone view heading plies whole rest None end are leaves = tt

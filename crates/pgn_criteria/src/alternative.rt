@@ -5,14 +5,14 @@ ghost use Rattle.chess.specs.Public.Placements.{Placement};
 ghost use Rattle.chess.specs.Public.Positions.{State};
 ghost use Rattle.pgn_game.specs.Public.PackReading.{IsRawOfGame};
 ghost use Rattle.pgn_game.specs.Public.Replays.{Replay};
-ghost use Rattle.pgn_criteria.specs.Private.Counted.{AllOfCounted, AreFreeOfWords};
+ghost use Rattle.pgn_criteria.specs.Private.Counted.{AllOfCounted, AreFreeOfWords, IsFreeOfWords};
 ghost use Rattle.pgn_criteria.specs.Private.Planning.{Plans};
-ghost use Rattle.pgn_criteria.specs.Private.Told.{AreOfPositions};
 ghost use Rattle.pgn_criteria.specs.Private.Records.{heading_of_raw};
 ghost use Rattle.pgn_criteria.specs.Public.Meeting.{Meets};
 ghost use Rattle.pgn_criteria.specs.Public.Walks.{IsSeenOf};
 ghost use Rattle.pgn_criteria.specs.Private.Stages.{AreLegal, AreGood, AllOfGame, AllOfHeading};
-ghost use Rattle.pgn_criteria.specs.Private.Stages.{AllAskWithin, AreFreeOfMoves, AllOfPly};
+ghost use Rattle.pgn_criteria.specs.Private.Stages.{AllAskWithin, AllClaims, AreFreeOfMoves};
+ghost use Rattle.pgn_criteria.specs.Private.Stages.{AllOfPly};
 ghost use Rattle.pgn_criteria.specs.Private.Stages.{AllSaid, AllOfSeen, AreFixed, AreMirrored};
 ghost use Rattle.pgn_criteria.specs.Private.Stages.{OfPattern, AllOfPatterns, AllOfStage};
 ghost use Rattle.pgn_criteria.specs.Private.Stages.{AllOfRest, AreNoCounts, SpansStand};
@@ -35,7 +35,6 @@ use crate::meets::{
 use crate::mirror::{all_mirrored, are_fixed};
 use crate::numbers::numbers_are_shown;
 use crate::plan::Plan;
-use crate::played::are_setups;
 use crate::prefilter::Prefilter;
 use crate::seen::Seen;
 use crate::spans::{are_no_counts, spans_stand};
@@ -365,11 +364,11 @@ impl Alternative {
         self.moves.is_empty() && self.spans.is_empty() && are_free_of_words(&self.games)
     }
 
-    /// Whether none of the conditions speaks of single moves of the game.
-    pub(crate) fn is_of_positions(&self) -> bool
-        ensures { IsTrue result ↔ AreOfPositions self.now }
+    /// Whether none of the conditions speaks of the first moves of the game.
+    pub(crate) fn has_no_words(&self) -> bool
+        ensures { IsTrue result ↔ AllClaims IsFreeOfWords self.now.games }
     {
-        are_free_of_words(&self.games) && are_setups(&self.moves)
+        are_free_of_words(&self.games)
     }
 
     /// The marks of positions with which the conditions hold. It is `None` where one of them has

@@ -2,7 +2,7 @@
 ghost use Rattle.std.specs.Prelude.{◌≡◌};
 ghost use Rattle.chess.specs.Public.Letters.{kind_letter};
 ghost use Rattle.chess.specs.Public.Positions.{State};
-ghost use Rattle.pgn_criteria.specs.Private.MoveEnds.{BeginsWith, EndsWith, RulesOut};
+ghost use Rattle.pgn_criteria.specs.Private.MoveEnds.{BeginsWith, EndsWith, HasByte, RulesOut};
 ghost use Rattle.pgn_criteria.specs.Public.MoveTexts.{IsLike};
 
 use chess::{Kind, Move};
@@ -53,7 +53,16 @@ fn may_end_with(m: &Move, byte: u8) -> bool
     }
 }
 
-/// Whether the text of the move may be like the word, by its first and its last byte.
+/// Whether the text of the move may have the sign of a capture, by `Position::is_capture`.
+fn may_take(position: &GamePosition, m: &Move) -> bool
+    ensures { RulesOut result position.now m.now (HasByte 120) }
+{
+    let _on_board = (m.from.file(), m.to.file());
+    position.is_capture(m)
+}
+
+/// Whether the text of the move may be like the word, by its first and its last byte, and by the
+/// sign of a capture.
 pub(crate) fn may_be_like(position: &GamePosition, m: &Move, word: &[u8]) -> bool
     ensures { RulesOut result position.now m.now (IsLike word.now) }
 {
@@ -61,6 +70,9 @@ pub(crate) fn may_be_like(position: &GamePosition, m: &Move, word: &[u8]) -> boo
         if *last != b'*' && !may_end_with(m, *last) {
             return false;
         }
+    }
+    if word.contains(&b'x') && !may_take(position, m) {
+        return false;
     }
     match word {
         [first, ..] => *first == b'*' || may_begin_with(position, m, *first),

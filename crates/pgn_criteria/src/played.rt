@@ -2,28 +2,45 @@
 ghost use Rattle.std.specs.Prelude.{◌≡◌, ◌↔◌, ◌++◌, ◌∷◌, [], ℕ, Bool, Some, IsTrue, IfSome};
 ghost use Rattle.std.specs.Prelude.{OnOk, MatchResult, map, length};
 ghost use Rattle.std.specs.List.{slice_get};
+ghost use Rattle.chess.specs.Public.Moves.{IsLegal};
 ghost use Rattle.pgn_text.specs.Public.GameTexts.{tag_in};
 ghost use Rattle.pgn_game.specs.Public.Faults.{IsFault};
 ghost use Rattle.pgn_game.specs.Public.Replays.{Replay, IsReplay, fault_of};
 ghost use Rattle.pgn_game.specs.Public.Starts.{fen_tag};
 ghost use Rattle.pgn_game.specs.declared.replays.replayer.Lines.TheVariants.{Main};
-ghost use Rattle.pgn_criteria.specs.Public.Meeting.{heading_of, AllTaken, AreMet, IsSoOfMoves};
-ghost use Rattle.pgn_criteria.specs.Public.Meeting.{Meets};
+ghost use Rattle.pgn_criteria.specs.Public.Meeting.{heading_of, AreMet, Meets};
+ghost use Rattle.pgn_criteria.specs.Private.Counted.{IsFreeOfWords};
 ghost use Rattle.pgn_criteria.specs.Private.Stages.{AllClaims, AllOfGame, AreSoMany, FitsAbout};
 ghost use Rattle.pgn_criteria.specs.Private.Stages.{FitsAt, move_seen, stated};
-ghost use Rattle.pgn_criteria.specs.Private.Told.{AreOfPositions, AreTold, IsSetup, IsTold};
+ghost use Rattle.pgn_criteria.specs.Private.Told.{AllAbout, AreTold, FitsBefore, IsAbout, IsSetup};
+ghost use Rattle.pgn_criteria.specs.Private.Told.{IsTold, SaysAbout};
+ghost use Rattle.pgn_criteria.specs.Private.MoveEnds.{IsSomeLike};
+ghost use Rattle.pgn_criteria.specs.declared.played.About.TheVariants.{Next, Last};
 
 use crate::alternative::Alternative;
 use crate::condition::{MoveClaim, Stated};
 use crate::meets::Criteria;
+use crate::moves::is_move_like;
 use crate::setup::is_alike;
 use crate::spans::{one_if, stands_about};
+use chess::Move;
 use pgn_game::{GameFault, GamePosition, Lines, MainLine, count_main_moves, replay};
 use pgn_text::RawGame;
 use std::alloc::{AllocError, Global};
 
+/// Of what conditions on moves speak at a ply.
+#[derive(Clone, Copy)]
+pub(crate) enum About {
+    /// Of its position.
+    Here,
+    /// Of the move that is played from its position.
+    Next,
+    /// Of the move that led to it, from the position before.
+    Last,
+}
+
 /// Whether each of them is `position`.
-pub(crate) fn are_setups(conditions: &[Stated<MoveClaim<Vec<u8>>>]) -> bool
+fn are_setups(conditions: &[Stated<MoveClaim<Vec<u8>>>]) -> bool
     ensures { IsTrue result
         ↔ AllClaims IsSetup (map (stated (move_seen (λ text. text.items))) conditions.now) }
 {
@@ -35,53 +52,121 @@ pub(crate) fn are_setups(conditions: &[Stated<MoveClaim<Vec<u8>>>]) -> bool
     true
 }
 
-/// Whether the claim, which is `position`, is so of the position.
-fn is_of_position(claim: &MoveClaim<Vec<u8>>, position: &GamePosition) -> bool
-    requires { IsSetup (move_seen (λ text. text.items) claim.now) }
-    ensures { (replay : Replay) (ply : ℕ) → slice_get replay.positions ply ≡ Some position.now
-        → IsTrue result ↔ IsSoOfMoves replay ply (move_seen (λ text. text.items) claim.now) }
+/// Whether there is a move from the position, whose standard text without its signs of check and
+/// mate is like the word.
+fn is_some_like(position: &GamePosition, m: &Option<Move>, word: &[u8]) -> bool
+    requires { IfSome m.now (IsLegal position.now) }
+    ensures { IsTrue result ↔ IsSomeLike position.now m.now word.now }
 {
-    match claim {
-        MoveClaim::Setup(setup) => is_alike(setup, position),
-        _ => false,
+    match m {
+        Some(m) => is_move_like(position, *m, word),
+        None => false,
     }
 }
 
-/// Whether the position meets the conditions, each of which is `position`.
-fn are_of_position(conditions: &[Stated<MoveClaim<Vec<u8>>>], position: &GamePosition) -> bool
-    requires { AllClaims IsSetup (map (stated (move_seen (λ text. text.items))) conditions.now) }
-    ensures { (replay : Replay) (ply : ℕ) → slice_get replay.positions ply ≡ Some position.now
-        → IsTrue result ↔ AllTaken (IsSoOfMoves replay ply)
+/// Whether the condition is so, if it speaks of that: of the position, or of the move from there.
+fn is_about(
+    condition: &Stated<MoveClaim<Vec<u8>>>,
+    about: About,
+    position: &GamePosition,
+    m: &Option<Move>,
+) -> bool
+    requires { IfSome m.now (IsLegal position.now) }
+    ensures { (replay : Replay) (ply : ℕ) → IsAbout about replay ply position.now m.now
+        → IsTrue result ↔ SaysAbout about replay ply condition.now.is_denied
+        (move_seen (λ text. text.items) condition.now.claim) }
+{
+    match about {
+        About::Here => match &condition.claim {
+            MoveClaim::Setup(setup) => is_alike(setup, position) != condition.is_denied,
+            _ => true,
+        },
+        About::Next => match &condition.claim {
+            MoveClaim::Next(word) => is_some_like(position, m, word) != condition.is_denied,
+            _ => true,
+        },
+        About::Last => match &condition.claim {
+            MoveClaim::Played(word) => is_some_like(position, m, word) != condition.is_denied,
+            _ => true,
+        },
+    }
+}
+
+/// Whether all conditions are so that speak of that: of the position, or of the move from there.
+fn are_about(
+    conditions: &[Stated<MoveClaim<Vec<u8>>>],
+    about: About,
+    position: &GamePosition,
+    m: &Option<Move>,
+) -> bool
+    requires { IfSome m.now (IsLegal position.now) }
+    ensures { (replay : Replay) (ply : ℕ) → IsAbout about replay ply position.now m.now
+        → IsTrue result ↔ AllAbout about replay ply
         (map (stated (move_seen (λ text. text.items))) conditions.now) }
 {
     for condition in conditions {
-        if is_of_position(&condition.claim, position) == condition.is_denied {
+        if !is_about(condition, about, position, m) {
             return false;
         }
     }
     true
 }
 
-/// Adds for one more ply whether its position meets what the conditions say of it.
+/// Whether the position meets what the conditions say of it, where it is known whether the move
+/// that led to it does.
 #[inline(always)]
-fn add_ply(
-    fits: &mut Vec<bool>,
-    alternative: &Alternative,
-    position: &GamePosition,
-) -> Result<(), AllocError>
-    requires { AllClaims IsSetup alternative.now.moves }
-    ensures { OnOk result ((is : Bool) × (fits.new.items ≡ fits.old.items ++ is ∷ [])
-        × ((replay : Replay) (ply : ℕ) → slice_get replay.positions ply ≡ Some position.now
-        → IsTrue is ↔ FitsAt replay alternative.now ply)) }
+fn fits_before(alternative: &Alternative, is_reached: bool, position: &GamePosition) -> bool
+    ensures { (replay : Replay) (ply : ℕ) → slice_get replay.positions ply ≡ Some position.now
+        → (IsTrue is_reached ↔ AllAbout Last replay ply alternative.now.moves)
+        → IsTrue result ↔ FitsBefore replay alternative.now ply }
 {
-    let is = alternative.is_met(position) && are_of_position(&alternative.moves, position);
+    if !is_reached {
+        return false;
+    }
+    if !alternative.is_met(position) {
+        return false;
+    }
+    are_about(&alternative.moves, About::Here, position, &None)
+}
+
+/// Adds whether one more ply fits.
+#[inline(always)]
+fn add_ply(fits: &mut Vec<bool>, is: bool) -> Result<(), AllocError>
+    ensures { OnOk result (fits.new.items ≡ fits.old.items ++ is ∷ []) }
+{
     fits.push(is)?;
     Ok(())
 }
 
-/// Plays the main line of the game, and answers for each of its plies whether the position meets
-/// what the conditions say of it; or the fault of the main line. No position is kept, and there is
-/// room for so many plies from the first.
+/// Adds whether one more ply fits, of which it is known whether what the conditions say of its
+/// position, and of the move that led to it, is so.
+fn add_turn(
+    fits: &mut Vec<bool>,
+    alternative: &Alternative,
+    is_met: bool,
+    position: &GamePosition,
+    next: &Option<Move>,
+) -> Result<(), AllocError>
+    requires { IfSome next.now (IsLegal position.now) }
+    ensures { OnOk result ((is : Bool) × (fits.new.items ≡ fits.old.items ++ is ∷ [])
+        × ((replay : Replay) (ply : ℕ) → IsAbout Next replay ply position.now next.now
+        → (IsTrue is_met ↔ FitsBefore replay alternative.now ply)
+        → IsTrue is ↔ FitsAt replay alternative.now ply)) }
+{
+    if !is_met {
+        add_ply(fits, false)?;
+        return Ok(());
+    }
+    add_ply(
+        fits,
+        are_about(&alternative.moves, About::Next, position, next),
+    )?;
+    Ok(())
+}
+
+/// Plays the main line of the game, and answers for each of its plies whether what the conditions
+/// say of it is so; or the fault of the main line. No position is kept, and there is room for so
+/// many plies from the first.
 #[inline(never)]
 fn fitting_plies<'a>(
     alloc: Global,
@@ -89,7 +174,6 @@ fn fitting_plies<'a>(
     game: &RawGame<'a>,
     plies: usize,
 ) -> Result<Vec<bool>, GameFault<'a>>
-    requires { AllClaims IsSetup alternative.now.moves }
     ensures { MatchResult result
         (λ fits. (replay : Replay)
         × IsReplay Main (tag_in fen_tag game.now.tags) game.now.elements replay
@@ -98,13 +182,27 @@ fn fitting_plies<'a>(
         (λ fault.
         IfSome (fault_of fault) (IsFault Main (tag_in fen_tag game.now.tags) game.now.elements)) }
 {
+    let moves = &alternative.moves;
+    let is_of_positions = are_setups(moves);
     let mut line = MainLine::begin(alloc, game)?;
     let mut fits = Vec::with_capacity(alloc, plies.saturating_add(1))?;
+    let mut here = line.position().copy();
+    let mut is_reached = are_about(moves, About::Last, &here, &None);
     loop {
-        add_ply(&mut fits, alternative, line.position())?;
-        if !line.advance()? {
+        let is_met = fits_before(alternative, is_reached, line.position());
+        if is_of_positions {
+            add_ply(&mut fits, is_met)?;
+            if !line.advance()? {
+                return Ok(fits);
+            }
+            continue;
+        }
+        let next = line.advance_from(&mut here)?;
+        add_turn(&mut fits, alternative, is_met, &here, &next)?;
+        if next.is_none() {
             return Ok(fits);
         }
+        is_reached = are_about(moves, About::Last, &here, &next);
     }
 }
 
@@ -144,9 +242,9 @@ fn keep_spans(fits: &mut [bool], alternative: &Alternative)
 
 impl Criteria {
     /// The one alternative of which the tags, the result and so many plies of the game meet what it
-    /// says of them, if none of its conditions speaks of single moves.
+    /// says of them, if none of its conditions speaks of the first moves.
     fn only_left<'a>(&'a self, game: &RawGame<'a>, plies: usize) -> Option<&'a Alternative>
-        ensures { IfSome result (λ only. AreOfPositions only.now
+        ensures { IfSome result (λ only. AllClaims IsFreeOfWords only.now.games
             × ((replay : Replay) → length replay.played ≡ plies
             → AllOfGame (heading_of game.now) replay only.now
             × ((ply : ℕ) → Meets (heading_of game.now) replay ply (only.now ∷ [])
@@ -155,7 +253,7 @@ impl Criteria {
         let mut only = None;
         for alternative in &self.alternatives {
             if alternative.is_of_counted(game, plies) {
-                if only.is_some() || !alternative.is_of_positions() {
+                if only.is_some() || !alternative.has_no_words() {
                     return None;
                 }
                 only = Some(alternative);
@@ -166,7 +264,7 @@ impl Criteria {
 
     /// For each ply of the main line of the game, from 0 to its last, whether its position meets
     /// the criteria; or the fault of the main line. No position is kept where tags, the result and
-    /// the number of plies leave one alternative, and that speaks of no single move.
+    /// the number of plies leave one alternative, and that does not speak of the first moves.
     pub fn met_of_game<'a>(
         &'a self,
         alloc: Global,

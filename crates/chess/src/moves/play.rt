@@ -136,6 +136,16 @@ impl<B: Board> Position<B> {
         !self.is_empty(self.capture_square_of(Some(man), m))
     }
 
+    /// Whether the move takes a man, also en passant.
+    pub fn is_capture(&self, m: &Move) -> bool
+        ensures { result ≡ is_capture self.now m.now }
+    {
+        if self.is_en_passant_target(m.to) {
+            return !self.is_empty(self.capture_square_of(self.at(m.from), m));
+        }
+        !self.is_empty(m.to)
+    }
+
     /// The man that arrives: the one that moves, or what the pawn becomes.
     #[inline(always)]
     fn arriving(&self, man: Option<Man>, m: &Move) -> Option<Man>

@@ -1,22 +1,54 @@
 -- The plies at which conditions hold, told while a game is played.
-use Rattle.std.specs.Prelude.{◌≡◌, ◌↔◌, ◌++◌, ◌<◌, ℕ, Bool, false, List, IsTrue, get_or}
-use Rattle.std.specs.Prelude.{length}
+use Rattle.std.specs.Prelude.{◌≡◌, ◌↔◌, ◌+◌, ◌++◌, ◌<◌, ℕ, Bool, false, List, [], ◌∷◌, IsTrue}
+use Rattle.std.specs.Prelude.{Option, None, Some, get_or, length}
+use Rattle.std.specs.List.{slice_get}
 use Rattle.chess.specs.Public.Positions.{State}
+use Rattle.chess.specs.declared.moves.Move.{Move}
 use Rattle.pgn_game.specs.Public.Replays.{Replay}
 use Rattle.pgn_criteria.specs.Public.Conditions.{Conditions}
-use Rattle.pgn_criteria.specs.Private.Counted.{IsFreeOfWords}
-use Rattle.pgn_criteria.specs.Private.Stages.{AllClaims, FitsAt}
+use Rattle.pgn_criteria.specs.Public.Meeting.{PositionsHold, Taken}
+use Rattle.pgn_criteria.specs.Public.MoveTexts.{GoesOnBy, IsReachedBy}
+use Rattle.pgn_criteria.specs.Public.Setups.{IsSetUp}
+use Rattle.pgn_criteria.specs.Private.Stages.{FitsAt}
 use Rattle.pgn_criteria.specs.declared.condition.MoveClaim.{MoveClaim}
-use Rattle.pgn_criteria.specs.declared.condition.MoveClaim.TheVariants.{Setup}
+use Rattle.pgn_criteria.specs.declared.condition.MoveClaim.TheVariants.{Next, Played, Setup}
+use Rattle.pgn_criteria.specs.declared.condition.Stated.{Stated}
+use Rattle.pgn_criteria.specs.declared.played.About.{About}
+use Rattle.pgn_criteria.specs.declared.played.About.TheVariants as about
 
 -- the claim speaks of the position alone
 abbrev pub IsSetup : MoveClaim (List ℕ) → Type 0
 IsSetup (Setup setup) = Unit {0}
 IsSetup claim = ⊥
 
--- the conditions speak of no single move
-abbrev pub AreOfPositions : Conditions → Type 0
-AreOfPositions asked = AllClaims IsFreeOfWords asked.games × AllClaims IsSetup asked.moves
+-- at a ply this is the position, and the move that is played from there; or, of the move that led
+-- to it, the position before and that move
+abbrev pub IsAbout : About → Replay → ℕ → State → Option Move → Type 0
+IsAbout about.Here replay ply P m = slice_get replay.positions ply ≡ Some P
+IsAbout about.Next replay ply P m = (slice_get replay.positions ply ≡ Some P)
+    × (slice_get replay.played ply ≡ m)
+IsAbout about.Last replay ply P None = ply ≡ 0
+IsAbout about.Last replay ply P (Some m) = (before : ℕ) × (ply ≡ before + 1)
+    × (slice_get replay.positions before ≡ Some P) × (slice_get replay.played before ≡ Some m)
+
+-- what a condition says at a ply, if it speaks of that
+abbrev pub SaysAbout : About → Replay → ℕ → Bool → MoveClaim (List ℕ) → Type 0
+SaysAbout about.Here replay ply denied (Setup setup) = Taken denied (IsSetUp replay ply setup)
+SaysAbout about.Next replay ply denied (Next word) = Taken denied (GoesOnBy replay ply word)
+SaysAbout about.Last replay ply denied (Played word) = Taken denied (IsReachedBy replay ply word)
+SaysAbout _ replay ply denied claim = Unit {0}
+
+-- what all conditions say
+abbrev pub AllAbout : About → Replay → ℕ → List (Stated (MoveClaim (List ℕ))) → Type 0
+AllAbout one replay ply [] = Unit {0}
+AllAbout one replay ply (first ∷ more) =
+    SaysAbout one replay ply first.is_denied first.claim × AllAbout one replay ply more
+
+-- at a ply the conditions fit, as far as they speak of its position and of the move that led to it
+abbrev pub FitsBefore : Replay → Conditions → ℕ → Type 0
+FitsBefore replay asked ply = (P : State) × (slice_get replay.positions ply ≡ Some P)
+    × PositionsHold P asked.positions × AllAbout about.Here replay ply asked.moves
+    × AllAbout about.Last replay ply asked.moves
 
 -- the ply is told to be such
 abbrev pub IsTold : List Bool → ℕ → Type 0
@@ -26,8 +58,14 @@ IsTold told ply = IsTrue (get_or told ply false)
 abbrev pub AreTold : (ℕ → Type 0) → List Bool → Type 0
 AreTold Such told = (ply : ℕ) → IsTold told ply ↔ Such ply
 
--- of each replay that begins with these positions it is told at which of them the conditions fit
-pub record AreToldOf (asked : Conditions) (before : List State) (told : List Bool) : Type 0 where
-  pub each : length told ≡ length before
-  pub exactly : (replay : Replay) (rest : List State) → replay.positions ≡ before ++ rest
-      → (ply : ℕ) → ply < length before → IsTold told ply ↔ FitsAt replay asked ply
+-- the replay begins with these positions and moves
+abbrev pub StartsWith : List State → List Move → Replay → Type 0
+StartsWith before played replay = (rest : List State) × (more : List Move)
+    × (replay.positions ≡ before ++ rest) × (replay.played ≡ played ++ more)
+
+-- of each such replay it is told at which of so many first plies the conditions fit
+pub record AreToldOf (asked : Conditions) (count : ℕ) (Of : Replay → Type 0)
+    (told : List Bool) : Type 0 where
+  pub each : length told ≡ count
+  pub exactly : (replay : Replay) → Of replay → (ply : ℕ) → ply < count
+      → IsTold told ply ↔ FitsAt replay asked ply

@@ -1,11 +1,11 @@
 -- A main line that is played ply by ply: what one element of its game does.
-use Rattle.std.specs.Prelude.{Option, Some, None}
-use Rattle.std.specs.Option.{is_some}
-use Rattle.pgn_game.proofs.Common.{◌≡◌, ◌+◌, ◌-◌, ◌<◌, ◌≤◌, true, false, List, [], ◌∷◌, length}
-use Rattle.pgn_game.proofs.Common.{get_or, take, drop, map, sym, subst, ap, ◌∙◌, arith, take_all}
+use Rattle.std.specs.Prelude.{Some}
+use Rattle.pgn_game.proofs.Common.{◌≡◌, ◌+◌, ◌-◌, ◌<◌, ◌≤◌, List, [], ◌∷◌, length}
+use Rattle.pgn_game.proofs.Common.{get_or, take, drop, map, refl, sym, subst, ap, ◌∙◌, arith}
+use Rattle.pgn_game.proofs.Common.{take_all}
 use Rattle.pgn_game.proofs.Common.{Move, after, IsOnlyNamed, item_of, Element, main_words}
 use Rattle.pgn_game.proofs.Common.{PlayedLine, HasEnded, HasStepped, MainWalk}
-use Rattle.pgn_game.specs.Public.PlayedLines.{PlaysWord}
+use Rattle.pgn_game.specs.Public.PlayedLines.{HasGoneOn}
 use Rattle.pgn_game.proofs.WalkFacts.{items_step}
 
 -- the elements after the first
@@ -26,43 +26,24 @@ module _ (old new : MainWalk) (entry : PlayedLine) (rest : List Element) (d : El
     (words : main_words (map item_of rest) old.depth ≡ entry.words) (position : old.position
     ≡ entry.position) (plies : old.plies ≡ entry.plies) where
   -- a move of the main line
-  pub plays_word : (answer : Option Move) → HasStepped old new (item_of (get_or rest 0 d)) answer
-      → is_some answer ≡ true
-      → PlaysWord entry (record {
+  pub plays_word : (m : Move) → HasStepped old new (item_of (get_or rest 0 d)) (Some m)
+      → HasGoneOn entry (record {
         position = new.position;
         plies = new.plies;
         words = main_words (map item_of (take (length rest - 1) (drop 1 rest))) new.depth;
-      })
-  plays_word None stepped is = absurd (cc)
-  plays_word (Some m) stepped is = record {
-    word = stepped.word;
-    m = m;
-    words = sym words ∙ ap (λ items. main_words items old.depth) (first_item rest d some)
-        ∙ stepped.words (map item_of (take (length rest - 1) (drop 1 rest)));
-    named = subst (λ s. IsOnlyNamed s stepped.word m) position stepped.named;
-    position = stepped.position ∙ ap (λ s. after s m) position;
-    plies = stepped.plies ∙ ap (λ n. n + 1) plies;
-  }
-
-  -- any other element
-  pub passes_words : (answer : Option Move) → HasStepped old new (item_of (get_or rest 0 d)) answer
-      → is_some answer ≡ false
-      → main_words (map item_of (take (length rest - 1) (drop 1 rest))) new.depth ≡ entry.words
-  passes_words (Some m) stepped is = absurd (cc)
-  passes_words None stepped is =
-      sym (stepped.words (map item_of (take (length rest - 1) (drop 1 rest))))
-      ∙ ap (λ items. main_words items old.depth) (sym (first_item rest d some)) ∙ words
-
-  pub passes_position : (answer : Option Move)
-      → HasStepped old new (item_of (get_or rest 0 d)) answer → is_some answer ≡ false
-      → new.position ≡ entry.position
-  passes_position (Some m) stepped is = absurd (cc)
-  passes_position None stepped is = stepped.position ∙ position
-
-  pub passes_plies : (answer : Option Move) → HasStepped old new (item_of (get_or rest 0 d)) answer
-      → is_some answer ≡ false → new.plies ≡ entry.plies
-  passes_plies (Some m) stepped is = absurd (cc)
-  passes_plies None stepped is = stepped.plies ∙ plies
+      }) (Some m)
+  plays_word m stepped = (
+    record {
+      word = stepped.word;
+      m = m;
+      words = sym words ∙ ap (λ items. main_words items old.depth) (first_item rest d some)
+          ∙ stepped.words (map item_of (take (length rest - 1) (drop 1 rest)));
+      named = subst (λ s. IsOnlyNamed s stepped.word m) position stepped.named;
+      position = stepped.position ∙ ap (λ s. after s m) position;
+      plies = stepped.plies ∙ ap (λ n. n + 1) plies;
+    },
+    refl,
+  )
 
 -- after the last
 pub has_ended : (walk : MainWalk) (rest : List Element) (entry : PlayedLine) → length rest < 1

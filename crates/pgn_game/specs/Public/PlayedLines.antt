@@ -1,5 +1,6 @@
 -- A main line that is played ply by ply: where it stands, and what of it is still to come.
-use Rattle.std.specs.Prelude.{◌≡◌, ◌+◌, ℕ, Bool, true, false, List, [], ◌∷◌, Option, codes}
+use Rattle.std.specs.Prelude.{◌≡◌, ◌+◌, ℕ, Bool, true, false, List, [], ◌∷◌, Option, None, Some}
+use Rattle.std.specs.Prelude.{codes}
 use Rattle.chess.specs.Public.Positions.{State}
 use Rattle.chess.specs.Public.Moves.{after}
 use Rattle.chess.specs.Public.San.{IsOnlyNamed, IsSan}
@@ -39,6 +40,11 @@ pub record HasEnded (old new : PlayedLine) : Type 0 where
 abbrev pub HasAdvanced : PlayedLine → PlayedLine → Bool → Type 0
 HasAdvanced old new true = PlaysWord old new
 HasAdvanced old new false = HasEnded old new
+
+-- the line went on by this move, or is at its end
+abbrev pub HasGoneOn : PlayedLine → PlayedLine → Option Move → Type 0
+HasGoneOn old new None = HasEnded old new
+HasGoneOn old new (Some m) = (word : PlaysWord old new) × (word.m ≡ m)
 
 -- the text of the next move, where these words are left: the standard text of the one legal move
 -- that the first names, and `-` where none is left

@@ -3,7 +3,8 @@ ghost use Rattle.std.specs.Prelude.{◌≡◌, ◌++◌, ℕ, List, MatchResult,
 ghost use Rattle.pgn_text.specs.Public.GameTexts.{tag_in};
 ghost use Rattle.pgn_game.specs.Public.Starts.{fen_tag};
 ghost use Rattle.pgn_game.specs.Public.Faults.{IsFault, IsMoveFault};
-ghost use Rattle.pgn_game.specs.Public.PlayedLines.{IsBegun, HasAdvanced, IsNextText};
+ghost use Rattle.pgn_game.specs.Public.PlayedLines.{IsBegun, HasAdvanced, HasGoneOn};
+ghost use Rattle.pgn_game.specs.Public.PlayedLines.{IsNextText};
 ghost use Rattle.pgn_game.specs.Public.Replays.{fault_of};
 ghost use Rattle.pgn_game.specs.declared.replays.replayer.Lines.TheVariants.{Main};
 
@@ -13,6 +14,7 @@ use crate::turns::naming::play_named_san;
 use crate::turns::replayed::GamePosition;
 use crate::turns::starting::starting_position;
 use arrayvec::ArrayString;
+use chess::Move;
 use pgn_text::{Element, RawGame};
 use std::alloc::Global;
 use std::marker::Model;
@@ -81,6 +83,24 @@ impl<'g, 'a> MainLine<'g, 'a> {
         self.walk.plies
     }
 
+    /// Plays the next move and answers it; none at the end.
+    #[inline(always)]
+    fn next_move(&mut self) -> Result<Option<Move>, GameFault<'a>>
+        ensures { MatchResult result
+            (HasGoneOn self.old self.new)
+            (λ fault.
+            IfSome (fault_of fault)
+            (IsMoveFault self.old.position self.old.plies self.old.words)) }
+    {
+        while let [element, rest @ ..] = self.rest {
+            self.rest = rest;
+            if let Some(m) = self.walk.step(*element)? {
+                return Ok(Some(m));
+            }
+        }
+        Ok(None)
+    }
+
     /// Plays the next move: true after a move, false at the end. A word that can't be played gives
     /// the game's fault, and nothing is said of the line then.
     #[inline(always)]
@@ -91,13 +111,23 @@ impl<'g, 'a> MainLine<'g, 'a> {
             IfSome (fault_of fault)
             (IsMoveFault self.old.position self.old.plies self.old.words)) }
     {
-        while let [element, rest @ ..] = self.rest {
-            self.rest = rest;
-            if self.walk.step(*element)?.is_some() {
-                return Ok(true);
-            }
-        }
-        Ok(false)
+        Ok(self.next_move()?.is_some())
+    }
+
+    /// Plays the next move and answers it, none at the end; `before` becomes the position in which
+    /// the line stood, by `Position::copy_from`. A word that can't be played gives the game's
+    /// fault, and nothing is said of the line then.
+    #[inline(always)]
+    pub fn advance_from(&mut self, before: &mut GamePosition) -> Result<Option<Move>, GameFault<'a>>
+        ensures before { before.new ≡ self.old.position }
+        ensures went { MatchResult result
+            (HasGoneOn self.old self.new)
+            (λ fault.
+            IfSome (fault_of fault)
+            (IsMoveFault self.old.position self.old.plies self.old.words)) }
+    {
+        before.copy_from(&self.walk.position);
+        self.next_move()
     }
 
     /// Appends the standard text of the next move, or `-` where there is none; the line stays as it

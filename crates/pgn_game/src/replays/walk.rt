@@ -111,7 +111,7 @@ fn turn<'a, V: StepVisitor>(
 {
     let inside = stack.is_inside();
     let ply = stack.line.plies + 1;
-    stack.line.before = stack.line.now.copy();
+    stack.line.before.copy_from(&stack.line.now);
     visitor.turn(&mut stack.line.now, inside, word, ply)?;
     stack.line.plies = ply;
     Ok(())

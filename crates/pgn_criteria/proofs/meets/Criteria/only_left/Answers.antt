@@ -3,7 +3,7 @@ use Rattle.pgn_criteria.proofs.Common.{heading_of}
 use Rattle.pgn_criteria.proofs.CountedFacts.{games_of_counted, not_counted}
 use Rattle.pgn_criteria.proofs.MeetFacts.{good_from, alternatives_from}
 use Rattle.pgn_criteria.proofs.ToldFacts.{leaves_less, leaves_one, left_alone}
-use Rattle.pgn_criteria.proofs.meets.Criteria.only_left.Goals.{then-is_of_counted+else-is_some+else-not-is_of_positions}
+use Rattle.pgn_criteria.proofs.meets.Criteria.only_left.Goals.{then-is_of_counted+else-is_some+else-not-has_no_words}
 use Rattle.pgn_criteria.proofs.meets.Criteria.only_left.Goals.{else-is_of_counted}
 use Rattle.pgn_criteria.proofs.meets.Criteria.only_left.Goals as goal
 
@@ -23,9 +23,9 @@ loop-alternative-preserved c =
       kept = λ replay size.
           let before = c.loop-alternative.invariant.kept replay size in
           elim c.if-is_of_counted.branch [
-            | then-is_of_counted+else-is_some+else-not-is_of_positions w ↦
-                let are = w.is_of_positions.ensures.0 w.if-not-is_of_positions.false in
-                let of_game = games_of_counted heading replay plies size own.games are.0
+            | then-is_of_counted+else-is_some+else-not-has_no_words w ↦
+                let are = w.has_no_words.ensures.0 w.if-not-has_no_words.false in
+                let of_game = games_of_counted heading replay plies size own.games are
                 (c.is_of_counted.ensures.0 w.if-is_of_counted.true) in
                 rw w.only-is
                 (leaves_one (λ a. a.now) heading replay whole (drop i all) (drop (i + 1) all) own
@@ -37,8 +37,8 @@ loop-alternative-preserved c =
                 w.if-is_of_counted.false c.is_of_counted.ensures) before)
           ];
       only = elim c.if-is_of_counted.branch [
-        | then-is_of_counted+else-is_some+else-not-is_of_positions w ↦
-            rw w.only-is (w.is_of_positions.ensures.0 w.if-not-is_of_positions.false)
+        | then-is_of_counted+else-is_some+else-not-has_no_words w ↦
+            rw w.only-is (w.has_no_words.ensures.0 w.if-not-has_no_words.false)
         | else-is_of_counted w ↦ rw w.only-is c.loop-alternative.invariant.only
       ];
     }

@@ -1,5 +1,5 @@
 use Rattle.pgn_game.proofs.Common.{◌≡◌, ◌+◌, ◌<◌, ◌^◌, length, map, item_of, main_words}
-use Rattle.pgn_game.proofs.replays.played_line.MainLine.advance.Given as goal
+use Rattle.pgn_game.proofs.replays.played_line.MainLine.next_move.Given as goal
 
 abbrev pub invariant-loop-self : goal.invariant-loop-self
 invariant-loop-self l =
