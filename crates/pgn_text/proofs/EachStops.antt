@@ -9,7 +9,7 @@ use Rattle.pgn_text.proofs.Common.{IsGameFront, IsLongestViablePrefix, Walks, Fo
 use Rattle.pgn_text.proofs.OneList.{shorter}
 use Rattle.pgn_text.proofs.FoundLemmas.{part_or_none}
 use Rattle.pgn_text.proofs.GameFronts.{Halts, stops, halts_in_part, halts_at_game, front_from}
-use Rattle.pgn_text.proofs.laws.Halfway.{Reads, reads_end, stands_join, spelled-append}
+use Rattle.pgn_text.proofs.laws.Halfway.{reads_end, stands_join, spelled-append}
 use Rattle.pgn_text.proofs.error.Stuck.{in_part}
 use Rattle.pgn_text.proofs.laws.PartLemmas.{one_part, part_has_byte}
 use Rattle.pgn_text.proofs.Stopping.{Front, walks_more, walk_reads}

@@ -1,9 +1,8 @@
 -- A game that has other contents under a name, or no tag of that name, is one as readers know it.
 use Rattle.std.specs.Prelude.{Option, Some, None, IfSome, IsTrue, bytes_eq, if◌then◌else◌}
-use Rattle.std.specs.BTreeMap.{BTreeMap}
 use Rattle.std.specs.List.Sorted.{IsStrictlySortedBy}
 use Rattle.std.proofs.lemmas.Option.{same_Some}
-use Rattle.pgn_text.proofs.Common.{◌≡◌, ℕ, Bool, true, false, List, refl, sym, ap, subst, ◌∙◌}
+use Rattle.pgn_text.proofs.Common.{◌≡◌, ℕ, Bool, true, false, List, refl, sym, subst, ◌∙◌}
 use Rattle.pgn_text.proofs.Common.{list_all, is_name_byte, GameText, IsGameText, tag_in, tag_names}
 use Rattle.pgn_text.proofs.Common.{IsContents, slice_cmp, nat_cmp, IsPaired, IsResult}
 use Rattle.pgn_text.specs.Public.GameTexts.{IsRetagged}

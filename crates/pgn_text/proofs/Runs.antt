@@ -40,6 +40,22 @@ run_length_is test (b ∷ rest) (suc n) below within at =
     (ap suc (run_length_is test rest n (λ k h. below (suc k) (omega arith)) (omega arith) (λ h.
     at (omega arith))))
 
+-- each byte of a run passes
+pub run_inside : (test : ℕ → Bool) (xs : List ℕ) (k : ℕ) → k < length (run_of test xs)
+    → test (get_or xs k 0) ≡ true
+run_inside test [] k below = absurd (omega arith)
+run_inside test (b ∷ rest) k below =
+    (elim (test b) as (λ v. test b ≡ v → k < length (if v then b ∷ run_of test rest else [])
+    → test (get_or (b ∷ rest) k 0) ≡ true) [
+      | true ↦ (λ here less. inside (run_inside test rest) k here less)
+      | false ↦ (λ here less. absurd (omega arith))
+    ]) refl below
+  where
+    inside : ((j : ℕ) → j < length (run_of test rest) → test (get_or rest j 0) ≡ true) → (k : ℕ)
+        → test b ≡ true → k < suc (length (run_of test rest)) → test (get_or (b ∷ rest) k 0) ≡ true
+    inside later zero here less = here
+    inside later (suc j) here less = later j (omega arith)
+
 -- where so many bytes pass, the run is these and the run of what follows them
 pub run_on : (test : ℕ → Bool) (xs : List ℕ) (n : ℕ)
     → ((k : ℕ) → k < n → test (get_or xs k 0) ≡ true) → n ≤ length xs

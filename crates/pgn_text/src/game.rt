@@ -2,12 +2,12 @@
 
 ghost use Rattle.std.specs.Prelude.{◌≡◌, ◌≤◌, ◌⊎◌, ℕ, List, [], Option, None, length, take, drop};
 ghost use Rattle.std.specs.Prelude.{map, IfOk, MatchOption, ◌<◌, get_or, Bool, IfSome, IsTrue};
-ghost use Rattle.std.specs.Prelude.{option_map};
+ghost use Rattle.std.specs.Prelude.{option_map, true};
 ghost use Rattle.std.specs.Cmp.Lexicographic.{slice_cmp};
 ghost use Rattle.std.specs.List.{list_all};
 ghost use Rattle.std.specs.List.Sorted.{IsStrictlySortedBy};
 ghost use Rattle.std.specs.Ordering.{nat_cmp};
-ghost use Rattle.pgn_text.specs.Public.Bytes.{is_name_byte};
+ghost use Rattle.pgn_text.specs.Public.Bytes.{is_letter, is_name_byte};
 ghost use Rattle.pgn_text.specs.Public.Elements.{item_of, tags_of};
 ghost use Rattle.pgn_text.specs.Public.GameTexts.{GameText, HoldStrings, IsGameText, IsPaired};
 ghost use Rattle.pgn_text.specs.Public.GameTexts.{IsResult};
@@ -30,7 +30,7 @@ use crate::game::game_builder::GameBuilder;
 use crate::game::progress::Progress;
 use crate::lex::class::{ByteClass, is_in, run_end};
 use crate::lex::movetext::plain_end;
-use crate::lex::place::{after_dot, after_white, comment_at, number_at, part_at};
+use crate::lex::place::{comment_at, number_at, part_at};
 use crate::lex::scan::glyph_at;
 use crate::lex::tag::tag_at;
 use crate::lex::token::Token;
@@ -440,6 +440,26 @@ fn read_other<'a, K: TokenVisitor<'a>>(
     }
 }
 
+/// Reads the move at the place of the block, and answers the place after it.
+#[inline(always)]
+fn read_move<'a, K: TokenVisitor<'a>>(
+    block: &'a [u8],
+    at: usize,
+    progress: &mut Progress,
+    visitor: &mut K,
+) -> Result<usize, K::Error>
+    requires place { at < length block.now }
+    requires letter { is_letter (get_or block.now at 0) ≡ true }
+    ensures { IfOk result (λ end. (file_start : Bool)
+        → IsReading (K.kept visitor.old) (K.kept visitor.new) depth_limit file_start block.now at
+        (state_of progress.old) (state_of progress.new) (Reading.Move end)) }
+{
+    let end = run_end(ByteClass::Word, block, at + 1);
+    progress.pass_move();
+    visitor.keep(Token::Move(&block[at..end]))?;
+    Ok(end)
+}
+
 /// Reads the part at the place of the block; the frequent kinds by their first byte.
 #[inline(always)]
 fn read_part<'a, K: TokenVisitor<'a>>(
@@ -455,10 +475,11 @@ fn read_part<'a, K: TokenVisitor<'a>>(
         (state_of progress.old) (state_of progress.new) reading) }
 {
     let byte = block[at];
+    if byte == b'{' {
+        return read_comment(block, at, progress, visitor);
+    }
     if is_in(ByteClass::Letter, byte) {
-        let end = run_end(ByteClass::Word, block, at + 1);
-        progress.pass_move();
-        visitor.keep(Token::Move(&block[at..end]))?;
+        let end = read_move(block, at, progress, visitor)?;
         return Ok(Reading::Move(end));
     }
     if is_in(ByteClass::White, byte) {
@@ -477,7 +498,6 @@ fn read_part<'a, K: TokenVisitor<'a>>(
         b'.' => step_after(Token::Dot, at + 1, progress, visitor),
         b'(' => step_after(Token::Open, at + 1, progress, visitor),
         b')' => step_after(Token::Close, at + 1, progress, visitor),
-        b'{' => read_comment(block, at, progress, visitor),
         b'[' => read_tag(block, at, progress, visitor),
         b'$' => read_glyph(block, at, progress, visitor),
         _ => read_other(block, at, file_start, progress, visitor),
@@ -520,13 +540,24 @@ fn read_parts<'a, K: TokenVisitor<'a>>(
         × GameRead depth_limit file_start block.now begin found.0 found.1 tags items
         × (K.kept visitor.old (λ wanted. None) [] → K.kept visitor.new tags items))) }
 {
+    // (Gaps and periods are passed by branches, one a byte, which are mostly foreseen: a place that
+    // is computed of bytes has to be waited for.)
     let mut progress = Progress::start();
     let mut at = begin;
     while at < block.len() {
         match read_part(block, at, file_start, &mut progress, visitor)? {
-            Reading::Part(end) => at = after_white(block, end),
-            Reading::Move(end) => at = pass_plain(block, after_white(block, end), visitor)?,
-            Reading::Number(end) => at = after_white(block, after_dot(block, end)),
+            Reading::Part(end) => at = run_end(ByteClass::White, block, end),
+            Reading::Move(end) => {
+                at = pass_plain(block, run_end(ByteClass::White, block, end), visitor)?;
+            }
+            Reading::Number(end) => {
+                let dots = run_end(ByteClass::Period, block, end);
+                at = run_end(ByteClass::White, block, dots);
+                if at < block.len() && is_in(ByteClass::Letter, block[at]) {
+                    let last = read_move(block, at, &mut progress, visitor)?;
+                    at = pass_plain(block, run_end(ByteClass::White, block, last), visitor)?;
+                }
+            }
             Reading::Result(end) => return Ok(Some((at, end))),
             Reading::Stuck => return Ok(None),
         }

@@ -5,7 +5,7 @@ use Rattle.pgn_text.proofs.Common.{arith, append_assoc, append-nil, length-appen
 use Rattle.pgn_text.proofs.Common.{drop-drop, list_all, and_from, eqb-true, length-take-le}
 use Rattle.pgn_text.proofs.Common.{take-append-drop, list_all-append, ◌&&◌, Walks, WalkedTo, begins}
 use Rattle.pgn_text.proofs.Common.{is_not_brace, is_meant, IsPartFront, NoneFollows, Part, Standing}
-use Rattle.pgn_text.proofs.Common.{standing_of, Stands, AllStand, spelled_part, spelled, Kept}
+use Rattle.pgn_text.proofs.Common.{standing_of, AllStand, spelled_part, spelled, Kept}
 use Rattle.pgn_text.proofs.Common.{is_kept_result, State, start, PartsThen, StandsWithin}
 use Rattle.pgn_text.proofs.Common.{is_open_brace, PartAt, KeptAt, Within, Comment, Tags, MainLine}
 use Rattle.pgn_text.proofs.Common.{TagName, TagValue, Variation}

@@ -4,12 +4,12 @@ use Rattle.std.proofs.Common.{Some, None, take, drop, length, sym, ap, subst, â—
 use Rattle.std.proofs.Common.{append_assoc, append-nil, length-append}
 use Rattle.pgn_text.proofs.Common.{cases_Bool, length-take-le, Stands, AllStand, standing_of}
 use Rattle.pgn_text.proofs.Common.{spelled_part, spelled, is_result, State, start, Kept}
-use Rattle.pgn_text.proofs.Common.{is_kept_result, step_kept, IsLongestViablePrefix, PartAt, KeptAt}
+use Rattle.pgn_text.proofs.Common.{is_kept_result, step_kept, PartAt, KeptAt}
 use Rattle.pgn_text.proofs.Common.{WalkedTo, Longest, Follows, IsPartFront, NoneFollows}
 use Rattle.pgn_text.specs.Public.Stops.{IsErrorPosition}
 use Rattle.pgn_text.proofs.EachStops.{wrong_part}
 use Rattle.pgn_text.proofs.GameFronts.{stops_in_part, stops_at_game}
-use Rattle.pgn_text.proofs.laws.Halfway.{Reads, reads_end, stands_join, spelled-append, before_more}
+use Rattle.pgn_text.proofs.laws.Halfway.{reads_end, stands_join, spelled-append, before_more}
 use Rattle.pgn_text.proofs.KeptLemmas.{is_result-kept, step-kept}
 use Rattle.pgn_text.proofs.Stopping.{walks_more, walk_reads}
 

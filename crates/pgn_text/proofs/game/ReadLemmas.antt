@@ -1,5 +1,6 @@
 -- A game read part by part at places of a block.
 use Rattle.std.specs.Prelude.{None, IsTrue}
+use Rattle.std.proofs.Common.{◌==◌, zero, suc}
 use Rattle.std.proofs.lemmas.List.{take_at}
 use Rattle.pgn_text.proofs.Common.{◌≡◌, ◌≢◌, ℕ, ◌+◌, ◌-◌, ◌<◌, ◌≤◌, Bool, true, false, List, []}
 use Rattle.pgn_text.proofs.Common.{◌∷◌, ◌++◌, length, take, drop, refl, sym, ap, ◌∙◌, subst}
@@ -9,8 +10,11 @@ use Rattle.pgn_text.proofs.Common.{Stands, standing_of, spelled_part, spelled, I
 use Rattle.pgn_text.proofs.Common.{begins_outside_gap, items_of, first_tag, result_of, IsPaired}
 use Rattle.pgn_text.proofs.Common.{NoGame, State, start, step, Kept, KeptGap, KeptDot, KeptResult}
 use Rattle.pgn_text.proofs.Common.{kept, is_kept_result, step_kept, items_of_kept, named_kept}
+use Rattle.pgn_text.proofs.Common.{RunTo, is_white, eqb-true, get_or}
 use Rattle.pgn_text.specs.Private.Readings.{GoesOn, StuckAt, EndsAt}
-use Rattle.pgn_text.specs.Private.Walk.{PartAt, KeptAt, Passes, NothingAt, NoGapPartAt, GameRead}
+use Rattle.pgn_text.specs.Private.Walk.{PartAt, KeptAt, NothingAt, NoGapPartAt, GameRead}
+use Rattle.pgn_text.proofs.PartsAt.{kept_white, kept_dot}
+use Rattle.pgn_text.proofs.lex.RunsTo.{AllPass, run_passes}
 use Rattle.pgn_text.proofs.laws.Halfway.{Reads, halfway_start, halfway_more, halfway_stuck}
 use Rattle.pgn_text.proofs.laws.Halfway.{halfway_none}
 use Rattle.pgn_text.proofs.laws.Halfway.{Halfway, halfway_end, game_reads, reads_game, before_more}
@@ -254,13 +258,10 @@ kept_idle : {kept_first kept_now : (List ℕ → Option (List ℕ)) → List Ite
     (token : Kept)
     → is_kept_result token ≡ false → ((wanted : List ℕ) → named_kept wanted token ≡ None)
     → items_of_kept token ≡ [] → step_kept max_depth state token ≡ Some state
-    → KeptUpTo kept_first kept_now max_depth f block begin at state → Passes f block at token end
+    → KeptUpTo kept_first kept_now max_depth f block begin at state → KeptAt f block at token end
     → KeptUpTo kept_first kept_now max_depth f block begin end state
 kept_idle {kept_first} {kept_now} {max_depth} {f} {block} {begin} {at} {end} {state} token no_result
-    no_tag no_items steps up (inl same) =
-    subst (λ k. KeptUpTo kept_first kept_now max_depth f block begin k state) (sym same) up
-kept_idle {kept_first} {kept_now} {max_depth} {f} {block} {begin} {at} {end} {state} token no_result
-    no_tag no_items steps up (inr here) = record {
+    no_tag no_items steps up here = record {
       tags = up.tags;
       elements = up.elements;
       read = read_more max_depth f block begin at end state state up.tags up.tags up.elements
@@ -271,24 +272,54 @@ kept_idle {kept_first} {kept_now} {max_depth} {f} {block} {begin} {at} {end} {st
       keeps = up.keeps;
     }
 
--- white space, if it stands there
-pub kept_after_white : {kept_first kept_now : (List ℕ → Option (List ℕ)) → List Item
+-- a run of such parts, a byte each
+kept_run : {kept_first kept_now : (List ℕ → Option (List ℕ)) → List Item
     → Type 0} {max_depth : ℕ} {f : Bool} {block : List ℕ} {begin at end : ℕ} {state : State}
-    → KeptUpTo kept_first kept_now max_depth f block begin at state → Passes f block at KeptGap end
+    (test : ℕ → Bool) (token : Kept)
+    → is_kept_result token ≡ false → ((wanted : List ℕ) → named_kept wanted token ≡ None)
+    → items_of_kept token ≡ [] → step_kept max_depth state token ≡ Some state
+    → ((k : ℕ) → k < length block → test (get_or block k 0) ≡ true → KeptAt f block k token (k + 1))
+    → KeptUpTo kept_first kept_now max_depth f block begin at state → RunTo test block at end
     → KeptUpTo kept_first kept_now max_depth f block begin end state
-kept_after_white up passes = kept_idle KeptGap refl (λ wanted. refl) refl refl up passes
+kept_run {kept_first} {kept_now} {max_depth} {f} {block} {begin} {at} {end} {state} test token
+    no_result no_tag no_items steps each up to =
+    let pass : AllPass test block at end = run_passes test block at end to in
+    let forward : at ≤ end = pass.forward in
+    let within : end ≤ length block = pass.within in
+    subst (λ k. KeptUpTo kept_first kept_now max_depth f block begin k state) (omega arith)
+    (go pass (end - at) (omega arith))
+  where
+    go : AllPass test block at end → (n : ℕ) → n ≤ end - at
+        → KeptUpTo kept_first kept_now max_depth f block begin (at + n) state
+    go pass zero le =
+        subst (λ k. KeptUpTo kept_first kept_now max_depth f block begin k state) (omega arith) up
+    go pass (suc n) le =
+        let within : end ≤ length block = pass.within in
+        subst (λ k. KeptUpTo kept_first kept_now max_depth f block begin k state) (omega arith)
+        (kept_idle token no_result no_tag no_items steps (go pass n (omega arith))
+        (each (at + n) (omega arith) (pass.inside n (omega arith))))
 
--- a period in the movetext, if it stands there
-pub kept_after_dot : {kept_first kept_now : (List ℕ → Option (List ℕ)) → List Item
+-- white space, if it stands there
+pub kept_whites : {kept_first kept_now : (List ℕ → Option (List ℕ)) → List Item
+    → Type 0} {max_depth : ℕ} {f : Bool} {block : List ℕ} {begin at end : ℕ} {state : State}
+    → KeptUpTo kept_first kept_now max_depth f block begin at state → RunTo is_white block at end
+    → KeptUpTo kept_first kept_now max_depth f block begin end state
+kept_whites {f = f} {block = block} up to =
+    kept_run is_white KeptGap refl (λ wanted. refl) refl refl
+    (λ k below white. kept_white f block k below white) up to
+
+-- periods in the movetext, if they stand there
+pub kept_dots : {kept_first kept_now : (List ℕ → Option (List ℕ)) → List Item
     → Type 0} {max_depth : ℕ} {f : Bool} {block : List ℕ} {begin at end : ℕ} {state : State}
     → state.in_tags ≡ false
-    → KeptUpTo kept_first kept_now max_depth f block begin at state → Passes f block at KeptDot end
+    → KeptUpTo kept_first kept_now max_depth f block begin at state
+    → RunTo (λ b. b == 46) block at end
     → KeptUpTo kept_first kept_now max_depth f block begin end state
-kept_after_dot {state = state} movetext up passes =
-    kept_idle KeptDot refl (λ wanted. refl) refl
+kept_dots {f = f} {block = block} {state = state} movetext up to =
+    kept_run (λ b. b == 46) KeptDot refl (λ wanted. refl) refl
     (ap (λ (b : Bool).
     Some (record { in_tags = b; depth = state.depth; has_move = state.has_move }))
-    (sym movetext)) up passes
+    (sym movetext)) (λ k below dot. kept_dot f block k below (eqb-true _ _ dot)) up to
 
 -- where nothing stands that may, there is no game
 pub kept_stuck : {kept_first kept_now : (List ℕ → Option (List ℕ)) → List Item

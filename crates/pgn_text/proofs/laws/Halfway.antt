@@ -2,7 +2,7 @@
 -- reading.
 use Rattle.std.proofs.Common.{Some}
 use Rattle.pgn_text.proofs.Common.{◌≡◌, ◌≢◌, ℕ, Bool, true, false, List, [], ◌∷◌, ◌++◌, None}
-use Rattle.pgn_text.proofs.Common.{IsTrue, MatchBool, refl, sym, ap, ◌∙◌, inl, inr}
+use Rattle.pgn_text.proofs.Common.{IsTrue, refl, sym, ap, ◌∙◌, inl, inr}
 use Rattle.pgn_text.proofs.Common.{append_assoc, append-nil, flat_map-append, MatchBool-at_true}
 use Rattle.pgn_text.proofs.Common.{MatchBool-at_false, cases_Bool, Part, standing_of, Stands}
 use Rattle.pgn_text.proofs.Common.{AllStand, spelled, spelled_part, is_result, begins_outside_gap}

@@ -1,8 +1,9 @@
 -- Longest runs between places of a block.
 use Rattle.std.proofs.Common.{◌≡◌, Bool, true, false, length, get_or, arith, length-drop, drop-drop}
 use Rattle.std.proofs.Common.{inl, inr, ℕ, ◌+◌, ◌-◌, ◌<◌, ◌≤◌, List, ◌++◌, take, drop, sym, ap, ◌∙◌}
-use Rattle.pgn_text.proofs.Common.{cases_lt, get_or-drop, take-add, run_of, after_run, RunTo}
-use Rattle.pgn_text.proofs.Runs.{run_length_is, run_on, take_run, drop_run}
+use Rattle.pgn_text.proofs.Common.{cases_lt, get_or-drop, length-take-le, take-add, run_of}
+use Rattle.pgn_text.proofs.Common.{after_run, RunTo}
+use Rattle.pgn_text.proofs.Runs.{run_inside, run_length_is, run_on, take_run, drop_run}
 
 -- a place up to which all bytes pass, and at which one fails or the block ends, is the run's end
 pub run_to : (test : ℕ → Bool) (block : List ℕ) (from at : ℕ) → from ≤ at → at ≤ length block
@@ -29,6 +30,22 @@ pub record AllPass (test : ℕ → Bool) (block : List ℕ) (from at : ℕ) : Ty
   pub forward : from ≤ at
   pub within : at ≤ length block
   pub inside : (k : ℕ) → k < at - from → test (get_or block (from + k) 0) ≡ true
+
+-- all bytes of a run pass
+pub run_passes : (test : ℕ → Bool) (block : List ℕ) (from end : ℕ) → RunTo test block from end
+    → AllPass test block from end
+run_passes test block from end to =
+    let forward : from ≤ end = to.forward in
+    let within : end ≤ length block = to.within in
+    let long : length (run_of test (drop from block)) ≡ end - from =
+    ap length (sym to.run)
+    ∙ length-take-le (end - from) (drop from block) (omega (arith, length-drop from block)) in
+    record {
+      forward = forward;
+      within = within;
+      inside = λ k below. ap test (sym (get_or-drop from block k 0))
+          ∙ run_inside test (drop from block) k (omega (arith, long));
+    }
 
 pub none_yet : (test : ℕ → Bool) (block : List ℕ) (from : ℕ) → from ≤ length block
     → AllPass test block from from

@@ -1,6 +1,6 @@
 -- The values of the lexer's types, as the definitions of `Reading` see them.
 use Rattle.std.specs.Prelude.{◌≡◌, ◌≤◌, ◌-◌, ℕ, Bool, false, List, length, take, drop, Option, Some}
-use Rattle.std.specs.Prelude.{None, MatchOption}
+use Rattle.std.specs.Prelude.{None, MatchOption, ◌==◌}
 use Rattle.std.specs.Borrow.{Bor}
 use Rattle.pgn_text.specs.Public.Bytes.{is_white, is_digit, is_letter, is_name_byte, is_word_byte}
 use Rattle.pgn_text.specs.Public.Bytes.{is_mark, run_of, after_run}
@@ -12,7 +12,7 @@ use Rattle.pgn_text.specs.Shared.StringTexts.{contents_front}
 use Rattle.pgn_text.specs.Private.Steps.{State}
 use Rattle.pgn_text.specs.declared.lex.class.ByteClass.{ByteClass}
 use Rattle.pgn_text.specs.declared.lex.class.ByteClass.TheVariants.{White, Digit, Letter, Name}
-use Rattle.pgn_text.specs.declared.lex.class.ByteClass.TheVariants.{Word, Mark, Single}
+use Rattle.pgn_text.specs.declared.lex.class.ByteClass.TheVariants.{Word, Mark, Single, Period}
 use Rattle.pgn_text.specs.declared.game.progress.Progress.{Progress}
 use Rattle.pgn_text.specs.declared.lex.scan.Standing.{Standing}
 use Rattle.pgn_text.specs.declared.lex.token.Token.{Token}
@@ -29,6 +29,7 @@ test_of Name = is_name_byte
 test_of Word = is_word_byte
 test_of Mark = is_mark
 test_of Single = is_single
+test_of Period = λ b. b == 46
 
 -- the flag of a class
 abbrev pub flag_of : ByteClass → ℕ
@@ -39,6 +40,7 @@ flag_of Name = 16
 flag_of Word = 2
 flag_of Mark = 32
 flag_of Single = 64
+flag_of Period = 128
 
 -- the longest run from the place `from` of a block reaches to the place `end`
 pub record RunTo (test : ℕ → Bool) (block : List ℕ) (from end : ℕ) : Type 0 where

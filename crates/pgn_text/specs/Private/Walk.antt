@@ -1,5 +1,5 @@
 -- Parts at places of a block: what the functions of `place` answer.
-use Rattle.std.specs.Prelude.{◌≡◌, ◌⊎◌, ℕ, Bool, false, ◌-◌, ◌<◌, ◌≤◌, List, ◌++◌, length, take}
+use Rattle.std.specs.Prelude.{◌≡◌, ℕ, Bool, false, ◌-◌, ◌<◌, ◌≤◌, List, ◌++◌, length, take}
 use Rattle.std.specs.Prelude.{drop, Option, IsTrue}
 use Rattle.pgn_text.specs.Public.Parts.{Part, Stands, standing_of, spelled_part, spelled}
 use Rattle.pgn_text.specs.Public.Games.{is_gap_part, IsGame, Item, first_tag, items_of, result_of}
@@ -22,11 +22,6 @@ pub record KeptAt (file_start : Bool) (block : List ℕ) (at : ℕ) (token : Kep
     pub part : Part
     pub found : PartAt file_start block at part end
     pub keeps : kept part ≡ token
-
--- a part of which a game keeps this reaches from the one place to the other, or they are the same
--- place
-abbrev pub Passes : Bool → List ℕ → ℕ → Kept → ℕ → Type 0
-Passes file_start block at token end = (end ≡ at) ⊎ KeptAt file_start block at token end
 
 -- no part stands at the place
 abbrev pub NothingAt : Bool → List ℕ → ℕ → Type 0

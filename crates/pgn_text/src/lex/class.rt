@@ -15,6 +15,7 @@ pub(crate) enum ByteClass {
     Name,
     Word,
     Mark,
+    Period,
     /// What a string may have but the quote and the backslash.
     Single,
 }
@@ -26,7 +27,7 @@ static CLASSES: [u8; 256] = [
     // from 0x10
     0, 0, 0, 0, 0, 0, 0, 0, 0, 0, 0, 0, 0, 0, 0, 0,
     // from 0x20
-    65, 96, 0, 66, 64, 64, 64, 64, 64, 64, 64, 66, 64, 66, 64, 66,
+    65, 96, 0, 66, 64, 64, 64, 64, 64, 64, 64, 66, 64, 66, 192, 66,
     // from 0x30
     90, 90, 90, 90, 90, 90, 90, 90, 90, 90, 66, 64, 64, 66, 64, 96,
     // from 0x40
@@ -68,6 +69,7 @@ fn flag(class: ByteClass) -> u8
         ByteClass::Name => 16,
         ByteClass::Mark => 32,
         ByteClass::Single => 64,
+        ByteClass::Period => 128,
     }
 }
 

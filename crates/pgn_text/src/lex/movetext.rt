@@ -234,6 +234,10 @@ fn push_moves<'a>(
     Ok(())
 }
 
+/// A sweep that shows fewer plain bytes has mostly come to the end of plain movetext: a word that
+/// goes on after its 64 bytes is shorter.
+const MOSTLY_PLAIN: usize = 32;
+
 /// A place up to which only plain movetext stands from the given one on; more of it may follow.
 #[inline(never)]
 pub(crate) fn plain_end(block: &[u8], from: usize) -> usize
@@ -246,10 +250,10 @@ pub(crate) fn plain_end(block: &[u8], from: usize) -> usize
     let mut at = from;
     while at < block.len() {
         let swept = sweep(block, at);
-        if swept.len == 0 {
+        at += swept.len;
+        if swept.len < MOSTLY_PLAIN {
             return at;
         }
-        at += swept.len;
     }
     at
 }
@@ -272,11 +276,11 @@ pub(crate) fn push_plain<'a>(
     let mut at = from;
     while at < block.len() {
         let swept = sweep(block, at);
-        if swept.len == 0 {
-            return Ok(at);
-        }
         push_moves(elements, block, at, swept)?;
         at += swept.len;
+        if swept.len < MOSTLY_PLAIN {
+            return Ok(at);
+        }
     }
     Ok(at)
 }

@@ -2,15 +2,14 @@
 
 ghost use Rattle.std.specs.Prelude.{◌≡◌, ◌<◌, ◌≤◌, Bool, length, take, drop, get_or, MatchOption};
 ghost use Rattle.pgn_text.specs.Public.Parts.{is_column_one as is_in_column_one, standing_of};
-ghost use Rattle.pgn_text.specs.Private.Reading.{KeptComment, KeptDot, KeptGap, KeptNumber};
+ghost use Rattle.pgn_text.specs.Private.Reading.{KeptComment, KeptNumber};
 ghost use Rattle.pgn_text.specs.Private.Tokens.{standing_view, token_of};
-ghost use Rattle.pgn_text.specs.Private.Walk.{KeptAt, Passes, NothingAt, GapPartAt, NoGapPartAt};
+ghost use Rattle.pgn_text.specs.Private.Walk.{KeptAt, NothingAt, GapPartAt, NoGapPartAt};
 ghost use Rattle.pgn_text.specs.Private.Walk.{LongestGapTo};
 
 use crate::lex::class::{ByteClass, is_in, run_end};
-use crate::lex::scan::{Found, Standing, gap_part, part};
+use crate::lex::scan::{Found, Standing, first_brace, gap_part, part};
 use crate::lex::token::Token;
-use memchr::memchr;
 
 const BYTE_ORDER_MARK: [u8; 3] = [0xEF, 0xBB, 0xBF];
 
@@ -54,38 +53,6 @@ pub(crate) fn number_at(block: &[u8], at: usize) -> Option<usize>
     Some(end)
 }
 
-/// The place after the period at the place of the block, or the place itself where none stands
-/// there.
-#[inline(always)]
-pub(crate) fn after_dot(block: &[u8], at: usize) -> usize
-    requires { at ≤ length block.now }
-    ensures passed { (file_start : Bool) → Passes file_start block.now at KeptDot result }
-    ensures forward { at ≤ result }
-    ensures within { result ≤ length block.now }
-{
-    if at < block.len() && block[at] == b'.' {
-        at + 1
-    } else {
-        at
-    }
-}
-
-/// The place after the byte of white space at the place of the block, or the place itself where
-/// none stands there.
-#[inline(always)]
-pub(crate) fn after_white(block: &[u8], at: usize) -> usize
-    requires { at ≤ length block.now }
-    ensures passed { (file_start : Bool) → Passes file_start block.now at KeptGap result }
-    ensures forward { at ≤ result }
-    ensures within { result ≤ length block.now }
-{
-    if at < block.len() && is_in(ByteClass::White, block[at]) {
-        at + 1
-    } else {
-        at
-    }
-}
-
 /// The bytes of the brace comment at the place of the block, and the place after it.
 #[inline(always)]
 pub(crate) fn comment_at(block: &[u8], at: usize) -> Option<(&[u8], usize)>
@@ -95,7 +62,7 @@ pub(crate) fn comment_at(block: &[u8], at: usize) -> Option<(&[u8], usize)>
         → MatchOption result (NothingAt file_start block.now at) (λ found.
         KeptAt file_start block.now at (KeptComment found.0.now) found.1) }
 {
-    let Some(len) = memchr(b'}', &block[at + 1..]) else {
+    let Some(len) = first_brace(&block[at + 1..]) else {
         return None;
     };
     let end = at + 1 + len;

@@ -25,7 +25,7 @@ fn stops(bytes: u8x32) -> u64
 
 /// 32 bytes of the block.
 #[inline(always)]
-fn bytes_at(block: &[u8], at: usize) -> u8x32
+pub(crate) fn bytes_at(block: &[u8], at: usize) -> u8x32
     requires { at + 32 ≤ length block.now }
     ensures { (i : ℕ) → i < 32 → get_or result i 0 ≡ get_or block.now (at + i) 0 }
 {

@@ -2,6 +2,8 @@
 
 ghost use Rattle.std.specs.Prelude.{◌≡◌, ◌≤◌, length, drop, if◌then◌else◌, option_map, IfSome};
 ghost use Rattle.std.specs.Prelude.{Some, None};
+ghost use Rattle.memchr.specs.Find.{IsFirstByte, is_byte};
+ghost use Rattle.pgn_text.specs.Shared.Lanes.{AreLanes};
 ghost use Rattle.pgn_text.specs.Public.Bytes.{is_not_line_feed, run_of, after_run};
 ghost use Rattle.pgn_text.specs.Public.Parts.{EscapeLine, Line, number_of};
 ghost use Rattle.pgn_text.specs.Private.Reading.{rest_after, brace_front, mark_front, gap_front};
@@ -10,9 +12,12 @@ ghost use Rattle.pgn_text.specs.Private.Reading.{part_front, kept_found};
 ghost use Rattle.pgn_text.specs.Private.Tokens.{found_of, glyph_of, now_of, standing_view};
 
 use crate::lex::class::{ByteClass, is_in, run, run_end};
+use crate::lex::movetext::first_from;
+use crate::lex::quoted::bytes_at;
 use crate::lex::tag::tag_at;
 use crate::lex::token::{Token, word_token};
 use memchr::memchr;
+use std::simd::prelude::*;
 
 /// How a part stands in a text, as far as it matters to the part.
 #[derive(Clone, Copy)]
@@ -37,12 +42,38 @@ pub(crate) fn after(byte: u8, text: &[u8]) -> Option<&[u8]>
     if *first == byte { Some(rest) } else { None }
 }
 
+/// Which bytes are closing braces.
+#[inline(always)]
+fn closing_braces(bytes: u8x32) -> u64
+    ensures { AreLanes 32 (is_byte 125) bytes result }
+{
+    bytes.simd_eq(u8x32::splat(b'}')).to_bitmask()
+}
+
+/// The place of the text's first closing brace: most stand among its first 32 bytes.
+#[inline(always)]
+pub(crate) fn first_brace(text: &[u8]) -> Option<usize>
+    ensures { IsFirstByte (is_byte 125) text.now result }
+{
+    if text.len() < 32 {
+        return memchr(b'}', text);
+    }
+    let place = first_from(closing_braces(bytes_at(text, 0)), 0);
+    if place < 32 {
+        return Some(place);
+    }
+    let Some(further) = memchr(b'}', &text[32..]) else {
+        return None;
+    };
+    Some(32 + further)
+}
+
 /// The comment whose opening brace stands before the text.
 #[inline(always)]
 fn brace_comment(text: &[u8]) -> Option<Found<'_>>
     ensures { option_map found_of result ≡ option_map kept_found (brace_front text.now) }
 {
-    let Some(end) = memchr(b'}', text) else {
+    let Some(end) = first_brace(text) else {
         return None;
     };
     Some((Token::Comment(&text[..end]), &text[end + 1..]))

@@ -1,5 +1,4 @@
-use Rattle.std.specs.Prelude.{Some, None}
-use Rattle.pgn_text.proofs.Common.{◌∙◌, sym, ap, tag_in, tags_of}
+use Rattle.pgn_text.proofs.Common.{◌∙◌, sym, tags_of}
 use Rattle.pgn_text.proofs.OwnTags.{begun, ended, moved}
 use Rattle.pgn_text.proofs.ShownOnce.{same_tags}
 use Rattle.pgn_text.proofs.game.Pairing.{tags_ascend}

@@ -1,23 +1,12 @@
 use Rattle.std.proofs.Common.{Some, refl, sym, ap, ◌∙◌}
-use Rattle.pgn_text.proofs.Common.{depth_limit, KeptMove, KeptNumber, State, state_of}
-use Rattle.pgn_text.proofs.PartsAt.{kept_letters, kept_marks, kept_white, kept_dot, kept_open}
+use Rattle.pgn_text.proofs.Common.{depth_limit, KeptNumber, State, state_of}
+use Rattle.pgn_text.proofs.PartsAt.{kept_marks, kept_white, kept_dot, kept_open}
 use Rattle.pgn_text.proofs.PartsAt.{kept_close}
 use Rattle.pgn_text.proofs.game.ReadingLemmas.{reading_of}
 use Rattle.pgn_text.proofs.game.read_part.Goals as goal
 
 pub returns-then-is_in : goal.returns-then-is_in
-returns-then-is_in g c = (
-  record {
-    token = KeptMove _;
-    here = kept_letters c.args.file_start c.args.block.now c.args.at c.run_end-end.result c.requires
-        (sym c.is_in.ensures ∙ c.if-is_in.true) c.run_end-end.ensures;
-    no_result = refl;
-    steps = ap Some (sym c.pass_move.ensures);
-    keeps = c.in_ok-keep.ensures;
-  },
-  ap (λ (state : State). state.in_tags) c.pass_move.ensures,
-  ap (λ (state : State). state.has_move) c.pass_move.ensures,
-)
+returns-then-is_in g c = c.in_ok-end.ensures c.args.file_start
 
 pub returns-then-is_in-2 : goal.returns-then-is_in-2
 returns-then-is_in-2 g c =
@@ -35,7 +24,7 @@ returns-in-Some g c = (
     here = c.in-Some.ensures c.args.file_start;
     no_result = refl;
     steps = ap Some (sym c.enter_movetext.ensures);
-    keeps = c.in_ok-keep-2.ensures;
+    keeps = c.in_ok-keep.ensures;
   },
   ap (λ (state : State). state.in_tags) c.enter_movetext.ensures,
 )
@@ -45,8 +34,8 @@ returns-then-is_in-3 g c =
     reading_of (g.K.TokenVisitor.kept c.args.visitor.now)
     (g.K.TokenVisitor.kept c.step_after-then-is_in-3.new.visitor) depth_limit
     (state_of c.args.progress.now) (state_of c.step_after-then-is_in-3.new.progress)
-    (kept_marks c.args.file_start c.args.block.now c.args.at c.run_end-end-then-is_in-3.result
-    c.requires (sym c.is_in-3.ensures ∙ c.if-is_in-3.true) c.run_end-end-then-is_in-3.ensures)
+    (kept_marks c.args.file_start c.args.block.now c.args.at c.run_end-end.result
+    c.requires (sym c.is_in-3.ensures ∙ c.if-is_in-3.true) c.run_end-end.ensures)
     refl
     c.step_after-then-is_in-3.result c.step_after-then-is_in-3.ensures
 

@@ -1,5 +1,5 @@
-use Rattle.pgn_text.proofs.Common.{◌≡◌, ◌+◌, ◌-◌, ◌≤◌, take, drop, length, length-drop}
-use Rattle.pgn_text.proofs.Common.{arith, depth_limit, IsPartFront, standing_of, state_of}
+use Rattle.pgn_text.proofs.Common.{◌≡◌, ◌+◌, ◌-◌, ◌≤◌, length, length-drop}
+use Rattle.pgn_text.proofs.Common.{arith, depth_limit, state_of}
 use Rattle.pgn_text.proofs.error.StopContexts.{stands_within}
 use Rattle.pgn_text.proofs.error.StopWalk.{walk_stops}
 use Rattle.pgn_text.proofs.error.error_position.locate_error.Goals as goal

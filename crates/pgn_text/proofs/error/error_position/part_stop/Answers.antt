@@ -1,7 +1,7 @@
 use Rattle.pgn_text.proofs.Common.{◌≡◌, ◌≢◌, ℕ, suc, ◌+◌, ◌-◌, ◌≤◌, false, List, [], ◌∷◌, length}
 use Rattle.pgn_text.proofs.Common.{take, drop, refl, sym, ap, subst, ◌∙◌, inl, inr, arith, IsTrue}
 use Rattle.pgn_text.proofs.Common.{◌<◌, ne_eqb, take_rest, length-take-le, is_empty, depth_limit}
-use Rattle.pgn_text.proofs.Common.{Longest, IsPartFront, IsFrontOf, IsWordFront, NoneFollows}
+use Rattle.pgn_text.proofs.Common.{Longest, IsPartFront, IsFrontOf, NoneFollows}
 use Rattle.pgn_text.proofs.Common.{front_length, no_byte, Standing, standing_of, State, state_of}
 use Rattle.pgn_text.proofs.error.Furthest.{as_far}
 use Rattle.pgn_text.proofs.error.InPart.{open_tag, stray_glyph}

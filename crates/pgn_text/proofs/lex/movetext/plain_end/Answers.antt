@@ -13,3 +13,9 @@ loop-at-preserved c =
 
 pub returns-then-block-lt64 : goal.returns-then-block-lt64
 returns-then-block-lt64 c = ([], with_none c.args.block.now c.args.from c.requires)
+
+pub returns-then-swept-lt-MOSTLY_PLAIN : goal.returns-then-swept-lt-MOSTLY_PLAIN
+returns-then-swept-lt-MOSTLY_PLAIN c =
+    let kept = c.loop-at.invariant in
+    plain_over c.args.block.now c.loop-at.at _ _ _ _ c.args.from c.sweep-swept.ensures.1 kept.0
+    kept.1

@@ -18,3 +18,13 @@ loop-at-preserved c =
 pub returns-then-block-lt64 : goal.returns-then-block-lt64
 returns-then-block-lt64 c =
     ([], with_none c.args.block.now c.args.from c.requires, sym (append-nil _))
+
+pub returns-then-swept-lt-MOSTLY_PLAIN : goal.returns-then-swept-lt-MOSTLY_PLAIN
+returns-then-swept-lt-MOSTLY_PLAIN c =
+    let kept = c.loop-at.invariant in
+    let more = c.in_ok-push_moves.ensures in (
+      kept.0 ++ more.0,
+      with_both c.args.block.now c.args.from kept.0 c.loop-at.at more.0 _ kept.1 more.1,
+      more.2 ∙ ap (λ xs. xs ++ more.0) kept.2
+          ∙ append_assoc (map item_of c.args.elements.now.items) kept.0 more.0,
+    )
