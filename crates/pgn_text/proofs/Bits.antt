@@ -232,17 +232,17 @@ twice_not : (b : Bool) → not b ≡ false → b ≡ true
 twice_not true off = refl
 twice_not false off = absurd (cc)
 
-module _ (words gaps periods begins letters numbers : ℕ) (words_fit : words
-    < 2 ^ 64) (gaps_fit : gaps < 2 ^ 64) (periods_fit : periods < 2 ^ 64) (letters_fit : letters
+module _ (words gaps begins letters numbers : ℕ) (words_fit : words
+    < 2 ^ 64) (gaps_fit : gaps < 2 ^ 64) (letters_fit : letters
     < 2 ^ 64) (numbers_fit : numbers < 2 ^ 64) where
   abbrev known_bits : ℕ
-  known_bits = bit_or words (bit_or gaps periods)
+  known_bits = bit_or words gaps
 
   abbrev firsts : ℕ
   firsts = bit_or letters numbers
 
   abbrev nexts : ℕ
-  nexts = bit_or numbers periods
+  nexts = bit_or numbers gaps
 
   abbrev pub strange_bits : ℕ
   strange_bits =
@@ -262,14 +262,11 @@ module _ (words gaps periods begins letters numbers : ℕ) (words_fit : words
       (one.0, one.1, two.1)
 
   pub not_strange_each : (i : ℕ) → i < 64 → has_bit strange_bits i ≡ false
-      → (has_bit words i || (has_bit gaps i || has_bit periods i)) ≡ true
+      → (has_bit words i || has_bit gaps i) ≡ true
   not_strange_each i lt off =
-      sym (bit-or words (bit_or gaps periods) i
-      ∙ ap (λ b. has_bit words i || b) (bit-or gaps periods i))
+      sym (bit-or words gaps i)
       ∙ twice_not _
-      (sym (bit-flip known_bits i
-      (or_lt 64 words (bit_or gaps periods) words_fit
-      (or_lt 64 gaps periods gaps_fit periods_fit)) lt) ∙ (parts i off).0)
+      (sym (bit-flip known_bits i (or_lt 64 words gaps words_fit gaps_fit) lt) ∙ (parts i off).0)
 
   pub not_strange_begins : (i : ℕ) → i < 64 → has_bit strange_bits i ≡ false
       → has_bit begins i ≡ true → (has_bit letters i || has_bit numbers i) ≡ true
@@ -281,12 +278,12 @@ module _ (words gaps periods begins letters numbers : ℕ) (words_fit : words
       ∙ (parts i off).1) on
 
   pub not_strange_goes_on : (i : ℕ) → suc i < 64 → has_bit strange_bits (suc i) ≡ false
-      → has_bit numbers i ≡ true → (has_bit numbers (suc i) || has_bit periods (suc i)) ≡ true
+      → has_bit numbers i ≡ true → (has_bit numbers (suc i) || has_bit gaps (suc i)) ≡ true
   not_strange_goes_on i lt off on =
-      sym (bit-or numbers periods (suc i))
+      sym (bit-or numbers gaps (suc i))
       ∙ unless _ _ (sym (bit-and (shl 1 numbers) (flip nexts) (suc i)
       ∙ ap (λ b. has_bit (shl 1 numbers) (suc i)
-      && b) (bit-flip nexts (suc i) (or_lt 64 numbers periods numbers_fit periods_fit) lt))
+      && b) (bit-flip nexts (suc i) (or_lt 64 numbers gaps numbers_fit gaps_fit) lt))
       ∙ (parts (suc i) off).2)
       (bit-shl_one i numbers lt ∙ on)
 

@@ -2,7 +2,7 @@
 pub use Rattle.memchr.specs.Find.{IsFirstByte}
 pub use Rattle.pgn_text.specs.Private.Cuts.{NoCutBefore, is_cut}
 pub use Rattle.pgn_text.specs.Private.ErrorPosition.{WalkedTo, Walks}
-pub use Rattle.pgn_text.specs.Private.Masks.{Sweeps, is_word_sign, word_begins}
+pub use Rattle.pgn_text.specs.Private.Masks.{Sweeps, is_gap, is_move_sign, word_begins}
 pub use Rattle.pgn_text.specs.Private.Movetext.{ArePlain, PlainTo, is_plain_kept, none}
 pub use Rattle.pgn_text.specs.Private.PartFronts.{Ends, Follows, IsFrontOf, IsMoveFront}
 pub use Rattle.pgn_text.specs.Private.PartFronts.{IsPartFront, IsResultFront, IsTagFront}

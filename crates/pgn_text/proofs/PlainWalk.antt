@@ -1,14 +1,15 @@
 -- Plain movetext passed over byte by byte, as a sweep shows it.
 use Rattle.std.proofs.Common.{◌≡◌, ◌⊎◌, ℕ, zero, suc, ◌+◌, ◌-◌, ◌<◌, ◌≤◌, Bool, true, false, not}
-use Rattle.std.proofs.Common.{◌&&◌, ◌||◌, ◌==◌, List, [], ◌∷◌, ◌++◌, length, take, drop, get_or}
+use Rattle.std.proofs.Common.{◌&&◌, ◌||◌, List, [], ◌∷◌, ◌++◌, length, take, drop, get_or}
 use Rattle.std.proofs.Common.{refl, sym, ap, ◌∙◌, subst, arith, inl, inr, append-nil, append_assoc}
-use Rattle.pgn_text.proofs.Common.{eqb-true, cases_lt, is_white, is_digit, is_letter, is_word_byte}
+use Rattle.pgn_text.proofs.Common.{eqb-true, cases_lt, is_white, is_digit, is_gap, is_letter}
+use Rattle.pgn_text.proofs.Common.{is_word_byte}
 use Rattle.pgn_text.proofs.Common.{Item, MoveText, has_bit, word_begins, Sweeps, is_plain_kept}
 use Rattle.pgn_text.proofs.Common.{ArePlain, none, PlainTo, Kept, KeptGap, KeptMove, KeptNumber}
 use Rattle.pgn_text.proofs.Common.{KeptDot, items_of_kept, RunTo, PartAt, KeptAt}
 use Rattle.pgn_text.specs.Private.Masks.{HaveEnds, IsNextMove, NoneFrom}
 use Rattle.pgn_text.specs.Private.Movetext.{one_more as then_part}
-use Rattle.pgn_text.proofs.laws.Classes.{is_digit-word, is_letter-word, is_white-word}
+use Rattle.pgn_text.proofs.laws.Classes.{is_digit-word, is_gap-digit, is_gap-word, is_letter-word}
 use Rattle.pgn_text.proofs.Bits.{both_true, clash}
 use Rattle.pgn_text.proofs.PartsAt.{kept_letters, kept_digits, kept_dot, kept_white}
 use Rattle.pgn_text.proofs.lex.RunsTo.{AllPass, none_yet, one_more, passed_to}
@@ -69,17 +70,6 @@ known false = inr refl
 right_one : (a b : Bool) → (a || b) ≡ true → a ≡ false → b ≡ true
 right_one true b any off = absurd (cc)
 right_one false b any off = any
-
-white_word : (b : ℕ) → is_white b ≡ true → is_word_byte b ≡ false
-white_word b white =
-    elim (known (is_word_byte b))
-    [ inl word ↦ absurd (clash (is_white b) white (is_white-word b word)) | inr off ↦ off ]
-
-period_word : (b : ℕ) → b ≡ 46 → is_word_byte b ≡ false
-period_word b is = rw is refl
-
-period_digit : (b : ℕ) → b ≡ 46 → is_digit b ≡ false
-period_digit b is = rw is refl
 
 -- where a word is passed, the next begins with the word's next byte
 next_begins : (block : List ℕ) (at j : ℕ) → is_word_byte (get_or block (at + j) 0) ≡ false
@@ -153,20 +143,20 @@ module _ (block : List ℕ) (at words moves numbers len : ℕ) (from : ℕ)
       rest false b is off = absurd (cc)
   quiet_step items j lt still (in_number b i plain before digit pass is number) =
       let below = inside_block j lt in
-      let more : (has_bit numbers j || (byte j == 46)) ≡ true =
+      let more : (has_bit numbers j || is_gap (byte j)) ≡ true =
       rw is (s.goes_on i (omega arith) number) in
       elim (known (has_bit numbers j)) [
         | inl on ↦ in_number b j plain (omega arith) digit
             (one_more is_digit block (b + 1) (at + j) (at
             + suc j) (omega arith) pass below (s.digits j lt on)) refl on
         | inr off ↦
-            let dot : byte j ≡ 46 = eqb-true _ _ (right_one _ _ more off) in
+            let gap : is_gap (byte j) ≡ true = right_one _ _ more off in
+            let ends : is_word_byte (byte j) ≡ false = is_gap-word (byte j) gap in
             let to : RunTo is_digit block (b + 1) (at + j) =
-            passed_to is_digit block (b + 1) (at + j) pass (λ _. period_digit _ dot) in
+            passed_to is_digit block (b + 1) (at + j) pass (λ _. is_gap-digit (byte j) gap) in
             gap_after items j lt
             (with_silent block from items b (at + j) KeptNumber plain (λ f.
-            kept_digits f block b (at + j) (omega arith) digit to (λ _. period_word _ dot)) refl
-            refl) (period_word _ dot)
+            kept_digits f block b (at + j) (omega arith) digit to (λ _. ends)) refl refl) ends
       ]
 
   -- over bytes with which no move begins
@@ -200,7 +190,7 @@ module _ (block : List ℕ) (at words moves numbers len : ℕ) (from : ℕ)
   quiet_end items (in_number b i plain before digit pass is number) =
       absurd (clash (is_word_byte (byte i))
       (is_digit-word (byte i) (s.digits i (omega arith) number))
-      (white_word (byte i) (s.ends i is)))
+      (is_gap-word (byte i) (s.ends i is)))
 
   -- a move from the byte `b` on up to the byte `e`
   pub move_walk : (items : List Item) (b e : ℕ) → b < e → e < len → is_letter (byte b) ≡ true
@@ -220,19 +210,6 @@ module _ (block : List ℕ) (at words moves numbers len : ℕ) (from : ℕ)
       (λ f. kept_letters f block (at + b) (at
       + e) below letter (passed_to is_word_byte block (at + b + 1) (at + e) pass (λ _. ends)))
       refl
-
-  -- a byte where a move begins comes before one of white space
-  pub ends_before : (b e : ℕ) → b < len → b < e
-      → ((i : ℕ) → b ≤ i → i < e → is_word_byte (byte i) ≡ true) → e < len
-  ends_before b e lt below inside =
-      let i : ℕ = len - 1 in
-      let last : len ≡ suc i = omega arith in
-      elim (cases_lt e len) [
-        | inl fine ↦ fine
-        | inr past ↦ absurd
-            (clash (is_word_byte (byte i)) (inside i (omega arith) (omega arith))
-            (white_word (byte i) (s.ends i last)))
-      ]
 
   -- after a move
   pub after_move : (items : List Item) (e : ℕ) → is_word_byte (byte e) ≡ false
@@ -303,7 +280,7 @@ module _ (block : List ℕ) (at words moves numbers len : ℕ) (from : ℕ)
       standing_end more (in_move b plain before letter inside) =
           let i : ℕ = len - 1 in
           absurd (clash (is_word_byte (byte i)) (inside i (omega arith) (omega arith))
-          (white_word (byte i) (s.ends i (omega arith))))
+          (is_gap-word (byte i) (s.ends i (omega arith))))
 
   -- after each move comes a place without a word
   pub have_ends : HaveEnds words moves
@@ -314,8 +291,8 @@ module _ (block : List ℕ) (at words moves numbers len : ℕ) (from : ℕ)
       in
       let first = move_first i within on in
       let last : ℕ = len - 1 in
-      let white : is_white (byte last) ≡ true = s.ends last (omega arith) in
-      let gap : is_word_byte (byte last) ≡ false = white_word (byte last) white in
+      let gap : is_word_byte (byte last) ≡ false =
+      is_gap-word (byte last) (s.ends last (omega arith)) in
       let short : len < 64 = s.short in
       let before : i < last = elim (cases_lt i last) [
         | inl below ↦ below
@@ -341,16 +318,22 @@ module _ (block : List ℕ) (at words moves numbers len : ℕ) (from : ℕ)
             (clash (has_bit moves b) next.begins (s.moves_end b le (omega arith)))
       ] in
       let first = move_first b within next.begins in
+      let last : ℕ = len - 1 in
+      let past : e < len = elim (cases_lt e len) [
+        | inl below ↦ below
+        | inr le ↦ absurd
+            (clash (has_bit words last) (next.inside last (omega arith) (omega arith))
+            (s.words_are last (omega arith) ∙ is_gap-word (byte last) (s.ends last (omega arith))))
+      ] in
       let inside = λ (i : ℕ) (low : b ≤ i) (high : i < e). sym (s.words_are i (omega arith))
       ∙ next.inside i low high in
-      let ends : is_word_byte (byte e) ≡ false = sym (s.words_are e short) ∙ next.ends in
+      let ends : is_word_byte (byte e) ≡ false = sym (s.words_are e past) ∙ next.ends in
       let some : b < e = elim (cases_lt b e) [
         | inl below ↦ below
         | inr le ↦ absurd
             (clash (is_word_byte (byte e)) (ap (λ k. is_word_byte (byte k)) (omega arith)
             ∙ is_letter-word (byte b) first.1) ends)
       ] in
-      let past : e < len = ends_before b e within some inside in
       let there : Quiet items b =
       subst (Quiet items) (omega arith)
       (quiet_walk items (b - place) place (omega arith) (λ i low high.

@@ -1,6 +1,7 @@
 -- Classes of bytes that have no byte in common.
 use Rattle.pgn_text.proofs.Common.{◌≡◌, ℕ, true, false, arith, nat_tests, ◌==◌, is_white, is_digit}
-use Rattle.pgn_text.proofs.Common.{is_letter, is_name_byte, is_word_byte, is_mark}
+use Rattle.pgn_text.proofs.Common.{is_letter, is_name_byte, is_word_byte, is_mark, is_gap}
+use Rattle.pgn_text.proofs.Common.{is_move_sign, ◌||◌, false}
 
 pub is_white-word : (b : ℕ) → is_word_byte b ≡ true → is_white b ≡ false
 is_white-word b word = grind (arith, nat_tests)
@@ -55,3 +56,13 @@ is_digit-word b digit = grind (arith, nat_tests)
 
 pub is_letter-digit : (b : ℕ) → is_digit b ≡ true → is_letter b ≡ false
 is_letter-digit b digit = grind (arith, nat_tests)
+
+pub is_gap-word : (b : ℕ) → is_gap b ≡ true → is_word_byte b ≡ false
+is_gap-word b gap = grind (arith, nat_tests)
+
+pub is_gap-digit : (b : ℕ) → is_gap b ≡ true → is_digit b ≡ false
+is_gap-digit b gap = grind (arith, nat_tests)
+
+pub plain-word : (b : ℕ) → ((is_letter b || is_digit b) || is_move_sign b) ≡ true
+    → is_word_byte b ≡ true
+plain-word b plain = grind (arith, nat_tests)

@@ -4,9 +4,13 @@ use Rattle.std.specs.Prelude.{◌≤◌, List, length, get_or}
 use Rattle.pgn_text.specs.Public.Bytes.{is_white, is_digit, is_letter, is_word_byte}
 use Rattle.pgn_text.specs.Shared.Lanes.{has_bit}
 
--- a byte of a word that is neither a letter nor a digit
-abbrev pub is_word_sign : ℕ → Bool
-is_word_sign b = (b == 95 || ((b == 43 || b == 35) || (b == 61 || b == 58))) || (b == 45 || b == 47)
+-- a sign of the words of moves: one of + # = -
+abbrev pub is_move_sign : ℕ → Bool
+is_move_sign b = (b == 43 || b == 35) || (b == 61 || b == 45)
+
+-- white space or a period
+abbrev pub is_gap : ℕ → Bool
+is_gap b = is_white b || b == 46
 
 -- the bits of `begins` are those of `words` before which none of them is set
 abbrev pub AreBegins : ℕ → ℕ → Type 0
@@ -21,26 +25,25 @@ word_begins block at zero = is_word_byte (get_or block (at + 0) 0)
 word_begins block at (suc i) = is_word_byte (get_or block (at + suc i) 0)
     && not (is_word_byte (get_or block (at + i) 0))
 
--- the 64 bytes from the place on have the words at the bits of `words`, and the first `len` of them
--- are plain movetext whose last byte is white space, with the moves that begin at the bits of
--- `moves`, and with bytes of numbers at those of `numbers`
+-- the first `len` bytes from the place on, which are fewer than 64, are plain movetext whose last
+-- byte is white space or a period, with words at the bits of `words`, with the moves that begin at
+-- those of `moves`, and with bytes of numbers at those of `numbers`
 pub record Sweeps (block : List ℕ) (at words moves numbers len : ℕ) : Type 0 where
   pub within : at + len ≤ length block
   pub short : len < 64
-  pub words_are : (i : ℕ) → i < 64 → has_bit words i ≡ is_word_byte (get_or block (at + i) 0)
+  pub words_are : (i : ℕ) → i < len → has_bit words i ≡ is_word_byte (get_or block (at + i) 0)
   pub moves_are : (i : ℕ) → i < len → has_bit moves i
       ≡ (word_begins block at i && is_letter (get_or block (at + i) 0))
   pub moves_end : (i : ℕ) → len ≤ i → i < 64 → has_bit moves i ≡ false
   pub each : (i : ℕ) → i < len
-      → (is_word_byte (get_or block (at + i) 0)
-      || (is_white (get_or block (at + i) 0) || (get_or block (at + i) 0 == 46))) ≡ true
+      → (is_word_byte (get_or block (at + i) 0) || is_gap (get_or block (at + i) 0)) ≡ true
   pub begins : (i : ℕ) → i < len → word_begins block at i ≡ true
       → (is_letter (get_or block (at + i) 0) || has_bit numbers i) ≡ true
   pub digits : (i : ℕ) → i < len → has_bit numbers i ≡ true
       → is_digit (get_or block (at + i) 0) ≡ true
   pub goes_on : (i : ℕ) → suc i < len → has_bit numbers i ≡ true
-      → (has_bit numbers (suc i) || (get_or block (at + suc i) 0 == 46)) ≡ true
-  pub ends : (i : ℕ) → len ≡ suc i → is_white (get_or block (at + i) 0) ≡ true
+      → (has_bit numbers (suc i) || is_gap (get_or block (at + suc i) 0)) ≡ true
+  pub ends : (i : ℕ) → len ≡ suc i → is_gap (get_or block (at + i) 0) ≡ true
 
 -- no bit of the word is set from the place on
 abbrev pub NoneFrom : ℕ → ℕ → Type 0

@@ -3,11 +3,11 @@
 
 ghost use Rattle.std.specs.Prelude.{MatchOption, OnOk, IfOk, ◌++◌, map, ◌≡◌, ◌<◌, ◌≤◌, ◌+◌, ◌==◌};
 ghost use Rattle.std.specs.Prelude.{◌||◌, suc, true, false, ℕ, List, length, get_or};
-ghost use Rattle.pgn_text.specs.Public.Bytes.{is_digit, is_letter, is_white};
+ghost use Rattle.pgn_text.specs.Public.Bytes.{is_digit, is_letter};
 ghost use Rattle.pgn_text.specs.Public.Elements.{item_of};
 ghost use Rattle.pgn_text.specs.Public.Games.{Item};
 ghost use Rattle.pgn_text.specs.Private.Movetext.{PlainTo};
-ghost use Rattle.pgn_text.specs.Private.Masks.{is_word_sign, AreBegins};
+ghost use Rattle.pgn_text.specs.Private.Masks.{is_gap, is_move_sign, AreBegins};
 ghost use Rattle.pgn_text.specs.Private.Masks.{HaveEnds, IsNextMove, NoneFrom, Sweeps};
 ghost use Rattle.pgn_text.specs.Shared.Lanes.{has_bit, AreLanes};
 
@@ -36,34 +36,24 @@ fn digits(bytes: u8x64) -> u64
         .to_bitmask()
 }
 
-/// Which bytes are white space.
+/// Which bytes are white space or periods.
 #[inline(always)]
-fn whites(bytes: u8x64) -> u64
-    ensures { AreLanes 64 is_white bytes result }
+fn gaps(bytes: u8x64) -> u64
+    ensures { AreLanes 64 is_gap bytes result }
 {
     (bytes.simd_eq(u8x64::splat(b' '))
+        | bytes.simd_eq(u8x64::splat(b'.'))
         | (bytes - u8x64::splat(9)).simd_lt(u8x64::splat(5))).to_bitmask()
 }
 
-/// Which bytes are periods.
-#[inline(always)]
-fn periods(bytes: u8x64) -> u64
-    ensures { AreLanes 64 (λ b. b == 46) bytes result }
-{
-    bytes.simd_eq(u8x64::splat(b'.')).to_bitmask()
-}
-
-/// Which bytes are bytes of words, but neither letters nor digits.
+/// Which bytes are signs of the words of moves. Words with other signs are read by themselves.
 #[inline(always)]
 fn signs(bytes: u8x64) -> u64
-    ensures { AreLanes 64 is_word_sign bytes result }
+    ensures { AreLanes 64 is_move_sign bytes result }
 {
-    // (a minus and a slash, and a plus and a hash, differ in one bit)
-    ((bytes | u8x64::splat(2)).simd_eq(u8x64::splat(b'/'))
-        | (bytes | u8x64::splat(8)).simd_eq(u8x64::splat(b'+'))
-        | bytes.simd_eq(u8x64::splat(b'='))
-        | bytes.simd_eq(u8x64::splat(b':'))
-        | bytes.simd_eq(u8x64::splat(b'_'))).to_bitmask()
+    // (a minus and an equals sign, and a plus and a hash, differ in one bit)
+    ((bytes | u8x64::splat(16)).simd_eq(u8x64::splat(b'='))
+        | (bytes | u8x64::splat(8)).simd_eq(u8x64::splat(b'+'))).to_bitmask()
 }
 
 /// The bytes with which the words begin.
@@ -95,19 +85,17 @@ fn below(word: u64, place: u32) -> u64
 
 /// The bytes of no plain movetext: those of no class, those with which a word begins that is
 /// neither a move nor a number, and those after a number's byte that are neither a number's nor a
-/// period.
+/// gap.
 #[inline(always)]
-fn strange(words: u64, gaps: u64, periods: u64, begins: u64, letters: u64, numbers: u64) -> u64
+fn strange(words: u64, gaps: u64, begins: u64, letters: u64, numbers: u64) -> u64
     ensures each { (i : ℕ) → i < 64 → has_bit result i ≡ false
-        → (has_bit words i || (has_bit gaps i || has_bit periods i)) ≡ true }
+        → (has_bit words i || has_bit gaps i) ≡ true }
     ensures begins { (i : ℕ) → i < 64 → has_bit result i ≡ false → has_bit begins i ≡ true
         → (has_bit letters i || has_bit numbers i) ≡ true }
     ensures goes_on { (i : ℕ) → suc i < 64 → has_bit result (suc i) ≡ false
-        → has_bit numbers i ≡ true → (has_bit numbers (suc i) || has_bit periods (suc i)) ≡ true }
+        → has_bit numbers i ≡ true → (has_bit numbers (suc i) || has_bit gaps (suc i)) ≡ true }
 {
-    !(words | (gaps | periods))
-        | (begins & !(letters | numbers))
-        | ((numbers << 1) & !(numbers | periods))
+    !(words | gaps) | (begins & !(letters | numbers)) | ((numbers << 1) & !(numbers | gaps))
 }
 
 /// How many bytes from the first on are not strange and have a gap as their last.
@@ -164,18 +152,10 @@ pub(crate) fn sweep(block: &[u8], at: usize) -> Swept
     let letter_bits = letters(bytes) >> skip;
     let digit_bits = digits(bytes) >> skip;
     let word_bits = letter_bits | digit_bits | (signs(bytes) >> skip);
-    let gap_bits = whites(bytes) >> skip;
-    let period_bits = periods(bytes) >> skip;
+    let gap_bits = gaps(bytes) >> skip;
     let begin_bits = begins(word_bits);
     let number_bits = numbers(digit_bits, begin_bits);
-    let strange_bits = strange(
-        word_bits,
-        gap_bits,
-        period_bits,
-        begin_bits,
-        letter_bits,
-        number_bits,
-    );
+    let strange_bits = strange(word_bits, gap_bits, begin_bits, letter_bits, number_bits);
     let len = plain_len(gap_bits, strange_bits);
     let moves = below(begin_bits & letter_bits, len as u32);
     Swept {
