@@ -10,6 +10,7 @@ use Rattle.std.proofs.lemmas.Nat.Bits.{bit_at-suc, bit_at_and, bit_at_or, bit_at
 use Rattle.std.proofs.lemmas.Nat.Bits.{bit_at_mask_inside, bit_at_mask_below, bit_at-trailing_zeros}
 use Rattle.std.proofs.lemmas.Simd.{bit_mask_l}
 use Rattle.std.proofs.lemmas.Bool.{cases_order, cases_lt}
+use Rattle.pgn_text.proofs.Common.{eqb-true}
 use lib.Bits.{bit_and, bit_or, and_le_l, or_lt, shifted_even}
 use lib.Count.{count_leading_zeros, count_trailing_zeros, leading_of_zero, trailing_of_zero}
 use lib.Pow.{field, mod-mod-pow, shr-shr, shl-shr, pow-add}
@@ -476,3 +477,47 @@ bit-shr n k i = ap (λ x. x % 2 == 1) (shr-shr n k i)
 pub bit-above : (n i : ℕ) → n < 2 ^ 64 → 64 ≤ i → has_bit n i ≡ false
 unfolding has_bit
 bit-above n i fit le = ap (λ x. x == 1) (bit_at_above n 64 i fit le)
+
+-- one less than a number: below its lowest bit all are set, that bit is not, and those above stay
+pub one_less : (j b k : ℕ) → has_bit b j ≡ true → ((i : ℕ) → i < j → has_bit b i ≡ false)
+    → (k < j → has_bit (b - 1) k ≡ true) × (k ≡ j → has_bit (b - 1) k ≡ false)
+    × (j < k → has_bit (b - 1) k ≡ has_bit b k)
+one_less zero b zero on low =
+    let odd : b % 2 ≡ 1 = eqb-true _ _ (sym (has-zero b) ∙ on) in
+    let even : (b - 1) % 2 ≡ 0 = omega arith in (
+      λ lt. absurd (omega arith),
+      λ is. has-zero (b - 1) ∙ ap (λ r. r == 1) even,
+      λ lt. absurd (omega arith),
+    )
+one_less zero b (suc m) on low =
+    let odd : b % 2 ≡ 1 = eqb-true _ _ (sym (has-zero b) ∙ on) in
+    let half : (b - 1) / 2 ≡ b / 2 = omega arith in (
+      λ lt. absurd (omega arith),
+      λ is. absurd (omega arith),
+      λ lt. has-suc (b - 1) m ∙ ap (λ n. has_bit n m) half ∙ sym (has-suc b m),
+    )
+one_less (suc n) b zero on low =
+    let some : 0 < b = some_bit b (suc n) on in
+    let even : b % 2 ≡ 0 =
+    bit_cases (λ r. (r == 1) ≡ false → r ≡ 0) (λ off. refl) (λ off. absurd (cc)) (b % 2)
+    (mod-lt b (zero-lt-suc 1)) (sym (has-zero b) ∙ low 0 (omega arith)) in
+    let odd : (b - 1) % 2 ≡ 1 = omega arith in (
+      λ lt. has-zero (b - 1) ∙ ap (λ r. r == 1) odd,
+      λ is. absurd (omega arith),
+      λ lt. absurd (omega arith),
+    )
+one_less (suc n) b (suc m) on low =
+    let some : 0 < b = some_bit b (suc n) on in
+    let even : b % 2 ≡ 0 =
+    bit_cases (λ r. (r == 1) ≡ false → r ≡ 0) (λ off. refl) (λ off. absurd (cc)) (b % 2)
+    (mod-lt b (zero-lt-suc 1)) (sym (has-zero b) ∙ low 0 (omega arith)) in
+    let half : (b - 1) / 2 ≡ b / 2 - 1 = omega arith in
+    let more =
+    one_less n (b / 2) m (sym (has-suc b n) ∙ on) (λ i lt. sym (has-suc b i)
+    ∙ low (suc i) (omega arith)) in
+    let there : has_bit (b - 1) (suc m) ≡ has_bit (b / 2 - 1) m =
+    has-suc (b - 1) m ∙ ap (λ n. has_bit n m) half in (
+      λ lt. there ∙ more.0 (omega arith),
+      λ is. there ∙ more.1 (omega arith),
+      λ lt. there ∙ more.2 (omega arith) ∙ sym (has-suc b m),
+    )

@@ -7,10 +7,11 @@ use Rattle.pgn_text.proofs.Common.{is_word_byte}
 use Rattle.pgn_text.proofs.Common.{Item, MoveText, has_bit, word_begins, Sweeps, is_plain_kept}
 use Rattle.pgn_text.proofs.Common.{ArePlain, none, PlainTo, Kept, KeptGap, KeptMove, KeptNumber}
 use Rattle.pgn_text.proofs.Common.{KeptDot, items_of_kept, RunTo, PartAt, KeptAt}
+use Rattle.std.proofs.Common.{bit_and}
 use Rattle.pgn_text.specs.Private.Masks.{HaveEnds, IsNextMove, NoneFrom}
 use Rattle.pgn_text.specs.Private.Movetext.{one_more as then_part}
 use Rattle.pgn_text.proofs.laws.Classes.{is_digit-word, is_gap-digit, is_gap-word, is_letter-word}
-use Rattle.pgn_text.proofs.Bits.{both_true, clash}
+use Rattle.pgn_text.proofs.Bits.{both_true, clash, bit-and, one_less, some_bit}
 use Rattle.pgn_text.proofs.PartsAt.{kept_letters, kept_digits, kept_dot, kept_white}
 use Rattle.pgn_text.proofs.lex.RunsTo.{AllPass, none_yet, one_more, passed_to}
 
@@ -84,6 +85,23 @@ none_begins : (block : List ℕ) (at j : ℕ) → is_word_byte (get_or block (at
     → word_begins block at j ≡ false
 none_begins block at zero off = off
 none_begins block at (suc j) off = rw off refl
+
+-- of the moves, those are left that begin from the place on
+abbrev pub AreLeft : ℕ → ℕ → ℕ → Type 0
+AreLeft moves left place = ((i : ℕ) → i < place → has_bit left i ≡ false)
+    × ((i : ℕ) → place ≤ i → i < 64 → has_bit left i ≡ has_bit moves i)
+
+and_off : (a b : Bool) → b ≡ false → (a && b) ≡ false
+and_off true b off = off
+and_off false b off = refl
+
+off_and : (a b : Bool) → a ≡ false → (a && b) ≡ false
+off_and true b off = absurd (cc)
+off_and false b off = refl
+
+and_same : (a : Bool) → (a && a) ≡ a
+and_same true = refl
+and_same false = refl
 
 module _ (block : List ℕ) (at words moves numbers len : ℕ) (from : ℕ)
     (s : Sweeps block at words moves numbers len) where
@@ -301,6 +319,94 @@ module _ (block : List ℕ) (at words moves numbers len : ℕ) (from : ℕ)
             ∙ is_letter-word (byte i) first.1) gap)
       ] in
       (last, before, omega arith, s.words_are last (omega arith) ∙ gap)
+
+  -- a move that is left is one
+  left_moves : (left place i : ℕ) → AreLeft moves left place → i < 64 → has_bit left i ≡ true
+      → (place ≤ i) × (has_bit moves i ≡ true)
+  left_moves left place i are lt on = elim (cases_lt i place) [
+    | inl less ↦ absurd (clash (has_bit left i) on (are.0 i less))
+    | inr more ↦ (more, sym (are.1 i more lt) ∙ on)
+  ]
+
+  -- with a move that is left a word begins
+  pub left_words : (left place : ℕ) → AreLeft moves left place → (i : ℕ) → i < 64
+      → has_bit left i ≡ true → has_bit words i ≡ true
+  left_words left place are i lt on =
+      let move : has_bit moves i ≡ true = (left_moves left place i are lt on).1 in
+      let within : i < len = elim (cases_lt i len) [
+        | inl below ↦ below
+        | inr le ↦ absurd (clash (has_bit moves i) move (s.moves_end i le lt))
+      ] in
+      s.words_are i within ∙ is_letter-word (byte i) (move_first i within move).1
+
+  pub left_ends : (left place : ℕ) → AreLeft moves left place → HaveEnds words left
+  left_ends left place are i lt on = have_ends i lt (left_moves left place i are lt on).1
+
+  -- the first of those that are left is the next one
+  pub next_left : (left place b e : ℕ) → AreLeft moves left place → IsNextMove words left 0 b e
+      → IsNextMove words moves place b e
+  next_left left place b e are next =
+      let short : e < 64 = next.short in
+      let longer : b ≤ e = next.longer in
+      let here = left_moves left place b are (omega arith) next.begins in
+      record {
+        forward = here.0;
+        short = short;
+        longer = longer;
+        begins = here.1;
+        first = λ i low high. sym (are.1 i low (omega arith)) ∙ next.first i (omega arith) high;
+        inside = next.inside;
+        ends = next.ends;
+      }
+
+  -- in a word that has begun none begins
+  still_in_word : (k : ℕ) → suc k < len → is_word_byte (byte k) ≡ true
+      → has_bit moves (suc k) ≡ false
+  still_in_word k lt word =
+      no_move (suc k) lt
+      (and_off (is_word_byte (byte (suc k))) (not (is_word_byte (byte k))) (rw word refl))
+
+  -- after the first of those that are left, without its bit
+  pub left_after : (left place b e : ℕ) → AreLeft moves left place
+      → IsNextMove words left 0 b e → e ≤ len → AreLeft moves (bit_and left (left - 1)) e
+  left_after left place b e are next within =
+      let short : e < 64 = next.short in
+      let longer : b ≤ e = next.longer in
+      let forward : place ≤ b = (next_left left place b e are next).forward in
+      let some : b < e = elim (cases_lt b e) [
+        | inl below ↦ below
+        | inr le ↦ absurd
+            (clash (has_bit words e) (ap (has_bit words) (omega arith)
+            ∙ left_words left place are b (omega arith) next.begins) next.ends)
+      ] in
+      let less = λ (k : ℕ). one_less b left k next.begins (λ i lt. next.first i (omega arith) lt)
+      in (
+        λ i lt. bit-and left (left - 1) i ∙ elim (cases_lt i b) [
+          | inl before ↦ off_and _ (has_bit (left - 1) i) (next.first i (omega arith) before)
+          | inr le ↦ elim (cases_lt b i) [
+            | inr same ↦ and_off (has_bit left i) _ ((less i).1 (omega arith))
+            | inl after ↦
+                let k : ℕ = i - 1 in
+                let is : i ≡ suc k = omega arith in
+                let inner : suc k < len = omega arith in
+                let word : is_word_byte (byte k) ≡ true =
+                sym (s.words_are k (omega arith)) ∙ next.inside k (omega arith) (omega arith) in
+                off_and _ (has_bit (left - 1) i) (are.1 i (omega arith) (omega arith)
+                ∙ ap (has_bit moves) is ∙ still_in_word k inner word)
+          ]
+        ],
+        λ i le lt. bit-and left (left - 1) i
+            ∙ ap (λ v. has_bit left i && v) ((less i).2 (omega arith)) ∙ and_same (has_bit left i)
+            ∙ are.1 i (omega arith) lt,
+      )
+
+  -- where none is left
+  pub none_left : (left place : ℕ) → AreLeft moves left place → left ≡ 0 → NoneFrom moves place
+  none_left left place are done i low lt = sym (are.1 i low lt) ∙ go (has_bit left i) refl
+    where
+      go : (v : Bool) → has_bit left i ≡ v → v ≡ false
+      go true is = let some = some_bit left i is in absurd (omega arith)
+      go false is = refl
 
   -- over the next move
   pub over_move : (items : List Item) (place b e : ℕ) → IsNextMove words moves place b e

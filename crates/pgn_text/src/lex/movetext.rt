@@ -8,7 +8,7 @@ ghost use Rattle.pgn_text.specs.Public.Elements.{item_of};
 ghost use Rattle.pgn_text.specs.Public.Games.{Item};
 ghost use Rattle.pgn_text.specs.Private.Movetext.{PlainTo};
 ghost use Rattle.pgn_text.specs.Private.Masks.{is_gap, is_move_sign, AreBegins};
-ghost use Rattle.pgn_text.specs.Private.Masks.{HaveEnds, IsNextMove, NoneFrom, Sweeps};
+ghost use Rattle.pgn_text.specs.Private.Masks.{HaveEnds, IsNextMove, Sweeps};
 ghost use Rattle.pgn_text.specs.Shared.Lanes.{has_bit, AreLanes};
 
 use crate::game::Element;
@@ -176,19 +176,17 @@ pub(crate) fn first_from(word: u64, from: usize) -> usize
     (word & (u64::MAX << from)).trailing_zeros() as usize
 }
 
-/// The first move from the place on, from its first byte to the place after it.
+/// The first of the moves that are left, from its first byte to the place after it.
 #[inline(always)]
-fn next_move(swept: Swept, from: usize) -> Option<(usize, usize)>
-    requires place { from < 64 }
-    requires ends { HaveEnds swept.words swept.moves }
-    ensures { MatchOption result (NoneFrom swept.moves from) (λ found.
-        IsNextMove swept.words swept.moves from found.0 found.1) }
+fn first_move(words: u64, left: u64) -> (usize, usize)
+    requires some { 0 < left }
+    requires words { (i : ℕ) → i < 64 → has_bit left i ≡ true → has_bit words i ≡ true }
+    requires ends { HaveEnds words left }
+    ensures { IsNextMove words left 0 result.0 result.1 }
 {
-    let begin = first_from(swept.moves, from);
-    if begin == 64 {
-        return None;
-    }
-    Some((begin, first_from(!swept.words, begin)))
+    // (below the move, all bits of `left - 1` are set)
+    let end = first_from(!(words | (left - 1)), 0);
+    (first_from(left, 0), end)
 }
 
 /// Adds the moves that the sweep shows.
@@ -203,13 +201,11 @@ fn push_moves<'a>(
     ensures { OnOk result ((moves : List Item) × PlainTo block.now at moves (at + swept.len)
         × (map item_of elements.new.items ≡ map item_of elements.old.items ++ moves)) }
 {
-    let mut from = 0;
-    while from < swept.len {
-        let Some((begin, end)) = next_move(swept, from) else {
-            return Ok(());
-        };
+    let mut left = swept.moves;
+    while left != 0 {
+        let (begin, end) = first_move(swept.words, left);
         push_element(elements, Element::Move(&block[at + begin..at + end]))?;
-        from = end;
+        left &= left - 1;
     }
     Ok(())
 }
