@@ -128,26 +128,14 @@ pub(crate) struct Swept {
     pub(crate) len: usize,
 }
 
-/// Where 64 bytes of a block begin that have the place among them: at the place, or so that they
-/// are the last.
+/// Looks at 64 bytes of the block at once, past so many of them: none, or the 64 are the last.
 #[inline(always)]
-fn base_of(len: usize, at: usize) -> usize
-    requires { (at < len) × (64 ≤ len) }
-    ensures among { (result ≤ at) × (at < result + 64) × (result + 64 ≤ len) }
-    ensures last { result < at → result + 64 ≡ len }
+fn sweep_past(block: &[u8], base: usize, skip: usize) -> Swept
+    requires within { (base + 64 ≤ length block.now) × (skip < 64) }
+    requires last { 0 < skip → base + 64 ≡ length block.now }
+    ensures { (numbers : ℕ)
+        × Sweeps block.now (base + skip) result.words result.moves numbers result.len }
 {
-    if len - at < 64 { len - 64 } else { at }
-}
-
-/// Looks at 64 bytes of the block at once: those from the place on, or where fewer are left, the
-/// last.
-#[inline(always)]
-pub(crate) fn sweep(block: &[u8], at: usize) -> Swept
-    requires { (at < length block.now) × (64 ≤ length block.now) }
-    ensures { (numbers : ℕ) × Sweeps block.now at result.words result.moves numbers result.len }
-{
-    let base = base_of(block.len(), at);
-    let skip = at - base;
     let bytes = bytes_at(block, base);
     let letter_bits = letters(bytes) >> skip;
     let digit_bits = digits(bytes) >> skip;
@@ -163,6 +151,29 @@ pub(crate) fn sweep(block: &[u8], at: usize) -> Swept
         moves,
         len,
     }
+}
+
+/// Looks at the bytes of the block from the place on, fewer than 64.
+#[inline(never)]
+fn sweep_last(block: &[u8], at: usize) -> Swept
+    requires { (at < length block.now) × (64 ≤ length block.now) × (length block.now < at + 64) }
+    ensures { (numbers : ℕ) × Sweeps block.now at result.words result.moves numbers result.len }
+{
+    let base = block.len() - 64;
+    sweep_past(block, base, at - base)
+}
+
+/// Looks at 64 bytes of the block at once: those from the place on, or where fewer are left, the
+/// last.
+#[inline(always)]
+pub(crate) fn sweep(block: &[u8], at: usize) -> Swept
+    requires { (at < length block.now) × (64 ≤ length block.now) }
+    ensures { (numbers : ℕ) × Sweeps block.now at result.words result.moves numbers result.len }
+{
+    if block.len() - at < 64 {
+        return sweep_last(block, at);
+    }
+    sweep_past(block, at, 0)
 }
 
 /// The place of the word's first bit from the given one on, or 64 where there is none.

@@ -1,23 +1,22 @@
-use Rattle.std.proofs.Common.{◌≡◌, ℕ, suc, ◌+◌, ◌-◌, ◌/◌, ◌^◌, ◌<◌, ◌&&◌, ◌||◌, get_or}
+use Rattle.std.proofs.Common.{◌≡◌, ℕ, suc, ◌+◌, ◌/◌, ◌^◌, ◌<◌, ◌&&◌, ◌||◌, get_or}
 use Rattle.std.proofs.Common.{bit_or, refl, sym, ap, ap₂, ◌∙◌, arith}
 use Rattle.pgn_text.proofs.Common.{is_gap, is_digit, is_letter, is_move_sign, has_bit}
 use Rattle.pgn_text.proofs.Bits.{bit-and, bit-or}
 use Rattle.pgn_text.proofs.lex.SweepLemmas.{word_of_moves, begins_are, moved_bits}
 use Rattle.pgn_text.proofs.lex.SweepLemmas.{within_block}
-use Rattle.pgn_text.proofs.lex.movetext.sweep.Goals as goal
+use Rattle.pgn_text.proofs.lex.movetext.sweep_past.Goals as goal
 
 pub returns : goal.returns
 returns c =
     let block = c.args.block.now in
-    let at = c.args.at in
+    let base = c.args.base in
+    let skip = c.args.skip in
+    let at = base + skip in
     let len = c.plain_len-len.result in
     let numbers = c.numbers-number_bits.result in
     let short : len < 64 = c.plain_len-len.ensures.short in
-    let base = c.base_of-base.result in
-    let skip = at - base in
-    let among = c.base_of-base.ensures.among in
-    let there : base + skip ≡ at = omega (arith, among.0) in
-    let last = λ (some : 0 < skip). c.base_of-base.ensures.last (omega arith) in
+    let there : base + skip ≡ at = refl in
+    let last = c.requires.last in
     let same = λ (i : ℕ) (lt : i < 64). c.bytes_at-bytes.ensures i lt in
     let letters_are =
     moved_bits is_letter refl block base skip at c.letters.result there last (omega arith)
@@ -49,7 +48,7 @@ returns c =
     c.begins-begin_bits.ensures words_are in (
       numbers,
       record {
-        within = within_block block at len c.requires.0 (λ i is. sym (gaps_are i (omega arith))
+        within = within_block block at len (omega arith) (λ i is. sym (gaps_are i (omega arith))
             ∙ c.plain_len-len.ensures.ends i is);
         short = short;
         words_are = words_are;
