@@ -7,7 +7,8 @@ use Rattle.pgn_game.proofs.Common.{Item, MoveText, GlyphNumber, CommentText, Var
 use Rattle.pgn_game.proofs.Common.{LineEnd, ThenMove, ThenGlyph, ThenComment, ThenVariation}
 use Rattle.pgn_game.proofs.Common.{spelled, GameText, Style, Option}
 use Rattle.pgn_game.specs.Public.Edits.{Edits}
-use Rattle.pgn_game.specs.Public.LineGames.{AreExportsOf, LineGame, own_items, variations_in}
+use Rattle.pgn_game.specs.Public.LineGames.{AreExportsOf, LineGame, WritesFirst, own_items}
+use Rattle.pgn_game.specs.Public.LineGames.{variations_in}
 use Rattle.pgn_game.specs.Private.LinePaths.{Track, first_track, own_front, variations_left}
 use Rattle.pgn_game.specs.Private.LinePaths.{words_now}
 use Rattle.pgn_game.specs.Private.Steps.{shown_if}
@@ -128,3 +129,27 @@ module _ (edits : Option Edits) (style : Style) (game : GameText) where
     exports,
     exports_joined first second rest more later is,
   )
+
+  -- after the first lines more are written, in the same way
+  pub writes_more : (edits' : Option Edits) (style' : Style) (game' : GameText)
+      (lines left later : List LineGame) (text more : List ℕ)
+      → edits' ≡ edits → style' ≡ style → game' ≡ game
+      → WritesFirst edits style game lines left text
+      → WritesFirst edits' style' game' left later more
+      → WritesFirst edits style game lines later (text ++ more)
+  writes_more edits' style' game' lines left later text more same_edits same_style same_game
+      (first, is, put) (next, goes, puts) = (
+        first ++ next,
+        is ∙ ap (λ rest. first ++ rest) goes ∙ sym (append_assoc first next later),
+        exports_joined first next text more put
+            (subst (λ e. AreExportsOf e style game next more) same_edits
+            (subst (λ s. AreExportsOf edits' s game next more) same_style
+            (subst (λ g. AreExportsOf edits' style' g next more) same_game puts))),
+      )
+
+  -- where none is left, all are
+  pub writes_all : (lines left : List LineGame) (text : List ℕ) → left ≡ []
+      → WritesFirst edits style game lines left text → AreExportsOf edits style game lines text
+  writes_all lines left text none (first, is, put) =
+      subst (λ all. AreExportsOf edits style game all text)
+      (sym (is ∙ ap (λ rest. first ++ rest) none ∙ append-nil first)) put

@@ -75,3 +75,18 @@ AreExportsOf edits style game (line ∷ more) text =
 abbrev pub AreLineExports : Option Edits → Style → GameText → List ℕ → Type 0
 AreLineExports edits style game text = (line : Line) × (game.elements ≡ spelled line)
     × AreExportsOf edits style game (lines_of line) text
+
+-- the text is the exports of the first of these lines, and the others are left
+abbrev pub WritesFirst : Option Edits → Style → GameText → List LineGame → List LineGame → List ℕ
+    → Type 0
+WritesFirst edits style game lines left text =
+    (first : List LineGame) × (lines ≡ first ++ left) × AreExportsOf edits style game first text
+
+-- the lines that are left of a game of which the first are written, and how they are written; and
+-- how many of its elements are still to be gone along
+pub record LinesLeft : Type 0 where
+  pub edits : Option Edits
+  pub style : Style
+  pub game : GameText
+  pub lines : List LineGame
+  pub steps : ℕ

@@ -1,16 +1,17 @@
 //! Each line of a game written as a game of its own.
-ghost use Rattle.std.specs.Prelude.{◌≡◌, ◌++◌, ◌∷◌, Bool, true, ℕ, List, [], IfErr, IfOk, IfSome};
-ghost use Rattle.std.specs.Prelude.{OnErr, OnOk, map, option_map};
+ghost use Rattle.std.specs.Prelude.{◌≡◌, ◌++◌, ◌∷◌, ◌<◌, Bool, true, false, ℕ, List, [], IfErr, IfOk};
+ghost use Rattle.std.specs.Prelude.{IfSome, OnErr, OnOk, map, option_map};
 ghost use Rattle.std.specs.List.{AllByRecursion};
 ghost use Rattle.chess.specs.Public.Positions.{State};
 ghost use Rattle.pgn_text.specs.Public.Elements.{item_of};
 ghost use Rattle.pgn_text.specs.Public.Games.{Item, MoveText, VariationOpen};
 ghost use Rattle.pgn_text.specs.Public.GameTexts.{GameText, tag_in};
+ghost use Rattle.pgn_game.specs.Public.AllLines.{Line, spelled};
 ghost use Rattle.pgn_game.specs.Public.Edits.{IsEditedLine, order_of};
 ghost use Rattle.pgn_game.specs.Public.Exports.{IsLineExport, IsLineMovetext};
 ghost use Rattle.pgn_game.specs.Public.Faults.{IsFault};
-ghost use Rattle.pgn_game.specs.Public.LineGames.{AreExportsOf, AreLineExports, line_items};
-ghost use Rattle.pgn_game.specs.Public.LineGames.{unfinished};
+ghost use Rattle.pgn_game.specs.Public.LineGames.{AreExportsOf, AreLineExports, WritesFirst};
+ghost use Rattle.pgn_game.specs.Public.LineGames.{line_items, lines_of, unfinished};
 ghost use Rattle.pgn_game.specs.Public.Replays.{IsSoundGame, fault_of};
 ghost use Rattle.pgn_game.specs.Public.Starts.{IsStart, fen_tag};
 ghost use Rattle.pgn_game.specs.Private.Editing.{plies_up_to};
@@ -30,6 +31,7 @@ use crate::turns::fault::GameFault;
 use itoa::Buffer;
 use pgn_text::{Element, RawGame};
 use std::alloc::{AllocError, Global};
+use std::marker::Model;
 use std::mem;
 
 /// A line as far as it was gone along, and those around it.
@@ -71,7 +73,7 @@ impl<'a> Path<'a> {
         ensures track { OnOk result
             (track_of self.new ≡ gone_along (MoveText word.now) (track_of self.old)) }
         ensures around { OnOk result (tracks_around self.new ≡ tracks_around self.old) }
-        ensures nested { OnOk result (IsNested self.new) }
+        ensures nested { IsNested self.new }
     {
         let Some(last) = mem::replace(&mut self.last, Some(word)) else {
             return Ok(());
@@ -87,7 +89,7 @@ impl<'a> Path<'a> {
             (track_of self.new ≡ gone_along VariationOpen (track_of self.old)) }
         ensures around { OnOk result
             (tracks_around self.new ≡ track_of self.old ∷ tracks_around self.old) }
-        ensures nested { OnOk result (IsNested self.new) }
+        ensures nested { IsNested self.new }
     {
         let fork = Fork {
             length: self.before.len(),
@@ -119,7 +121,7 @@ impl<'a> Path<'a> {
             (tracks_around self.old)
             ≡ begun_by (item_of element.entry) items (track_of self.old)
             ++ variations_left items (track_of self.new) (tracks_around self.new)) }
-        ensures nested { OnOk result (IsNested self.new) }
+        ensures nested { IsNested self.new }
     {
         match element {
             Element::Move(word) => self.play(word),
@@ -293,50 +295,132 @@ impl LineExport<'_> {
             _ => Ok(()),
         }
     }
+}
 
-    /// Appends the exports of the variations of the game, whose head stands without a result, in
-    /// the order of the text; where memory is refused, some bytes of them.
-    fn put_variations(
-        &self,
-        game: &RawGame<'_>,
-        head: &RawGame<'_>,
+/// A game whose main line is written as a game of its own, and whose variations are to be. Contracts
+/// see how it is written, and which of its lines are left.
+#[derive(Drop)]
+pub struct LineWriter<'g, 'a> {
+    export: LineExport<'g>,
+    game: &'g RawGame<'a>,
+    /// The game without its elements and without a result.
+    head: RawGame<'g>,
+    path: Path<'a>,
+    rest: &'g [Element<'a>],
+}
+
+impl<'g, 'a> Model for LineWriter<'g, 'a> {
+    ghost use Rattle.std.specs.Prelude.{◌≡◌, [], true, length, map, option_map};
+    ghost use Rattle.std.specs.List.{AllByRecursion};
+    ghost use Rattle.pgn_text.specs.Public.Elements.{item_of};
+    ghost use Rattle.pgn_text.specs.Public.GameTexts.{tag_in};
+    ghost use Rattle.pgn_game.specs.Public.LineGames.{LinesLeft, line_items, unfinished};
+    ghost use Rattle.pgn_game.specs.Public.Starts.{fen_tag};
+    ghost use Rattle.pgn_game.specs.Private.LinePaths.{IsNested, IsSoundLine, track_of};
+    ghost use Rattle.pgn_game.specs.Private.LinePaths.{tracks_around, variations_left};
+
+    ghost Value = { LinesLeft };
+
+    ghost view = { λ own. record {
+      edits = option_map (λ edits. edits.now) own.export.edits;
+      style = own.export.style.now;
+      game = own.game.now;
+      lines = variations_left (map item_of own.rest.now) (track_of own.path)
+          (tracks_around own.path);
+      steps = length own.rest.now;
+    } };
+
+    ghost invariant = { λ own. record {
+      head : own.head ≡ record (unfinished own.game.now) { elements = [] };
+      sound : AllByRecursion
+          (λ line. IsSoundLine true (tag_in fen_tag own.head.tags) (line_items line))
+          (variations_left (map item_of own.rest.now) (track_of own.path)
+          (tracks_around own.path));
+      nested : IsNested own.path;
+    } };
+}
+
+impl<'g, 'a> LineWriter<'g, 'a> {
+    /// Appends the export of the main line of a game whose lines are sound, after the edits. Where
+    /// memory is refused, some bytes of it are appended.
+    pub fn begin(
+        alloc: Global,
+        game: &'g RawGame<'a>,
+        edits: Option<&'g TagEdits>,
+        style: &'g Style,
         out: &mut Vec<u8>,
-    ) -> Result<(), AllocError>
-        requires head { head.now ≡ record (unfinished game.now) { elements = [] } }
-        requires sound { AllByRecursion
-            (λ line. IsSoundLine true (tag_in fen_tag head.now.tags) (line_items line))
-            (variations_left game.now.elements first_track []) }
-        ensures text { OnOk result ((text : List ℕ)
-            × AreExportsOf (option_map (λ edits. edits.now) self.now.edits) self.now.style.now
-            game.now (variations_left game.now.elements first_track []) text
+    ) -> Result<Self, AllocError>
+        requires { IsSoundGame All (tag_in fen_tag game.now.tags) game.now.elements }
+        ensures text { IfOk result (λ left. (line : Line) × (text : List ℕ)
+            × (game.now.elements ≡ spelled line)
+            × WritesFirst (option_map (λ edits. edits.now) edits.entry) style.now game.now (lines_of line)
+            left.lines text
             × (out.new.items ≡ out.old.items ++ text)) }
+        ensures how { IfOk result (λ left.
+            (left.edits ≡ option_map (λ edits. edits.now) edits.entry)
+            × (left.style ≡ style.now) × (left.game ≡ game.now)) }
         ensures kept { (some : List ℕ) × (out.new.items ≡ out.old.items ++ some) }
     {
-        let mut path = Path::new(self.alloc);
-        let mut rest = game.elements();
-        while let [element, after @ ..] = rest {
-            self.put_begun(head, &path, rest, out)?;
-            path.step(*element)?;
-            rest = after;
-        }
-        Ok(())
+        let export = LineExport {
+            alloc,
+            edits,
+            style,
+        };
+        let mut main = Vec::new(alloc);
+        push_own(&mut main, game.elements())?;
+        export.put_line(game, false, main, out)?;
+        Ok(LineWriter {
+            export,
+            game,
+            head: unfinished_head(alloc, game)?,
+            path: Path::new(alloc),
+            rest: game.elements(),
+        })
     }
 
-    /// Appends the exports of the lines of the game; where memory is refused, some bytes of them.
-    fn put_lines(&self, game: &RawGame<'_>, out: &mut Vec<u8>) -> Result<(), AllocError>
-        requires { IsSoundGame All (tag_in fen_tag game.now.tags) game.now.elements }
+    /// Goes on by an element, and appends the export of the variation that begins with it, if one
+    /// does: true where there is an element, false where no line is left. Where memory is refused,
+    /// some bytes of the export are appended.
+    pub fn put_next(&mut self, out: &mut Vec<u8>) -> Result<bool, AllocError>
         ensures text { OnOk result ((text : List ℕ)
-            × AreLineExports (option_map (λ edits. edits.now) self.now.edits) self.now.style.now
-            game.now text
+            × WritesFirst self.old.edits self.old.style self.old.game self.old.lines self.new.lines
+            text
             × (out.new.items ≡ out.old.items ++ text)) }
+        ensures left { IfOk result (λ more. (more ≡ true → self.new.steps < self.old.steps)
+            × (more ≡ false → self.new.lines ≡ [])) }
+        ensures how { (self.new.edits ≡ self.old.edits) × (self.new.style ≡ self.old.style)
+            × (self.new.game ≡ self.old.game) }
         ensures kept { (some : List ℕ) × (out.new.items ≡ out.old.items ++ some) }
     {
-        let mut main = Vec::new(self.alloc);
-        push_own(&mut main, game.elements())?;
-        self.put_line(game, false, main, out)?;
-        let head = unfinished_head(self.alloc, game)?;
-        self.put_variations(game, &head, out)
+        let rest = self.rest;
+        self.rest = &[];
+        let [element, after @ ..] = rest else {
+            return Ok(false);
+        };
+        self.export.put_begun(&self.head, &self.path, rest, out)?;
+        self.path.step(*element)?;
+        self.rest = after;
+        Ok(true)
     }
+}
+
+/// Appends the exports of the lines of the game; where memory is refused, some bytes of them.
+fn put_lines(
+    alloc: Global,
+    game: &RawGame<'_>,
+    edits: Option<&TagEdits>,
+    style: &Style,
+    out: &mut Vec<u8>,
+) -> Result<(), AllocError>
+    requires { IsSoundGame All (tag_in fen_tag game.now.tags) game.now.elements }
+    ensures text { OnOk result ((text : List ℕ)
+        × AreLineExports (option_map (λ edits. edits.now) edits.entry) style.now game.now text
+        × (out.new.items ≡ out.old.items ++ text)) }
+    ensures kept { (some : List ℕ) × (out.new.items ≡ out.old.items ++ some) }
+{
+    let mut left = LineWriter::begin(alloc, game, edits, style, out)?;
+    while left.put_next(out)? {}
+    Ok(())
 }
 
 /// Appends each line of the game in the export format as a game of its own, after the edits: the
@@ -361,12 +445,7 @@ pub fn export_lines<'a>(
 {
     check_lines(alloc, game, Lines::All)?;
     let length = out.len();
-    let export = LineExport {
-        alloc,
-        edits,
-        style,
-    };
-    let put = export.put_lines(game, out);
+    let put = put_lines(alloc, game, edits, style, out);
     if put.is_err() {
         out.truncate(length);
     }
