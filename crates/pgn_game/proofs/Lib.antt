@@ -37,6 +37,7 @@ pub mod OneEdited
 pub mod PackOnce
 pub mod PackRoom
 pub mod SomeExport
+pub mod LinesInRow
 pub mod SomeLines
 pub mod SomeRecord
 pub mod CodeLineFacts

@@ -17,7 +17,7 @@ use Rattle.pgn_game.specs.Private.LinePaths.{IsSoundLine}
 use Rattle.pgn_game.proofs.AnAnswer.{start_on_board}
 use Rattle.pgn_game.proofs.LaidFacts.{some_text}
 use Rattle.pgn_game.proofs.SomeExport.{some_lines}
-use Rattle.pgn_game.proofs.exports.LineItems.{all_joined, all_parted}
+use Rattle.pgn_game.proofs.LinesInRow.{all_joined, all_parted}
 use Rattle.pgn_game.proofs.exports.LineSounds.{sound_cut, sound_lines, sound_paired}
 use Rattle.pgn_game.proofs.exports.LineTags.{left_in, sorted_left, unfinished_start}
 use Rattle.pgn_game.proofs.laws.SomeMovetext.{all_tokens}

@@ -28,7 +28,7 @@ use Rattle.pgn_game.proofs.FirstPlies.{cut, first_spelled, first_turns}
 use Rattle.pgn_game.proofs.OneLine.{played_or_faulty}
 use Rattle.pgn_game.proofs.OneReplay.{one_start, start_or_bad}
 use Rattle.pgn_game.proofs.RunFacts.{all_stop}
-use Rattle.pgn_game.proofs.exports.LineItems.{all_joined}
+use Rattle.pgn_game.proofs.LinesInRow.{all_joined}
 
 -- ---- a pass names no move
 

@@ -1,6 +1,6 @@
 //! Each line of a game written as a game of its own.
-ghost use Rattle.std.specs.Prelude.{◌≡◌, ◌++◌, ◌∷◌, ◌<◌, Bool, true, false, ℕ, List, [], IfErr, IfOk};
-ghost use Rattle.std.specs.Prelude.{IfSome, OnErr, OnOk, map, option_map};
+ghost use Rattle.std.specs.Prelude.{◌≡◌, ◌++◌, ◌∷◌, ◌<◌, Bool, true, false, ℕ, List, [], IfErr};
+ghost use Rattle.std.specs.Prelude.{IfOk, IfSome, OnErr, OnOk, map, option_map};
 ghost use Rattle.std.specs.List.{AllByRecursion};
 ghost use Rattle.chess.specs.Public.Positions.{State};
 ghost use Rattle.pgn_text.specs.Public.Elements.{item_of};
@@ -297,8 +297,8 @@ impl LineExport<'_> {
     }
 }
 
-/// A game whose main line is written as a game of its own, and whose variations are to be. Contracts
-/// see how it is written, and which of its lines are left.
+/// A game whose main line is written as a game of its own, and whose variations are to be.
+/// Contracts see how it is written, and which of its lines are left.
 #[derive(Drop)]
 pub struct LineWriter<'g, 'a> {
     export: LineExport<'g>,
@@ -353,8 +353,8 @@ impl<'g, 'a> LineWriter<'g, 'a> {
         requires { IsSoundGame All (tag_in fen_tag game.now.tags) game.now.elements }
         ensures text { IfOk result (λ left. (line : Line) × (text : List ℕ)
             × (game.now.elements ≡ spelled line)
-            × WritesFirst (option_map (λ edits. edits.now) edits.entry) style.now game.now (lines_of line)
-            left.lines text
+            × WritesFirst (option_map (λ edits. edits.now) edits.entry) style.now game.now
+            (lines_of line) left.lines text
             × (out.new.items ≡ out.old.items ++ text)) }
         ensures how { IfOk result (λ left.
             (left.edits ≡ option_map (λ edits. edits.now) edits.entry)

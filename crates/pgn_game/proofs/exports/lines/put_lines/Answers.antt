@@ -1,7 +1,7 @@
 use Rattle.std.specs.Prelude.{option_map}
 use Rattle.pgn_game.proofs.Common.{◌++◌, ◌∙◌, ap, append_assoc}
 use Rattle.pgn_game.specs.Public.LineGames.{lines_of}
-use Rattle.pgn_game.proofs.exports.LineItems.{writes_all, writes_more}
+use Rattle.pgn_game.proofs.LinesInRow.{writes_all, writes_more}
 use Rattle.pgn_game.proofs.exports.lines.put_lines.Goals as goal
 
 pub loop-left-preserved : goal.loop-left-preserved

@@ -1,6 +1,6 @@
 use Rattle.std.specs.Prelude.{option_map}
-use Rattle.pgn_game.proofs.Common.{[], ◌∷◌, ◌++◌, ◌∙◌, ap, refl, sym, subst, append-nil, map, item_of}
-use Rattle.pgn_game.proofs.Common.{true, false, tag_in, fen_tag, AllByRecursion, GameText}
+use Rattle.pgn_game.proofs.Common.{[], ◌∷◌, ◌++◌, ◌∙◌, ap, refl, sym, subst, append-nil, map}
+use Rattle.pgn_game.proofs.Common.{item_of, true, false, tag_in, fen_tag, AllByRecursion, GameText}
 use Rattle.pgn_game.specs.Public.Edits.{IsEditedLine}
 use Rattle.pgn_game.specs.Public.LineGames.{LineGame, line_items, own_items}
 use Rattle.pgn_game.specs.Private.LinePaths.{IsSoundLine, first_track, own_front, track_of}

@@ -3,7 +3,7 @@ use Rattle.pgn_game.proofs.Common.{true, tag_in, fen_tag, AllByRecursion}
 use Rattle.pgn_game.specs.Public.LineGames.{LineGame, line_items}
 use Rattle.pgn_game.specs.Private.LinePaths.{IsSoundLine, begun_at, track_of, tracks_around}
 use Rattle.pgn_game.specs.Private.LinePaths.{variations_left}
-use Rattle.pgn_game.proofs.exports.LineItems.{all_parted}
+use Rattle.pgn_game.proofs.LinesInRow.{all_parted}
 use Rattle.pgn_game.proofs.exports.LinePathFacts.{first_item}
 use Rattle.pgn_game.proofs.exports.lines.LineWriter.put_next.Goals as goal
 
