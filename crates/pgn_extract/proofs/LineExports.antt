@@ -1,7 +1,7 @@
 -- A sound game has a text of its lines, and that of a game that is given is that of the game by
 -- itself.
 use Rattle.std.proofs.Common.{◌≡◌, ℕ, Bool, true, false, List, [], ◌∷◌, ◌++◌, Option, Some, None}
-use Rattle.std.proofs.Common.{inl, inr, refl, subst, ◌∙◌}
+use Rattle.std.proofs.Common.{inl, inr, refl, sym, ap, subst, ◌∙◌}
 use Rattle.std.specs.List.{AllByRecursion}
 use Rattle.pgn_extract.proofs.Common.{GameText, IsGameText, Style, tag_in, fen_tag, by_itself}
 use Rattle.pgn_game.proofs.EditedTags.{start_stays}
@@ -9,8 +9,11 @@ use Rattle.pgn_game.proofs.SomeLines.{LineIsSound, each_line_sound, good_line, s
 use Rattle.pgn_game.proofs.SomeLines.{sound_up_to, start_of_line}
 use Rattle.pgn_game.specs.Public.Edits.{Edits, IsEditedLine, IsTagged, all_edits, up_to}
 use Rattle.pgn_game.specs.Public.Exports.{IsLineExport}
-use Rattle.pgn_game.specs.Public.LineGames.{AreExportsOf, AreLineExports, LineGame, as_game}
-use Rattle.pgn_game.specs.Public.LineGames.{ending_as, line_items, lines_of}
+use Rattle.pgn_game.specs.Public.AllLines.{Line, spelled}
+use Rattle.pgn_game.specs.Public.LineGames.{AreExportsOf, AreLineExports, LineGame, WritesFirst}
+use Rattle.pgn_game.specs.Public.LineGames.{as_game, ending_as, line_items, lines_of}
+use Rattle.pgn_game.proofs.Spelling.{one_tree}
+use Rattle.pgn_game.proofs.LinesInRow.{all_parted, exports_joined}
 use Rattle.pgn_game.specs.Public.Replays.{IsSoundGame}
 use Rattle.pgn_game.specs.declared.replays.replayer.Lines.TheVariants.{All}
 use Rattle.pgn_extract.proofs.SomeEdited.{edits_or_not, own_edited_line, some_edited, up_to_good}
@@ -64,6 +67,29 @@ module _ (edits : Option Edits) (style : Style) (game : GameText) (good : IsGame
       let (line, spells, all) = each_line_sound (tag_in fen_tag game.tags) game.elements sound in
       let (text, exports) = some_exports (lines_of line) all in
       (text, (line, spells, exports))
+
+  -- and where the first of them are written, the others have one
+  pub some_rest : IsSoundGame All (tag_in fen_tag game.tags) game.elements → (line : Line)
+      → game.elements ≡ spelled line → (left : List LineGame) (text : List ℕ)
+      → WritesFirst edits style game (lines_of line) left text
+      → (more : List ℕ) × AreLineExports edits style game (text ++ more)
+  some_rest sound line spells left text (first, parted, put) =
+      let fen = tag_in fen_tag game.tags in
+      let (own, spelled_so, all) = each_line_sound fen game.elements sound in
+      let same = one_tree own line (sym spelled_so ∙ spells) in
+      let Sound : LineGame → Type 0 =
+      λ one. LineIsSound one.inside fen (line_items one) in
+      let parts = all_parted Sound first left
+      (subst (AllByRecursion Sound) (ap lines_of same ∙ parted) all) in
+      let (more, exports) = some_exports left parts.1 in (
+        more,
+        (
+          line,
+          spells,
+          subst (λ lines. AreExportsOf edits style game lines (text ++ more)) (sym parted)
+              (exports_joined edits style game first left text more put exports),
+        ),
+      )
 
 -- ---- by itself
 

@@ -6,6 +6,7 @@ pub mod GameVerdict
 pub mod FollowedGames
 pub mod Gathered
 pub mod Indexed
+pub mod LineVerdicts
 pub mod Listed
 pub mod RestOfBlock
 pub mod RunEnds

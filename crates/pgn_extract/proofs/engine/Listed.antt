@@ -5,13 +5,15 @@ use Rattle.pgn_extract.proofs.Common.{length, take, drop, Option, refl, sym, ap,
 use Rattle.pgn_extract.proofs.Common.{append_assoc, length-append, ◌⊎◌, inl, inr, both_ways}
 use Rattle.pgn_extract.proofs.Common.{block_limit, depth_limit, Left, ArePiecesLeft, marked}
 use Rattle.pgn_extract.proofs.Common.{Gathers, GathersBlock, Passes, BeginsBlock, IsPieceOf}
-use Rattle.pgn_extract.proofs.Common.{AddsPiece, AppendsFront, Report, Aim, GameId, game_id}
+use Rattle.pgn_extract.proofs.Common.{AppendsFront, Begins, MarkedPiece, Report, Aim, GameId}
+use Rattle.pgn_extract.proofs.Common.{game_id}
+use Rattle.pgn_extract.specs.Private.Blockwise.{BeginsVerdict, OfPiece, PassesVerdict}
 use Rattle.pgn_text.specs.Public.Left.{TakesPiece}
 use Rattle.pgn_text.specs.Public.Marks.{within as in_limit}
 use Rattle.pgn_text.specs.declared.game.pieces.Piece.{Piece}
 use Rattle.pgn_text.proofs.Existence.{pieces_exist}
-use Rattle.pgn_extract.proofs.engine.Gathered.{gathers_none, gathers_more, gathers_passed}
-use Rattle.pgn_extract.proofs.engine.Gathered.{gathers_begun}
+use Rattle.pgn_extract.proofs.engine.Gathered.{gathers_none, gathers_passed, gathers_passing}
+use Rattle.pgn_extract.proofs.engine.Gathered.{gathers_begun, gathers_begun_in}
 use Rattle.pgn_text.specs.Public.Pieces as spec
 
 -- the piece that completes those given is one of the block's
@@ -31,6 +33,27 @@ piece_in start next block offset done shown begins completes =
     )
 
 -- a beginning of what is reported of the first pieces of a block, whatever pieces complete them
+pub begun_by : (start now : Left) (block : List ℕ) (done : List spec.Piece) {aim : Aim}
+    {id : GameId} {out out' err err' : Option (List ℕ)}
+    → start ≡ record { block = block; file_start = id.offset == 0; at = 0; failed = false }
+    → length block ≤ block_limit
+    → ((more : List spec.Piece) → ArePiecesLeft depth_limit now more
+    → ArePiecesLeft depth_limit start (done ++ more))
+    → ((own after : List MarkedPiece) → own ≡ map (marked id.offset) done ++ after
+    → Begins aim out out' err err' id.number own)
+    → BeginsBlock aim block_limit depth_limit id block out out' err err'
+begun_by start now block done {id = id} is fits completes begins =
+    let more =
+    pieces_exist depth_limit now.file_start (take now.at now.block) (drop now.at now.block) in
+    record {
+      own = map (marked id.offset) (done ++ more.0);
+      each = in_limit fits (done ++ more.0)
+          (subst (λ (s : Left). ArePiecesLeft depth_limit s (done ++ more.0)) is
+          (completes more.0 more.1)) refl;
+      written = begins _ (map (marked id.offset) more.0)
+          (map-append (marked id.offset) done more.0);
+    }
+
 pub begun_of : (start now : Left) (block : List ℕ) (done : List spec.Piece) {aim : Aim}
     {report : Report} {id : GameId} {out out' out'' err err' err'' : Option (List ℕ)}
     → start ≡ record { block = block; file_start = id.offset == 0; at = 0; failed = false }
@@ -40,18 +63,9 @@ pub begun_of : (start now : Left) (block : List ℕ) (done : List spec.Piece) {a
     → Gathers aim report out out' err err' id.number (map (marked id.offset) done)
     → AppendsFront out' out'' report.output.items → AppendsFront err' err'' report.faults.items
     → BeginsBlock aim block_limit depth_limit id block out out'' err err''
-begun_of start now block done {id = id} is fits completes gathers output faults =
-    let more =
-    pieces_exist depth_limit now.file_start (take now.at now.block) (drop now.at now.block) in
-    record {
-      own = map (marked id.offset) (done ++ more.0);
-      each = in_limit fits (done ++ more.0)
-          (subst (λ (s : Left). ArePiecesLeft depth_limit s (done ++ more.0)) is
-          (completes more.0 more.1)) refl;
-      written =
-          gathers_begun gathers _ (map (marked id.offset) more.0)
-          (map-append (marked id.offset) done more.0) output faults;
-    }
+begun_of start now block done is fits completes gathers output faults =
+    begun_by start now block done is fits completes (λ own after parted.
+    gathers_begun gathers own after parted output faults)
 
 -- some pieces are given and reported, and those that are left complete them
 pub record Listed (aim : Aim) (start now : Left) (report : Report) (id : GameId)
@@ -84,13 +98,15 @@ listed_none aim start block report id out err is output faults games faulty = re
 module _ {aim : Aim} {start now : Left} {report : Report} {id : GameId}
     {out out' err err' : Option (List ℕ)}
     (l : Listed aim start now report id out out' err err') where
-  -- one more piece
-  pub listed_more : {next : Left} {report' : Report} {here : ℕ} (block : List ℕ) (piece : Piece)
+  -- one more piece, of which what is reported is written in part
+  pub listed_passing : {next : Left} {report' : Report} {here : ℕ} {out'' err'' : Option (List ℕ)}
+      (block : List ℕ) (piece : Piece)
       → start ≡ record { block = block; file_start = id.offset == 0; at = 0; failed = false }
       → TakesPiece depth_limit now next piece → here ≡ id.number + report.games
-      → AddsPiece aim report report' (game_id here id.offset) block piece
-      → Listed aim start next report' id out out' err err'
-  listed_more {next} {report'} {here} block piece begins takes is adds = record {
+      → OfPiece aim (game_id here id.offset) block piece (λ verdict.
+      PassesVerdict report report' out' out'' err' err'' verdict 1)
+      → Listed aim start next report' id out out'' err err''
+  listed_passing {next} {report'} {here} {out''} {err''} block piece begins takes is adds = record {
     done = l.done ++ takes.shown ∷ [];
     completes = λ more left.
         subst (ArePiecesLeft depth_limit start) (sym (append_assoc l.done (takes.shown ∷ []) more))
@@ -98,9 +114,9 @@ module _ {aim : Aim} {start now : Left} {report : Report} {id : GameId}
     written =
         let among = piece_in start next block id.offset l.done takes.shown begins (λ more left.
         l.completes (takes.shown ∷ more) (takes.completes more left)) in
-        let more = gathers_more l.written report' here (marked id.offset takes.shown) (is
+        let more = gathers_passing l.written report' here (marked id.offset takes.shown) (is
         ∙ ap (λ n. id.number + n) l.written.games) (adds takes.shown takes.is among) in
-        subst (Gathers aim report' out out' err err' id.number)
+        subst (Gathers aim report' out out'' err err'' id.number)
         (sym (map_push (marked id.offset) l.done takes.shown)) more;
     few = let f = l.few in let g = takes.grows in
         omega (arith, length-append l.done (takes.shown ∷ []));
@@ -108,6 +124,27 @@ module _ {aim : Aim} {start now : Left} {report : Report} {id : GameId}
     same = takes.same.0 ∙ l.same;
     sound = takes.same.2;
   }
+
+  -- of what is reported of it a beginning is written
+  pub listed_begun_in : {next : Left} {here : ℕ} {out'' err'' : Option (List ℕ)}
+      (block : List ℕ) (piece : Piece)
+      → start ≡ record { block = block; file_start = id.offset == 0; at = 0; failed = false }
+      → TakesPiece depth_limit now next piece → here ≡ id.number + report.games
+      → length block ≤ block_limit
+      → OfPiece aim (game_id here id.offset) block piece (λ verdict.
+      BeginsVerdict report out' out'' err' err'' verdict)
+      → BeginsBlock aim block_limit depth_limit id block out out'' err err''
+  listed_begun_in {next} {here} block piece begins takes is fits adds =
+      let among = piece_in start next block id.offset l.done takes.shown begins (λ more left.
+      l.completes (takes.shown ∷ more) (takes.completes more left)) in
+      begun_by start next block (l.done ++ takes.shown ∷ []) begins fits (λ more left.
+      subst (ArePiecesLeft depth_limit start) (sym (append_assoc l.done (takes.shown ∷ []) more))
+      (l.completes (takes.shown ∷ more) (takes.completes more left))) (λ own after parted.
+      gathers_begun_in l.written here (marked id.offset takes.shown) own after
+      (is ∙ ap (λ n. id.number + n) l.written.games)
+      (parted ∙ ap (λ pieces. pieces ++ after)
+      (map_push (marked id.offset) l.done takes.shown))
+      (adds takes.shown takes.is among))
 
   -- what is gathered is passed on
   pub listed_passed : {report' : Report} {out'' err'' : Option (List ℕ)}

@@ -42,7 +42,7 @@ use Rattle.pgn_extract.specs.Public.Aims.{Aim, GameId}
 use Rattle.pgn_extract.specs.Public.Choices.{IfChosen, is_chosen}
 use Rattle.pgn_text.specs.Public.LeftMarks.{mark_place}
 use Rattle.pgn_extract.specs.Public.Listing.{CountsAs, Entry, listing}
-use Rattle.pgn_extract.specs.declared.settings.Form.TheVariants.{Standard}
+use Rattle.pgn_extract.specs.declared.settings.Form.TheVariants.{EachLine, Standard}
 use Rattle.pgn_extract.specs.declared.settings.Mode.{Mode}
 use Rattle.pgn_extract.specs.declared.settings.Mode.TheVariants as modes
 use Rattle.pgn_extract.specs.declared.settings.Select.TheVariants.{Matching}
@@ -145,6 +145,13 @@ pub record ExportsAll (aim : Aim) : Type 0 where
   pub edits : aim.edits ≡ None
   pub all : TakesAll aim
 
+-- each line of each sound game is exported as a game of its own, whatever its moves
+pub record ExportsLines (aim : Aim) : Type 0 where
+  pub mode : aim.mode ≡ modes.Export
+  pub form : aim.form ≡ EachLine
+  pub openings : aim.openings ≡ None
+  pub all : TakesAll aim
+
 -- what the mode reports of the game by its replay is added; the game isn't counted yet
 abbrev pub AddsReplayed : Mode → Aim → Report → Report → GameId → GameText → Type 0
 AddsReplayed mode aim old new id game = (verdict : Verdict)
@@ -184,6 +191,31 @@ abbrev pub AddsPiece : Aim → Report → Report → GameId → List ℕ → Pie
 AddsPiece aim old new id block piece =
     (shown : spec.Piece) → IsPiece piece shown → IsPieceOf id.offset block shown
     → AddsMark aim old new id.number (marked id.offset shown)
+
+-- what is reported is added, and a beginning of all is written: the report has the rest; so many
+-- pieces are counted
+pub record PassesVerdict (old new : Report) (out out' err err' : Option (List ℕ))
+    (verdict : Verdict) (count : ℕ) : Type 0 where
+  pub first_output : List ℕ
+  pub first_faults : List ℕ
+  pub out_grew : Appends out out' first_output
+  pub err_grew : Appends err err' first_faults
+  pub output : first_output ++ new.output.items ≡ old.output.items ++ output_of verdict
+  pub faults : first_faults ++ new.faults.items ≡ old.faults.items ++ fault_line_of verdict
+  pub games : new.games ≡ old.games + count
+  pub faulty : new.faulty ≡ old.faulty + (if is_faulty verdict then 1 else 0)
+
+-- each of the two grew by a beginning of what the report had and of what is reported
+pub record BeginsVerdict (old : Report) (out out' err err' : Option (List ℕ))
+    (verdict : Verdict) : Type 0 where
+  pub output : AppendsFront out out' (old.output.items ++ output_of verdict)
+  pub faults : AppendsFront err err' (old.faults.items ++ fault_line_of verdict)
+
+-- of the piece that is given of the block this is reported
+abbrev pub OfPiece : Aim → GameId → List ℕ → Piece → (Verdict → Type 0) → Type 0
+OfPiece aim id block piece Is =
+    (shown : spec.Piece) → IsPiece piece shown → IsPieceOf id.offset block shown
+    → (verdict : Verdict) × IsVerdict aim id.number (marked id.offset shown) verdict × Is verdict
 
 -- the note names the byte at which the block, which begins at the offset, stops agreeing with games
 -- from the place `begin` on

@@ -1,7 +1,11 @@
 -- What the parts of a run do, over the words of its contract. No public contract cites these.
 use Rattle.std.specs.Prelude.{◌≡◌, ◌↔◌, ◌⊎◌, ℕ, true, List, Result, IsErrOf}
 use Rattle.pgn_extract.specs.Private.Blockwise.{GathersBlock, Passes, WritesBlock, BeginsBlock}
-use Rattle.pgn_extract.specs.Private.Blockwise.{EndsBlocks, BreaksOff}
+use Rattle.pgn_extract.specs.Private.Blockwise.{EndsBlocks, BreaksOff, BeginsVerdict, OfPiece}
+use Rattle.pgn_extract.specs.Private.Blockwise.{PassesVerdict}
+use Rattle.pgn_text.specs.declared.game.pieces.Piece.{Piece}
+use Rattle.pgn_extract.specs.Public.Aims.{Aim, GameId}
+use Rattle.pgn_extract.specs.Public.Verdicts.{SoundGame}
 use Rattle.pgn_extract.specs.declared.output.outcome.RunError.{RunError}
 use Rattle.pgn_extract.specs.declared.output.outcome.RunError.TheVariants.{Write}
 use Rattle.pgn_extract.specs.declared.output.outcome.Summary.{Summary}
@@ -17,6 +21,29 @@ AddsFront stream bytes = AppendsFront stream.old.bytes stream.new.bytes bytes
 -- what the one report has is written, or the other has it still
 abbrev pub PassesOn : Report → Report → Passage → Passage → Type 0
 PassesOn old new out err = Passes old new out.old.bytes out.new.bytes err.old.bytes err.new.bytes
+
+-- the text is added to the output, and a beginning of all is written: the report has the rest
+abbrev pub PassesText : Report → Report → Passage → Passage → List ℕ → Type 0
+PassesText old new out err text =
+    PassesVerdict old new out.old.bytes out.new.bytes err.old.bytes err.new.bytes (SoundGame text) 0
+
+-- a beginning of what the report had and of the text is written
+abbrev pub BeginsText : Report → Passage → Passage → List ℕ → Type 0
+BeginsText old out err text =
+    BeginsVerdict old out.old.bytes out.new.bytes err.old.bytes err.new.bytes (SoundGame text)
+
+-- what is reported of the piece is added, and a beginning of all is written
+abbrev pub PassesPiece : Aim → Report → Report → GameId → List ℕ → Piece → Passage → Passage
+    → Type 0
+PassesPiece aim old new id block piece out err = OfPiece aim id block piece (λ verdict.
+    PassesVerdict old new out.old.bytes out.new.bytes err.old.bytes err.new.bytes verdict 1)
+
+-- a beginning of what the report had is written, or of that and of what is reported of the piece
+abbrev pub BeginsPiece : Aim → Report → GameId → List ℕ → Piece → Passage → Passage → Type 0
+BeginsPiece aim old id block piece out err =
+    (AddsFront out old.output.items × AddsFront err old.faults.items)
+    ⊎ OfPiece aim id block piece (λ verdict.
+    BeginsVerdict old out.old.bytes out.new.bytes err.old.bytes err.new.bytes verdict)
 
 -- of what is reported of the pieces of the block a beginning is written; the report has the rest,
 -- and counts the pieces

@@ -12,8 +12,8 @@ ghost use Rattle.pgn_game.specs.Public.Replays.{IsSoundGame, Replay, fault_of};
 ghost use Rattle.pgn_game.specs.Public.Starts.{fen_tag};
 ghost use Rattle.pgn_game.specs.declared.replays.replayer.Lines.TheVariants.{All, Main};
 ghost use Rattle.pgn_extract.specs.Public.Aims.{aim_of};
-ghost use Rattle.pgn_extract.specs.Private.Blockwise.{AddsText, ExportsAll, PutsText, StopsIn};
-ghost use Rattle.pgn_extract.specs.Private.Blockwise.{TakesAll};
+ghost use Rattle.pgn_extract.specs.Private.Blockwise.{AddsText, ExportsAll, ExportsLines};
+ghost use Rattle.pgn_extract.specs.Private.Blockwise.{PutsText, StopsIn, TakesAll};
 ghost use Rattle.pgn_extract.specs.Public.Exports.{HasEntry, IsSelected, as_it_stands, faulty_text};
 ghost use Rattle.pgn_extract.specs.Public.Exports.{line_with, written_lines};
 ghost use Rattle.pgn_extract.specs.Public.Exports.{IsFirstOrNone, IsTextOf};
@@ -26,8 +26,8 @@ use crate::output::texts::push_named_mark;
 use crate::settings::{Form, Mode, Select, Settings};
 use pgn_game::pack::{GameOrigin, push_record};
 use pgn_game::{
-    GameFault, Lines, Notation, check_lines, check_variations, export_edited, export_lines,
-    export_played, later_game, lines_with, push_line,
+    GameFault, Lines, Notation, TagEdits, check_lines, check_variations, export_edited,
+    export_lines, export_played, later_game, lines_with, push_line,
 };
 use pgn_text::RawGame;
 use std::alloc::{AllocError, Global};
@@ -98,6 +98,24 @@ pub fn exports_all(settings: &Settings) -> bool
 {
     let is_plain = settings.form == Form::Standard && settings.edits.is_none();
     settings.mode == Mode::Export && is_plain && takes_all(settings)
+}
+
+/// Whether each line of each sound game is exported as a game of its own, whatever its moves.
+pub fn exports_lines(settings: &Settings) -> bool
+    ensures { IsTrue result → ExportsLines (aim_of settings.now) }
+{
+    let is_plain = settings.form == Form::EachLine && settings.openings.is_none();
+    settings.mode == Mode::Export && is_plain && takes_all(settings)
+}
+
+/// The edits of the games that are written, if there are some.
+pub fn edits_of(settings: &Settings) -> Option<&TagEdits>
+    ensures { option_map (λ edits. edits.now) result ≡ settings.now.edits }
+{
+    match &settings.edits {
+        Some(edits) => Some(edits),
+        None => None,
+    }
 }
 
 /// The first fault of the lines that are written of a game whose main line has this fault.
@@ -304,10 +322,7 @@ fn put_lines<'a>(
         IfSome (fault_of fault) (IsFault All (tag_in fen_tag game.now.tags) game.now.elements)) }
     ensures left { OnErr result (text.new.items ≡ text.old.items) }
 {
-    match &settings.edits {
-        Some(edits) => export_lines(alloc, game, Some(edits), &settings.style, text),
-        None => export_lines(alloc, game, None, &settings.style, text),
-    }
+    export_lines(alloc, game, edits_of(settings), &settings.style, text)
 }
 
 /// Appends the text of a game whose first entry stands at this ply, played while it is written: its

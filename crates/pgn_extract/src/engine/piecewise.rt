@@ -1,22 +1,34 @@
-//! The pieces of one block, reported in turn: what is gathered is written once it is large, and at
-//! the block's end.
-ghost use Rattle.std.specs.Prelude.{◌≡◌, ◌⊎◌, ℕ, ◌^◌, ◌≤◌, false, List, length, IfOk, IfErr, OnOk};
-ghost use Rattle.std.specs.Prelude.{OnErr};
+//! The pieces of one block, reported in turn: what is gathered is written once it is large, between
+//! the lines of a game too, and at the block's end.
+ghost use Rattle.std.specs.Prelude.{◌≡◌, ◌⊎◌, ℕ, ◌+◌, ◌^◌, ◌<◌, ◌≤◌, false, List, length, IfOk};
+ghost use Rattle.std.specs.Prelude.{IfErr, OnErr, OnOk};
+ghost use Rattle.pgn_text.specs.Public.GameTexts.{tag_in};
+ghost use Rattle.pgn_text.specs.Public.Left.{piece_place};
 ghost use Rattle.pgn_text.specs.Public.Limits.{block_limit, largest_offset};
 ghost use Rattle.pgn_text.specs.Public.Windows.{Shows};
-ghost use Rattle.pgn_extract.specs.Private.Blockwise.{IsShown};
-ghost use Rattle.pgn_extract.specs.Private.RunParts.{AddsFront, BeginsPieces, GathersPieces};
-ghost use Rattle.pgn_extract.specs.Private.RunParts.{PassesOn, WriteFaultsAre, WritesPieces};
+ghost use Rattle.pgn_game.specs.Public.LineGames.{AreLineExports};
+ghost use Rattle.pgn_game.specs.Public.Replays.{IsSoundGame};
+ghost use Rattle.pgn_game.specs.Public.Starts.{fen_tag};
+ghost use Rattle.pgn_game.specs.declared.replays.replayer.Lines.TheVariants.{All};
+ghost use Rattle.pgn_extract.specs.Private.Blockwise.{ExportsLines, IsShown};
+ghost use Rattle.pgn_extract.specs.Private.RunParts.{AddsFront, BeginsPiece, BeginsPieces};
+ghost use Rattle.pgn_extract.specs.Private.RunParts.{BeginsText, GathersPieces, PassesOn};
+ghost use Rattle.pgn_extract.specs.Private.RunParts.{PassesPiece, PassesText, WriteFaultsAre};
+ghost use Rattle.pgn_extract.specs.Private.RunParts.{WritesPieces};
+ghost use Rattle.pgn_extract.specs.Public.Aims.{aim_of};
 ghost use Rattle.pgn_extract.specs.Public.Runs.{Adds, job_at, passage};
 ghost use Rattle.pgn_extract.specs.declared.settings.Mode.TheVariants.{Index};
 
+use crate::engine::exporting::{edits_of, exports_lines};
 use crate::engine::report::{BlockContext, Report, add_mark, report_too_long};
+use crate::entries::GameContext;
 use crate::explain::notes::line_after;
 use crate::marks::GameId;
 use crate::output::outcome::{RunError, Summary};
 use crate::output::write_all::write_all;
 use crate::settings::{Mode, Settings};
-use pgn_text::{Block, Body, Tally, games, marks};
+use pgn_game::{LineWriter, Lines, check_lines};
+use pgn_text::{Block, Body, Piece, RawGame, Tally, games, marks};
 use std::alloc::Global;
 use std::io::Write;
 
@@ -161,6 +173,135 @@ fn report_marks<'a, O: Write, E: Write>(
     Ok(())
 }
 
+/// Writes the lines of a game, each as a game of its own: what is gathered is written between them
+/// once it is large.
+fn put_lines<'a, O: Write, E: Write>(
+    out: &mut Tally<O>,
+    err: &mut Tally<E>,
+    report: &mut Report,
+    context: GameContext<'a>,
+    game: &RawGame<'a>,
+) -> Result<(), RunError>
+    requires sound { (out.old.faulted ≡ false) × (err.old.faulted ≡ false) }
+    requires lines { IsSoundGame All (tag_in fen_tag game.now.tags) game.now.elements }
+    ensures done { OnOk result ((text : List ℕ)
+        × AreLineExports context.entry.settings.now.edits context.entry.settings.now.style game.now
+        text
+        × PassesText report.old report.new (passage O.contents out.old out.new)
+        (passage E.contents err.old err.new) text) }
+    ensures stopped { OnErr result ((text : List ℕ)
+        × AreLineExports context.entry.settings.now.edits context.entry.settings.now.style game.now
+        text
+        × BeginsText report.old (passage O.contents out.old out.new)
+        (passage E.contents err.old err.new) text) }
+    ensures only { IfErr result (λ error. (error ≡ RunError.Write)
+        ⊎ (error ≡ RunError.OutOfMemory)) }
+    ensures faults { WriteFaultsAre result (passage O.contents out.old out.new)
+        (passage E.contents err.old err.new) }
+{
+    game.invariant();
+    let GameContext {
+        alloc,
+        settings,
+        ..
+    } = context;
+    let text = &mut report.output;
+    let mut left = LineWriter::begin(alloc, game, edits_of(settings), &settings.style, text)?;
+    while left.put_next(&mut report.output)? {
+        put_large(out, err, report)?;
+    }
+    Ok(())
+}
+
+/// Reports on a game, each line of which is exported as a game of its own.
+fn put_game<'a, O: Write, E: Write>(
+    out: &mut Tally<O>,
+    err: &mut Tally<E>,
+    report: &mut Report,
+    context: BlockContext<'a>,
+    game: RawGame<'a>,
+) -> Result<(), RunError>
+    requires sound { (out.old.faulted ≡ false) × (err.old.faulted ≡ false) }
+    requires lines { ExportsLines (aim_of context.settings.now) }
+    requires place { game.at ≤ length context.bytes.now }
+    requires room { context.id.offset + length context.bytes.now < 2 ^ 64 }
+    requires counts { (report.old.games + 1 < 2 ^ 64) × (report.old.faulty + 1 < 2 ^ 64) }
+    ensures done { OnOk result
+        (PassesPiece (aim_of context.entry.settings.now) report.old report.new context.entry.id
+        context.entry.bytes.now (Piece.Game game.entry) (passage O.contents out.old out.new)
+        (passage E.contents err.old err.new)) }
+    ensures stopped { OnErr result
+        (BeginsPiece (aim_of context.entry.settings.now) report.old context.entry.id
+        context.entry.bytes.now (Piece.Game game.entry) (passage O.contents out.old out.new)
+        (passage E.contents err.old err.new)) }
+    ensures only { IfErr result (λ error. (error ≡ RunError.Write)
+        ⊎ (error ≡ RunError.OutOfMemory)) }
+    ensures faults { WriteFaultsAre result (passage O.contents out.old out.new)
+        (passage E.contents err.old err.new) }
+{
+    game.invariant();
+    let BlockContext {
+        alloc,
+        settings,
+        id,
+        ..
+    } = context;
+    let own = GameId {
+        offset: id.offset + game.at() as u64,
+        ..id
+    };
+    report.games += 1;
+    if report.passes_over(settings, own) {
+        return Ok(());
+    }
+    let place = report.place(context);
+    let context = GameContext {
+        alloc,
+        settings,
+        own,
+    };
+    match check_lines(alloc, &game, Lines::All) {
+        Ok(()) => put_lines(out, err, report, context, &game),
+        Err(fault) => Ok(report.add_fault(context, place, &game, fault)?),
+    }
+}
+
+/// Reports on one piece of a block. Lines that are exported as games of their own are written as
+/// they are made; all else is gathered.
+#[inline(always)]
+fn put_piece<'a, O: Write, E: Write>(
+    out: &mut Tally<O>,
+    err: &mut Tally<E>,
+    report: &mut Report,
+    context: BlockContext<'a>,
+    piece: Piece<'a>,
+) -> Result<(), RunError>
+    requires sound { (out.old.faulted ≡ false) × (err.old.faulted ≡ false) }
+    requires place { piece_place piece ≤ length context.bytes.now }
+    requires room { context.id.offset + length context.bytes.now < 2 ^ 64 }
+    requires counts { (report.old.games + 1 < 2 ^ 64) × (report.old.faulty + 1 < 2 ^ 64) }
+    ensures done { OnOk result
+        (PassesPiece (aim_of context.entry.settings.now) report.old report.new context.entry.id
+        context.entry.bytes.now piece.entry (passage O.contents out.old out.new)
+        (passage E.contents err.old err.new)) }
+    ensures stopped { OnErr result
+        (BeginsPiece (aim_of context.entry.settings.now) report.old context.entry.id
+        context.entry.bytes.now piece.entry (passage O.contents out.old out.new)
+        (passage E.contents err.old err.new)) }
+    ensures only { IfErr result (λ error. (error ≡ RunError.Write)
+        ⊎ (error ≡ RunError.OutOfMemory)) }
+    ensures faults { WriteFaultsAre result (passage O.contents out.old out.new)
+        (passage E.contents err.old err.new) }
+{
+    if !exports_lines(context.settings) {
+        return Ok(report.add_piece(context, piece)?);
+    }
+    match piece {
+        Piece::Game(game) => put_game(out, err, report, context, game),
+        Piece::Unreadable { at } => Ok(report.add_piece(context, Piece::Unreadable { at })?),
+    }
+}
+
 /// Reports on the games among the bytes of a block.
 fn report_games<'a, O: Write, E: Write>(
     out: &mut Tally<O>,
@@ -198,7 +339,7 @@ fn report_games<'a, O: Write, E: Write>(
             },
             bytes,
         };
-        report.add_piece(context, piece)?;
+        put_piece(out, err, report, context, piece)?;
         put_large(out, err, report)?;
     }
     Ok(())

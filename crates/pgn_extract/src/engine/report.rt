@@ -102,7 +102,7 @@ impl Report {
     }
 
     /// Whether the piece is passed over; else its mark is met.
-    fn passes_over(&mut self, settings: &Settings, id: GameId) -> bool
+    pub fn passes_over(&mut self, settings: &Settings, id: GameId) -> bool
         ensures passed { result ≡ not (is_chosen (aim_of settings.now).chosen id) }
         ensures output { self.new.output ≡ self.old.output }
         ensures faults { self.new.faults ≡ self.old.faults }
@@ -116,6 +116,22 @@ impl Report {
         };
         self.met.meet(place);
         false
+    }
+
+    /// Where a game of the block stands.
+    pub fn place<'a>(&self, context: BlockContext<'a>) -> GamePlace<'a>
+        ensures offset { result.origin.offset ≡ context.entry.id.offset }
+        ensures block { result.block.now ≡ context.entry.bytes.now }
+    {
+        let BlockContext { id, bytes, .. } = context;
+        GamePlace {
+            origin: Origin {
+                offset: id.offset,
+                line: self.line,
+            },
+            block: bytes,
+            spot: self.spot,
+        }
     }
 
     /// Makes its texts empty; the counts stay, and so does the room.
@@ -235,7 +251,7 @@ fn push_sound<'a>(
 
 impl Report {
     /// Adds the line of a game that can't be replayed.
-    fn add_fault<'a>(
+    pub fn add_fault<'a>(
         &mut self,
         context: GameContext<'a>,
         game_place: GamePlace<'a>,
@@ -482,7 +498,7 @@ impl Report {
             alloc,
             settings,
             id,
-            bytes,
+            ..
         } = context;
         match piece {
             Piece::Game(game) => {
@@ -493,15 +509,7 @@ impl Report {
                 if self.passes_over(settings, own) {
                     return Ok(());
                 }
-                let origin = Origin {
-                    offset: id.offset,
-                    line: self.line,
-                };
-                let game_place = GamePlace {
-                    origin,
-                    block: bytes,
-                    spot: self.spot,
-                };
+                let game_place = self.place(context);
                 let context = GameContext {
                     alloc,
                     settings,

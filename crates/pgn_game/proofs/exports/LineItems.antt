@@ -1,11 +1,10 @@
 -- The lines of a game by its elements: those of each line, and the variations in their order.
 use Rattle.pgn_game.proofs.Common.{◌≡◌, ℕ, ◌+◌, ◌-◌, ◌<◌, Bool, List, [], ◌∷◌, ◌++◌, refl, sym, ap}
 use Rattle.pgn_game.proofs.Common.{◌∙◌, append_assoc, append-nil, arith, nat_tests, ◌==◌}
-use Rattle.pgn_game.proofs.Common.{if◌then◌else◌, AllByRecursion, true, false, Some, None}
-use Rattle.pgn_game.proofs.Common.{subst}
+use Rattle.pgn_game.proofs.Common.{if◌then◌else◌, true, false, Some, None}
 use Rattle.pgn_game.proofs.Common.{Item, MoveText, GlyphNumber, CommentText, VariationClose, Line}
 use Rattle.pgn_game.proofs.Common.{LineEnd, ThenMove, ThenGlyph, ThenComment, ThenVariation}
-use Rattle.pgn_game.proofs.Common.{spelled, GameText, Style, Option}
+use Rattle.pgn_game.proofs.Common.{spelled}
 use Rattle.pgn_game.specs.Public.LineGames.{LineGame, own_items, variations_in}
 use Rattle.pgn_game.specs.Private.LinePaths.{Track, first_track, own_front, variations_left}
 use Rattle.pgn_game.specs.Private.LinePaths.{words_now}
