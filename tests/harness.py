@@ -519,6 +519,39 @@ class MadeGames:
         return b"".join(b"%d@%d %d\n" % (*mark, ply) for mark, game in zip(self.marks(), self.games) for ply in range(game.plies + 1))
 
 
+# The modulus of the seals of packs.
+MODULUS = 2**61 - 1
+
+
+def sealed(text):
+    """A text and its seal: the eight bytes after which all of it is a multiple of the modulus."""
+    return text + (MODULUS - (int.from_bytes(text, "big") << 64) % MODULUS).to_bytes(8, "big")
+
+
+def segment(records):
+    """The segment of a pack with these records."""
+    size = len(records).to_bytes(4, "big")
+    return sealed(b"PGNPACK2" + size + size) + sealed(records)
+
+
+def segments_in(pack):
+    """The place of each segment of a pack, and the bytes of its records."""
+    place = 0
+    while place < len(pack):
+        front = pack[place : place + 16]
+        size = int.from_bytes(front[12:], "big")
+        body = pack[place + 24 : place + 24 + size]
+        if front[:8] != b"PGNPACK2" or sealed(front) + sealed(body) != pack[place : place + 32 + size]:
+            raise ValueError(f"no segment at byte {place}")
+        yield place, body[: int.from_bytes(front[8:12], "big")]
+        place += 32 + size
+
+
+def records_in(pack):
+    """The bytes of all records of a pack."""
+    return b"".join(records for _, records in segments_in(pack))
+
+
 @functools.cache
 def made_games(kind, count, seed=SEED):
     """So many sound games, 'plain' or 'annotated' (with comments, glyphs and variations), made from the seed by bench/make_games.py."""

@@ -445,8 +445,8 @@ def refuse_unopened(paths):
 
 def kind_of(front):
     """The kind of a file that is no text of games, by its first bytes; else None."""
-    # (of a record the first bytes are its size, and those of its number are few)
-    if len(front) > 8 and front[0] <= 2 and front[4:8] == bytes(4):
+    # (packs of older programs are records: their first bytes are a size, and those of a number are few)
+    if front.startswith(b"PGNPACK") or (len(front) > 8 and front[0] <= 2 and front[4:8] == bytes(4)):
         return "pack"
     for begin, kind in KINDS.items():
         if front.startswith(begin):

@@ -7,3 +7,4 @@ pub mod StoppedFiles
 pub mod OpeningLines
 pub mod EditTexts
 pub mod OrderLists
+pub mod PackingFacts

@@ -2,4 +2,5 @@ pub mod KeptPackedFacts
 pub mod PackListed
 pub mod Renamed
 pub mod SearchFacts
+pub mod SegmentSearchFacts
 pub mod WalkedLines

@@ -10,6 +10,8 @@ pub mod Blockwise
 pub mod Finding
 pub mod Packed
 pub mod SearchSteps
+pub mod SegmentsSearched
+pub mod SegmentSearching
 pub mod KeptPacked
 pub mod RunParts
 pub mod NoteTexts
@@ -26,3 +28,4 @@ pub mod Lines
 pub mod Sinks
 pub mod PlayedLines
 pub mod WalkedLines
+pub mod Packing

@@ -20,6 +20,7 @@ pub mod messages;
 mod openings;
 pub mod order;
 mod outputs;
+mod packing;
 mod packs;
 mod prefix;
 pub mod status;
@@ -32,11 +33,12 @@ use crate::app::edits::{edit_line, read_edits};
 use crate::app::endings::{
     flush_rest, line_of, put_summary, report_bytes, report_failure, report_line,
 };
-use crate::app::files::{Files, Task, Total, name_file, run_files, run_input};
-use crate::app::header::{RefusedColumns, put_header, read_row};
+use crate::app::files::{Files, Task, Total, name_file};
+use crate::app::header::{RefusedColumns, read_row};
 use crate::app::openings::{BadOpenings, MOST_BYTES, read_openings};
 use crate::app::order::{Given, Order, accept, has_names, settings_of};
 use crate::app::outputs::refuse_outputs;
+use crate::app::packing::{pack_task, run_task};
 use crate::app::packs::{PackTask, search_packs};
 use crate::app::prefix::read_prefix;
 use crate::app::status::{FAILED, FAULTY, REFUSED, SOUND};
@@ -444,18 +446,17 @@ where
         summary: request.summary,
         end: order.end,
     };
-    let ended = if request.files.len() < 2 {
+    let input = if request.files.len() < 2 {
         let (name, input) = open_input(alloc, files, &order)?;
         name_file(&mut task, name)?;
-        match put_header(alloc, out, &task.settings, request.no_header) {
-            Ok(()) => run_input(&task, input, out, err).map(Total::of),
-            Err(error) => Err(error),
-        }
+        Some(input)
     } else {
-        match put_header(alloc, out, &task.settings, request.no_header) {
-            Ok(()) => run_files(&mut task, files, out, err),
-            Err(error) => Err(error),
-        }
+        None
+    };
+    let ended = if request.pack {
+        pack_task(&mut task, files, input, out, err)
+    } else {
+        run_task(&mut task, files, input, request.no_header, out, err)
     };
     Ok(match ended {
         Ok(total) => end_task(&task, err, &total, &unmarked),

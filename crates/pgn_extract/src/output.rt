@@ -4,4 +4,5 @@
 pub(crate) mod file_name;
 pub(crate) mod outcome;
 pub(crate) mod texts;
+pub(crate) mod through;
 pub(crate) mod write_all;

@@ -25,6 +25,7 @@ ghost use Rattle.pgn_extract.specs.Private.WalkedLines.{AreMetWith, IsMarkedWith
 
 pub(crate) mod kept_packed;
 mod marked;
+pub(crate) mod pack_search;
 pub(crate) mod searching;
 mod walked;
 

@@ -45,3 +45,10 @@ pub mod PackStreamFacts
 pub mod TagSearch
 pub mod TagFilling
 pub mod HeadedRecords
+pub mod ResidueFacts
+pub mod ResidueReading
+pub mod SealFacts
+pub mod SegmentFacts
+pub mod SegmentReading
+pub mod SegmentStreamFacts
+pub mod SegmentWritingFacts

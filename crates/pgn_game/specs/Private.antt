@@ -13,6 +13,7 @@ pub mod EvenComments
 pub mod MovetextWalks
 pub mod PackWords
 pub mod PackSteps
+pub mod SegmentSteps
 pub mod CodeWords
 pub mod Filing
 pub mod Following

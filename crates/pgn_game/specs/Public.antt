@@ -21,5 +21,9 @@ pub mod CodeLines
 pub mod PackedGames
 pub mod PackReading
 pub mod PackStreams
+pub mod Residues
+pub mod Segments
+pub mod SegmentStreams
+pub mod SegmentWriting
 pub mod Laws
 pub mod NamedRecords

@@ -22,6 +22,10 @@ ghost use Rattle.pgn_game.specs.Public.Laws.{CodeOfAMoveFits, CodeMovesAsItsMove
 ghost use Rattle.pgn_game.specs.Public.Laws.{GameHasOneSpelling, SoundGameHasARecord};
 ghost use Rattle.pgn_game.specs.Public.Laws.{GameOfABlockFits, HeadIsReadBack, RecordHasOneReading};
 ghost use Rattle.pgn_game.specs.Public.Laws.{PackHasOneReading};
+ghost use Rattle.pgn_game.specs.Public.Residues.{ChangeIsNoticed};
+ghost use Rattle.pgn_game.specs.Public.Segments.{SegmentIsRead, ReadIsASegment, DamageIsNoticed};
+ghost use Rattle.pgn_game.specs.Public.Segments.{PacksJoin};
+ghost use Rattle.pgn_game.specs.Public.SegmentWriting.{RecordsOfAPack, RecordsAreOfAPack};
 
 /// Whichever lines are replayed, each move of the main line is the only legal move that its word
 /// names in the position before it.
@@ -179,4 +183,21 @@ pub fn one_pack()
     ensures head { HeadIsReadBack }
     ensures record { RecordHasOneReading }
     ensures pack { PackHasOneReading }
+{}
+
+/// What was written as a segment is read back exactly, and nothing else is read as one. A segment
+/// that is changed within seven bytes in a row is none any more, whatever follows it.
+pub fn segments()
+    ensures read { SegmentIsRead }
+    ensures written { ReadIsASegment }
+    ensures noticed { DamageIsNoticed }
+    ensures change { ChangeIsNoticed }
+{}
+
+/// Packs that are joined are the pack of all their segments, and the records of a pack are those of
+/// its segments.
+pub fn joined_packs()
+    ensures join { PacksJoin }
+    ensures records { RecordsOfAPack }
+    ensures segments { RecordsAreOfAPack }
 {}

@@ -14,6 +14,16 @@
 //! each tag    4 bytes of length and its name, 4 bytes of length and the contents of its string
 //! each ply    3 bytes, up to the end of the record
 //! ```
+//!
+//! A pack is a row of segments. A segment:
+//!
+//! ```text
+//! 8 bytes     PGNPACK2: the number of the layout stands last
+//! 4 and 4     how many bytes of records it has, and how many in all after its front
+//! 8           the seal of its front
+//! records     one after another, and whatever later layouts put after them
+//! 8           the seal of what stands after its front
+//! ```
 
 mod error;
 mod fields;
@@ -24,14 +34,21 @@ mod pushing;
 mod reading;
 mod records;
 mod replaying;
+mod residue;
+mod seal;
+mod segment;
+mod segment_writer;
+mod segments;
 mod writing;
 
-pub use error::{CodesError, PackError, RecordError};
+pub use error::{CodesError, PackError, RecordError, SegmentError};
 pub use origin::GameOrigin;
 pub use pushing::push_record;
 pub use reading::{RawRecord, read};
 pub use records::{Records, RecordsError};
 pub(crate) use replaying::told_move;
 pub use replaying::{numbered_castle, numbered_man, replay_codes};
+pub use segment_writer::SegmentWriter;
+pub use segments::{FRONT, Segments, SegmentsError};
 pub(crate) use writing::put_headed;
 pub use writing::put_record;

@@ -23,7 +23,7 @@ use Rattle.pgn_extract.proofs.Common.{IsReport, NamesUnopened, NoFile, Order, Un
 use Rattle.pgn_extract.proofs.Common.{WritesPaths, SearchesPath, SearchesPaths, AreVerdicts}
 use Rattle.pgn_extract.proofs.Common.{IsGameReported, Verdict, fault_lines, output_text}
 use Rattle.pgn_extract.proofs.Common.{StopsAmongPacks, StopsAtPack, Request, PackFailure, RunError}
-use Rattle.pgn_extract.proofs.Common.{Summary, SearchError, BadPack, Record, Standard}
+use Rattle.pgn_extract.proofs.Common.{Summary, BadPack, Record, Standard}
 use Rattle.pgn_text.specs.Public.Complete.{AreCompleteBlocks}
 use Rattle.pgn_text.specs.Public.Tallies.{Tallied}
 use Rattle.pgn_extract.specs.Public.Exports.IsGameExport.{sound as sound_export}
@@ -38,7 +38,9 @@ use Rattle.pgn_extract.specs.Public.Searching.AreGameRecords.{sound as sound_rec
 use Rattle.pgn_extract.specs.Public.Searching.AreGameRecords.{faulty as faulty_record}
 use Rattle.pgn_extract.specs.Public.Several.{StopsInFile, WritesRead}
 use Rattle.pgn_extract.specs.Private.PackStops.{StopsInPack}
+use Rattle.pgn_extract.specs.Private.SegmentSearching.{SearchesPack, StopsByCause}
 use Rattle.pgn_extract.specs.declared.app.packs.PackFailure.TheVariants.{Report, Search}
+use Rattle.pgn_extract.specs.declared.packed.pack_search.PackStop.{PackStop}
 use Rattle.pgn_extract.specs.declared.packed.searching.Searched.{Searched}
 use Rattle.pgn_extract.specs.declared.packed.searching.SearchError.TheVariants as errors
 use Rattle.pgn_extract.specs.declared.settings.Mode.TheVariants as modes
@@ -314,7 +316,7 @@ no_pack_unnamed : (aim : Aim) (path : List ℕ) (out err : Passage)
 no_pack_unnamed aim path out err none searched = none searched.1.0 searched.1.1 searched.1.2
 
 no_pack_unsearched : (aim : Aim) (path whole : List ℕ) (out err : Passage)
-    → ((searched : Searched) → Searches aim whole out.old.bytes out.new.bytes searched → ⊥)
+    → ((searched : Searched) → SearchesPack aim whole out.old.bytes out.new.bytes searched → ⊥)
     → SearchesPath aim path (FileOf whole) out err → ⊥
 no_pack_unsearched aim path whole out err none searched = none searched.0.0 searched.0.1
 
@@ -362,10 +364,10 @@ no_pack_before_unsearched aim known paths failure out err none stops =
     none stops.before stops.out_there stops.err_there stops.whole
 
 -- no search stops where no file is, or where nothing is known
-no_search_without_files : (error : SearchError) (name : Bor (List ℕ)) (aim : Aim)
+no_search_without_files : (stop : PackStop) (name : Bor (List ℕ)) (aim : Aim)
     (paths : List (List ℕ)) (out err : Passage)
-    → StopsAmongPacks aim (λ path. NoFile) paths (Search name error) out err → ⊥
-no_search_without_files error name aim paths out err stops = stops.there
+    → StopsAmongPacks aim (λ path. NoFile) paths (Search name stop) out err → ⊥
+no_search_without_files stop name aim paths out err stops = stops.there
 
 no_stop_at_an_unknown_path : (failure : PackFailure) (aim : Aim) (path : List ℕ)
     (out err : Passage) → StopsAtPack failure aim path Unknown out err → ⊥
@@ -398,22 +400,22 @@ no_report_stops_in_a_pack : (error : RunError) (aim : Aim) (path whole : List �
     → StopsInPack (Report error) aim path whole out → ⊥
 no_report_stops_in_a_pack error aim path whole out stops = stops
 
-no_other_stop_in_a_pack : (error : SearchError) (name : Bor (List ℕ)) (aim : Aim)
+no_other_stop_in_a_pack : (stop : PackStop) (name : Bor (List ℕ)) (aim : Aim)
     (path whole : List ℕ) (out : Passage)
-    → ((left : Option (List ℕ)) → StopsSearch error aim whole left out.old.bytes out.new.bytes → ⊥)
-    → StopsInPack (Search name error) aim path whole out → ⊥
-no_other_stop_in_a_pack error name aim path whole out none stops = none stops.1.0 stops.1.1
+    → (StopsByCause stop.cause aim whole stop out.old.bytes out.new.bytes → ⊥)
+    → StopsInPack (Search name stop) aim path whole out → ⊥
+no_other_stop_in_a_pack stop name aim path whole out none stops = none stops.1
 
 -- and of a pack that failed nothing goes to standard error before its report
-no_line_of_a_failed_pack : (error : SearchError) (name : Bor (List ℕ)) (aim : Aim)
+no_line_of_a_failed_pack : (stop : PackStop) (name : Bor (List ℕ)) (aim : Aim)
     (path whole : List ℕ) (out err : Passage) → err.new ≢ err.old
-    → StopsAtPack (Search name error) aim path (FileOf whole) out err → ⊥
-no_line_of_a_failed_pack error name aim path whole out err other stops = other stops.1
+    → StopsAtPack (Search name stop) aim path (FileOf whole) out err → ⊥
+no_line_of_a_failed_pack stop name aim path whole out err other stops = other stops.1
 
-no_other_pack_is_named : (error : SearchError) (name : Bor (List ℕ)) (aim : Aim)
+no_other_pack_is_named : (stop : PackStop) (name : Bor (List ℕ)) (aim : Aim)
     (path whole : List ℕ) (out : Passage) → name.now ≢ path
-    → StopsInPack (Search name error) aim path whole out → ⊥
-no_other_pack_is_named error name aim path whole out other stops = other stops.0
+    → StopsInPack (Search name stop) aim path whole out → ⊥
+no_other_pack_is_named stop name aim path whole out other stops = other stops.0
 
 -- What a run leaves as a whole.
 

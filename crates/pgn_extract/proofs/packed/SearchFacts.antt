@@ -22,7 +22,7 @@ use Rattle.pgn_extract.proofs.packed.PackListed.{one_more_record, packed_listing
 use Rattle.pgn_game.specs.declared.pack.records.RecordsError.TheVariants as cause
 
 -- what holds of the bytes that are read and those that are left holds of the whole
-of_whole : (left left' : Option (List ℕ)) (read : List ℕ) (Q : List ℕ → Type 0)
+pub of_whole : (left left' : Option (List ℕ)) (read : List ℕ) (Q : List ℕ → Type 0)
     → Consumes left left' read
     → ((rest : List ℕ) → left' ≡ Some rest → Q (read ++ rest)) → IfSome left Q
 of_whole None left' read Q taken found = tt
@@ -37,7 +37,7 @@ one_more before game = flat_map-append record_bytes before (game ∷ [])
     ∙ append-nil (record_bytes game))
 
 -- each record takes a byte
-few : (before : List PackedGame) → length before ≤ length (pack_bytes before)
+pub few : (before : List PackedGame) → length before ≤ length (pack_bytes before)
 few [] = omega arith
 few (game ∷ before) =
     let whole = ap length (flat_map-cons record_bytes game before)

@@ -1,10 +1,10 @@
 -- What stands where a search of several packs ends early.
-use Rattle.std.specs.Prelude.{◌≡◌, ℕ, List, ◌∷◌, ◌++◌, Option}
+use Rattle.std.specs.Prelude.{◌≡◌, ℕ, List, ◌∷◌, ◌++◌}
 use Rattle.std.specs.Io.KnownBytes.{Keeps}
 use Rattle.pgn_extract.specs.Public.Aims.{Aim}
 use Rattle.pgn_extract.specs.Public.Outcomes.{AppendsFront}
 use Rattle.pgn_extract.specs.Public.Runs.{Passage, Stream}
-use Rattle.pgn_extract.specs.Public.Searching.{StopsSearch}
+use Rattle.pgn_extract.specs.Private.SegmentSearching.{StopsByCause}
 use Rattle.pgn_extract.specs.Public.Several.{AtPath, Unknown, NoFile, FileOf, NamesUnopened}
 use Rattle.pgn_extract.specs.Private.SeveralPacks.{SearchesPaths}
 use Rattle.pgn_extract.specs.declared.app.packs.PackFailure.{PackFailure}
@@ -12,9 +12,8 @@ use Rattle.pgn_extract.specs.declared.app.packs.PackFailure.TheVariants.{Search,
 
 -- the search of a pack, whose bytes are known, stopped, and it is named after its path
 abbrev pub StopsInPack : PackFailure → Aim → List ℕ → List ℕ → Passage → Type 0
-StopsInPack (Search name error) aim path whole out =
-    (name.now ≡ path)
-    × ((left : Option (List ℕ)) × StopsSearch error aim whole left out.old.bytes out.new.bytes)
+StopsInPack (Search name stop) aim path whole out =
+    (name.now ≡ path) × StopsByCause stop.cause aim whole stop out.old.bytes out.new.bytes
 StopsInPack (Report error) aim path whole out = ⊥
 
 -- at a path a search stopped; or the line that names a path without a file was not written whole;

@@ -2,7 +2,7 @@
 use Rattle.std.specs.Prelude.{◌≡◌, ℕ, List, [], ◌∷◌, map}
 use Rattle.pgn_extract.specs.Public.Aims.{Aim}
 use Rattle.pgn_extract.specs.Public.Runs.{Adds, Passage, Stream}
-use Rattle.pgn_extract.specs.Public.Searching.{Searches}
+use Rattle.pgn_extract.specs.Private.SegmentSearching.{SearchesPack}
 use Rattle.pgn_extract.specs.Public.Several.{AtPath, Unknown, NoFile, FileOf, NamesUnopened}
 use Rattle.pgn_extract.specs.declared.app.packs.PackTask.{PackTask}
 use Rattle.pgn_extract.specs.declared.packed.searching.Searched.{Searched}
@@ -18,7 +18,7 @@ SearchesPath aim path Unknown out err = ⊥
 SearchesPath aim path NoFile out err =
     (out.new ≡ out.old) × ((line : List ℕ) × NamesUnopened path line × Adds err line)
 SearchesPath aim path (FileOf whole) out err =
-    ((searched : Searched) × Searches aim whole out.old.bytes out.new.bytes searched)
+    ((searched : Searched) × SearchesPack aim whole out.old.bytes out.new.bytes searched)
     × (err.new ≡ err.old)
 
 -- so it was at paths in a row: each search begins where the one before it ended

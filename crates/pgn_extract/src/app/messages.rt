@@ -76,8 +76,15 @@ pub const PACKS_GIVE_LINES: &str = "pgn-extract: --packed goes with --list, --ro
 pub const PACKS_ARE_PLAIN: &str =
     "pgn-extract: --packed goes with none of --from, --until, --at, --with-names and --no-names\n";
 
-/// A pack has something that is the record of no game; its name follows.
+/// A pack has something that is no segment, or the record of no game; its name follows.
 pub const BAD_PACK: &str = "pgn-extract: bad pack: ";
+
+/// A pack is of the layout without segments; its name follows.
+pub const OLDER_PACK: &str =
+    "pgn-extract: pack made by an older program, pack the collection anew: ";
+
+/// A pack is of another layout; its name follows.
+pub const OTHER_PACK: &str = "pgn-extract: pack of another layout: ";
 
 /// A mark is of one file.
 pub const MARKS_TAKE_ONE_FILE: &str = "pgn-extract: --from, --until and --at take one FILE\n";

@@ -5,8 +5,7 @@ ghost use Rattle.pgn_extract.specs.Public.Aims.{aim_of};
 ghost use Rattle.pgn_extract.specs.Public.Listing.{has_annotations};
 ghost use Rattle.pgn_extract.specs.Public.Requests.{asked_header};
 ghost use Rattle.pgn_extract.specs.Public.Runs.{Adds, Stream, passage, stream_of};
-ghost use Rattle.pgn_extract.specs.Public.Searching.{IndexesWhatWasPacked, ListsWhatWasPacked};
-ghost use Rattle.pgn_extract.specs.Public.Searching.{Searches};
+ghost use Rattle.pgn_extract.specs.Private.SegmentSearching.{SearchesPack};
 ghost use Rattle.pgn_extract.specs.Public.Several.{Unknown, AreKnown};
 ghost use Rattle.pgn_extract.specs.Private.SeveralPacks.{SearchesPath, SearchesPaths, pack_paths};
 ghost use Rattle.pgn_extract.specs.declared.packed.searching.Searched.{Searched};
@@ -20,8 +19,11 @@ use crate::marks::Met;
 use crate::output::file_name::FileName;
 use crate::output::outcome::{RunError, Summary};
 use crate::output::texts::push_number;
-use crate::packed::searching::{SearchError, search};
+use crate::output::write_all::finish;
+use crate::packed::pack_search::{PackCause, PackStop, search_segments};
+use crate::packed::searching::SearchError;
 use crate::settings::Settings;
+use pgn_game::pack::{FRONT, SegmentError, SegmentsError};
 use pgn_text::Tally;
 use std::alloc::{AllocError, Global};
 use std::io::{Read, Write};
@@ -47,7 +49,7 @@ pub struct PackTask<'a> {
 #[derive(Clone, Copy)]
 enum PackFailure<'a> {
     /// The search of the pack with this name did.
-    Search(&'a str, SearchError),
+    Search(&'a str, PackStop),
     /// What goes to standard error did.
     Report(RunError),
 }
@@ -63,14 +65,8 @@ where
     I: Drop,
     requires sound { out.old.faulted ≡ false }
     requires held { has_annotations task.now.settings.line ≡ false }
-    ensures listed { OnOk result (IfSome (I.remaining input)
-        (λ whole. ListsWhatWasPacked (aim_of task.now.settings) whole
-        (O.contents out.old.inner) (O.contents out.new.inner))) }
-    ensures indexed { OnOk result (IfSome (I.remaining input)
-        (λ whole. IndexesWhatWasPacked (aim_of task.now.settings) whole
-        (O.contents out.old.inner) (O.contents out.new.inner))) }
     ensures searched { OnOk result (IfSome (I.remaining input) (λ whole. (searched : Searched)
-        × Searches (aim_of task.now.settings) whole
+        × SearchesPack (aim_of task.now.settings) whole
         (O.contents out.old.inner) (O.contents out.new.inner) searched)) }
     ensures stopped { IfErr result (λ failure. IfSome (I.remaining input)
         (λ whole. StopsInPack failure (aim_of task.now.settings) name.now whole
@@ -78,14 +74,14 @@ where
     ensures sound { OnOk result (out.new.faulted ≡ false) }
 {
     let mut input = Tally::new(input);
-    match search(task.alloc, &mut input, out, &task.settings) {
+    match search_segments(task.alloc, &mut input, out, &task.settings) {
         Ok(searched) => Ok(Summary {
             games: searched.records,
             faulty: 0,
             unplayed: 0,
             met: Met::NONE,
         }),
-        Err(error) => Err(PackFailure::Search(name, error)),
+        Err(stop) => Err(PackFailure::Search(name, stop)),
     }
 }
 
@@ -152,6 +148,17 @@ where
     Ok(total)
 }
 
+/// Writes the header, where one is asked for, and flushes: a pack may have no lines.
+fn begin_lines<O: Write>(task: &PackTask<'_>, out: &mut Tally<O>) -> Result<(), RunError>
+    requires { out.old.faulted ≡ false }
+    ensures header { OnOk result (Adds (passage O.contents out.old out.new)
+        (asked_header task.now.settings task.now.no_header)) }
+    ensures sound { OnOk result (out.new.faulted ≡ false) }
+{
+    put_header(task.alloc, out, &task.settings, task.no_header)?;
+    finish(out)
+}
+
 /// Searches the packs that are asked for, and answers the status. Where it is not that of a
 /// failure, each pack was searched to its end, and nothing else was written to the output.
 pub fn search_packs<F: Files, O: Write, E: Write>(
@@ -173,7 +180,7 @@ where
         (record { old = out_there; new = stream_of O.contents out.new })
         (record { old = stream_of E.contents err.old; new = err_there }) }
 {
-    if let Err(error) = put_header(task.alloc, out, &task.settings, task.no_header) {
+    if let Err(error) = begin_lines(task, out) {
         flush_rest(out);
         report_line(err, line_of(error));
         return FAILED;
@@ -195,40 +202,72 @@ where
 
 /// Reports why the search of packs failed. A fault in that is ignored.
 fn report_pack<E: Write>(task: &PackTask<'_>, err: &mut Tally<E>, failure: &PackFailure<'_>) {
-    match failure {
-        PackFailure::Search(name, SearchError::BadPack(at)) => {
-            match bad_pack(task.alloc, name, *at, task.explain) {
-                Ok(note) => report_bytes(err, &note),
-                Err(AllocError) => report_line(err, messages::OUT_OF_MEMORY),
-            }
+    let (name, stop) = match failure {
+        PackFailure::Search(name, stop) => (name, stop),
+        PackFailure::Report(error) => return report_line(err, line_of(*error)),
+    };
+    if let Some(line) = line_of_cause(stop.cause) {
+        return report_line(err, line);
+    }
+    match bad_pack(task.alloc, name, stop, task.explain) {
+        Ok(note) => report_bytes(err, &note),
+        Err(AllocError) => report_line(err, messages::OUT_OF_MEMORY),
+    }
+}
+
+/// The line that reports a search that failed at no fault of its pack.
+fn line_of_cause(cause: PackCause) -> Option<&'static str> {
+    match cause {
+        PackCause::Segments(SegmentsError::Read) | PackCause::Records(SearchError::Read) => {
+            Some(messages::READ_FAILED)
         }
-        PackFailure::Search(_, error) => report_line(err, line_of_search(*error)),
-        PackFailure::Report(error) => report_line(err, line_of(*error)),
+        PackCause::Records(SearchError::Write) => Some(messages::WRITE_FAILED),
+        PackCause::Segments(SegmentsError::OutOfMemory)
+        | PackCause::Records(SearchError::OutOfMemory) => Some(messages::OUT_OF_MEMORY),
+        PackCause::Segments(SegmentsError::InputTooLong)
+        | PackCause::Records(SearchError::InputTooLong) => Some(messages::INPUT_TOO_LONG),
+        PackCause::Segments(SegmentsError::Bad(_)) | PackCause::Records(SearchError::BadPack(_)) =>
+            { None }
     }
 }
 
-/// The line that reports a search that failed.
-fn line_of_search(error: SearchError) -> &'static str {
-    match error {
-        SearchError::Read => messages::READ_FAILED,
-        SearchError::Write => messages::WRITE_FAILED,
-        SearchError::OutOfMemory => messages::OUT_OF_MEMORY,
-        SearchError::InputTooLong => messages::INPUT_TOO_LONG,
-        SearchError::BadPack(_) => messages::BAD_PACK,
+/// What names a pack with a fault: one of another layout says so.
+fn beginning_of(stop: &PackStop) -> &'static str {
+    match stop.cause {
+        PackCause::Segments(SegmentsError::Bad(SegmentError::OtherLayout)) => messages::OTHER_PACK,
+        PackCause::Segments(_) if stop.is_older => messages::OLDER_PACK,
+        _ => messages::BAD_PACK,
     }
 }
 
-/// The line of a pack in which something is the record of no game, and below it, where that is to
-/// be explained, after how many bytes.
-fn bad_pack(alloc: Global, name: &str, at: u64, explain: bool) -> Result<Vec<u8>, AllocError> {
+/// After how many bytes of the pack its fault stands, and what it is.
+fn fault_of(stop: &PackStop) -> (u64, &'static [u8]) {
+    match stop.cause {
+        PackCause::Records(SearchError::BadPack(at)) => {
+            let place = stop.place.saturating_add(FRONT as u64).saturating_add(at);
+            (place, b" is no record of a game\n")
+        }
+        _ => (stop.place, b" is no whole segment\n"),
+    }
+}
+
+/// The line of a pack with a fault, and below it, where that is to be explained, after how many
+/// bytes.
+fn bad_pack(
+    alloc: Global,
+    name: &str,
+    stop: &PackStop,
+    explain: bool,
+) -> Result<Vec<u8>, AllocError> {
     let name = FileName::of_path(alloc, name)?;
-    let mut note = Vec::from_slice(alloc, messages::BAD_PACK.as_bytes())?;
+    let mut note = Vec::from_slice(alloc, beginning_of(stop).as_bytes())?;
     note.extend_from_slice(name.bytes())?;
     note.push(b'\n')?;
     if explain {
+        let (place, fault) = fault_of(stop);
         note.extend_from_slice(b"  at byte ")?;
-        push_number(&mut note, at as usize)?;
-        note.extend_from_slice(b" is no record of a game\n")?;
+        push_number(&mut note, place as usize)?;
+        note.extend_from_slice(fault)?;
     }
     Ok(note)
 }

@@ -51,6 +51,8 @@ const HTML: &str = "a page of HTML; get the PGN file that it speaks of";
 
 const PACK: &str = "a pack; read it with --list --packed or --index --packed";
 
+const OLDER_PACK: &str = "a pack made by an older program; pack the collection anew";
+
 const FOLDER: &str = "a folder; give the files in it, as FOLDER/*.pgn";
 
 const NO_PACK: &str = "no pack; read it without --packed, or write a pack with --pack";
@@ -70,12 +72,18 @@ fn is_html(first: &[u8]) -> bool {
     begins_with(text, b"<!doctype") || begins_with(text, b"<html")
 }
 
-/// Whether this is the beginning of a record, whose number has no more than four bytes.
+/// Whether this is the beginning of a pack, whatever its layout.
 fn is_pack(first: &[u8]) -> bool {
+    first.starts_with(b"PGNPACK")
+}
+
+/// Whether this is the beginning of a pack of older programs: of a record whose number has no more
+/// than four bytes.
+fn is_older_pack(first: &[u8]) -> bool {
     matches!(first, [0..=2, _, _, _, 0, 0, 0, 0, ..])
 }
 
-/// Whether this is the beginning of a text, which no record has.
+/// Whether this is the beginning of a text.
 fn is_text(first: &[u8]) -> bool {
     match first {
         [0xEF, 0xBB, 0xBF, _, ..] => true,
@@ -97,7 +105,8 @@ fn kind_of(first: &[u8], packed: bool) -> Option<&'static str> {
     }
     match packed {
         false if is_pack(first) => Some(PACK),
-        true if is_text(first) => Some(NO_PACK),
+        false if is_older_pack(first) => Some(OLDER_PACK),
+        true if is_text(first) && !is_pack(first) => Some(NO_PACK),
         _ => None,
     }
 }

@@ -26,6 +26,26 @@ pub enum RecordError {
     NoOrigin,
 }
 
+/// What is wrong with the segment in front of bytes: the first fault from left to right.
+#[derive(Clone, Copy, Debug, PartialEq, Eq, Error)]
+pub enum SegmentError {
+    /// It goes past the end of the bytes.
+    #[error("the segment is cut short")]
+    CutShort,
+    /// Its front is whole, and that of another layout.
+    #[error("the segment has another layout")]
+    OtherLayout,
+    /// Its front was changed.
+    #[error("the front of the segment is damaged")]
+    DamagedFront,
+    /// Its front says that it is larger than the segments that are written.
+    #[error("the segment is too large")]
+    TooLarge,
+    /// Its body was changed.
+    #[error("the body of the segment is damaged")]
+    DamagedBody,
+}
+
 /// Why the record of a game is not appended.
 #[derive(Clone, Copy, Debug, PartialEq, Eq, Error)]
 pub enum PackError {
