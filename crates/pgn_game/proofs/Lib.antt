@@ -20,6 +20,7 @@ pub mod PlainTokens
 pub mod StartTexts
 pub mod MoveTexts
 pub mod GameLineFacts
+pub mod TurnTextFacts
 pub mod PlyCodeFacts
 pub mod RecordFields
 pub mod HeadFacts

@@ -18,7 +18,7 @@ one_turn false now word (Played m) (Played n) a b = ap (λ k. Played k) (b.only 
 one_turn false now word (Played m) Passed a b = absurd b
 one_turn false now word Passed other a b = absurd a
 
-said_or_refused : (passes : Bool) (now : State) (plies : ℕ) (word : List ℕ) (turn : LineMove)
+pub said_or_refused : (passes : Bool) (now : State) (plies : ℕ) (word : List ℕ) (turn : LineMove)
     (fault : Fault) → SaysTurn passes now word turn → RefusesTurn passes now plies word fault → ⊥
 said_or_refused true now plies word (Played m) fault a refused = a
 said_or_refused true now plies word Passed fault a refused = a refused.0

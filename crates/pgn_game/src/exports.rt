@@ -1,4 +1,4 @@
-//! Games written: in the export format, or the main line on one line.
+//! Games written: in the export format, or a line on one line of text.
 
 mod comment;
 pub mod edits;
@@ -6,6 +6,7 @@ pub(crate) mod exporter;
 pub mod following;
 pub(crate) mod game_line;
 pub mod later;
+pub mod line_form;
 mod line_wrapper;
 pub mod lines;
 mod movetext;

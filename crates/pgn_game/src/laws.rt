@@ -7,6 +7,7 @@ ghost use Rattle.pgn_game.specs.Public.Exports.{MovetextHasOneList};
 ghost use Rattle.pgn_game.specs.Public.Refusals.{OneLineIsReached, RefusedWordIsTheFault};
 ghost use Rattle.pgn_game.specs.Public.TextLines.{TokensHaveAText, TokensHaveOneText};
 ghost use Rattle.pgn_game.specs.Public.GameLines.{SoundGameHasALine, GameHasOneLine, LineIsTheGame};
+ghost use Rattle.pgn_game.specs.Public.GameLines.{GameLineHasItsWords};
 ghost use Rattle.pgn_game.specs.Public.Laws.{EachMoveIsNamed, MainLineIsTheLine, EachMoveHasATurn};
 ghost use Rattle.pgn_game.specs.Public.Laws.{EachMainMoveIsAPly, FirstPliesAreABeginning};
 ghost use Rattle.pgn_game.specs.Public.Laws.{LaterPliesAreReplayed, LaterPliesAreTheRest};
@@ -54,8 +55,8 @@ pub fn later_games()
     ensures replayed { LaterPliesAreReplayed }
 {}
 
-/// Each move, NAG and comment of a game is one line's own, and no other's; and after edits and in a
-/// style a game has one text of its lines at most.
+/// Each move, NAG and comment of a game is one line's own, and no other's; and in a layout a game
+/// has one text of its lines at most.
 pub fn lines_of_a_game()
     ensures each { EachElementIsOfOneLine }
     ensures one { LinesHaveOneText }
@@ -126,11 +127,13 @@ pub fn one_export()
 {}
 
 /// In each notation a game whose main line is sound has a line, and only one; and two games have
-/// the same line exactly where they start in the same position and have the same moves.
+/// the same line exactly where they start in the same position and have the same moves. It is the
+/// text of the words of the main line.
 pub fn one_game_line()
     ensures some { SoundGameHasALine }
     ensures one { GameHasOneLine }
     ensures same { LineIsTheGame }
+    ensures words { GameLineHasItsWords }
 {}
 
 /// No line of a movetext is read as an escape or as an event line, whatever its comments say; and

@@ -19,6 +19,7 @@ pub use exports::exporter::{export, export_followed, export_played, follow_expor
 pub use exports::following::Followed;
 pub use exports::game_line::push_line;
 pub use exports::later::later_game;
+pub use exports::line_form::LineForm;
 pub use exports::lines::{LineWriter, export_lines};
 pub use exports::notation::Notation;
 pub use exports::style::{Commands, Style, lines_with};

@@ -1,7 +1,7 @@
-//! The lines of games as games of their own.
+//! The lines of games, as games of their own and on lines of text.
 use crate::games::rows::Says;
 use crate::support::rows_hold;
-use pgn_game::{Commands, GameFault, Style, TagEdits, export_lines};
+use pgn_game::{Commands, GameFault, LineForm, Notation, Style, TagEdits, export_lines};
 use pgn_text::RawGame;
 use std::alloc::Global;
 use std::str;
@@ -43,24 +43,43 @@ fn shown(alloc: Global, text: &[u8]) -> Option<Vec<u8>> {
     Some(shown)
 }
 
-/// Whether the lines of the game are written so, up to this ply where it is a number; or are
-/// refused for a fault, and nothing is written.
+/// How lines are written: in a notation after an x, or as exports.
+fn form<'s>(how: &str, edits: Option<&'s TagEdits>) -> LineForm<'s> {
+    let before = b"x ".as_slice();
+    match how {
+        "san" => LineForm::Turns {
+            notation: Notation::San,
+            before,
+        },
+        "uci" => LineForm::Turns {
+            notation: Notation::Uci,
+            before,
+        },
+        _ => LineForm::Export {
+            edits,
+            style: &WHOLE,
+        },
+    }
+}
+
+/// Whether the lines of the game are written so, in this notation or as exports, up to this ply
+/// where it is a number; or are refused for a fault, and nothing is written.
 pub fn writes_lines(alloc: Global, game: &RawGame<'_>, columns: [&str; 5]) -> Option<bool> {
-    let [_, last_ply, wanted, ..] = columns;
-    let edits = match last_ply.parse::<u32>() {
+    let [_, how, wanted, ..] = columns;
+    let edits = match how.parse::<u32>() {
         Ok(last_ply) => Some(TagEdits::new(alloc, true, Some(last_ply))),
         Err(_) => None,
     };
     let mut out = Vec::new(alloc);
-    match export_lines(alloc, game, edits.as_ref(), &WHOLE, &mut out) {
+    match export_lines(alloc, game, form(how, edits.as_ref()), &mut out) {
         Ok(()) => Some(shown(alloc, &out)?.as_slice() == wanted.as_bytes()),
         Err(GameFault::OutOfMemory) => None,
         Err(_) => Some(wanted == "fault" && out.is_empty()),
     }
 }
 
-/// A game, the last ply that is written, and its lines. Their moves are those that Debian's
-/// pgn-extract writes with --splitvariants.
+/// A game, the last ply that is written or a notation, and its lines. Their moves are those that
+/// Debian's pgn-extract writes with --splitvariants.
 const LINES: &str = r#"
 1. e4 e5 1-0 | - | 1-0 1. e4 e5 1-0;
 1. e4 (1. d4 d5) e5 1-0 | - | 1-0 1. e4 e5 1-0;* 1. d4 d5 *;
@@ -75,11 +94,16 @@ const LINES: &str = r#"
 [FEN "4k3/8/8/8/8/8/8/4K2R b K - 0 9"]\n\nKd7 (Kd8) * | - | * 9... Kd7 *;* 9... Kd8 *;
 1. e4 (1. d4 d5 2. c4) e5 2. Nf3 * | 2 | * 2p 1. e4 e5 *;* 2p 1. d4 d5 *;
 1. e4 e5 (1... c5) * | 1 | * 1p 1. e4 *;* 1p 1. e4 *;
+1. e4 e5 (1... -- 2. d4 Z0) * | san | x - e4 e5;x - e4 -- d4 --;
+1. e4 e5 (1... -- 2. d4 Z0) * | uci | x - e2e4 e7e5;x - e2e4 0000 d2d4 0000;
+1. e4 (1. d4 () d5 {a}) 1... Nc6 $1 1-0 | san | x - e4 Nc6;x - d4 d5;x -;
+[FEN "k7/8/8/8/8/8/1p6/7K b - - 0 9"]\n\nb1=N * | uci | x k7/8/8/8/8/8/1p6/7K_b_-_-_0_9 b2b1n;
+1. e4 (1. Qh5) e5 * | san | fault
 1. e4 (1. Qh5) e5 * | - | fault
 1. e4 -- * | - | fault
 "#;
 
 #[test]
 fn each_line_is_a_game(rt: HostRuntime) -> Result<(), Fail> {
-    rows_hold(&Says::Lines.over(rt.alloc()), LINES, 15)
+    rows_hold(&Says::Lines.over(rt.alloc()), LINES, 20)
 }

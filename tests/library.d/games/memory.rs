@@ -2,7 +2,7 @@
 //! the calls go well; `rt try --test --fail-alloc N` refuses the Nth request of each test, and
 //! these hold for each N.
 use crate::support::{Pieces, TWO_GAMES, first_game};
-use pgn_game::{Commands, GameFault, Lines, Style, export, export_lines, replay};
+use pgn_game::{Commands, GameFault, LineForm, Lines, Style, export, export_lines, replay};
 use pgn_text::{Blocks, ReadError, Tally, games};
 use std::alloc::Global;
 use std::test::Fail;
@@ -80,7 +80,11 @@ fn lines_leave(alloc: Global) -> bool {
     if out.push(b'>').is_err() {
         return true;
     }
-    match export_lines(alloc, &game, None, &WHOLE, &mut out) {
+    let form = LineForm::Export {
+        edits: None,
+        style: &WHOLE,
+    };
+    match export_lines(alloc, &game, form, &mut out) {
         Ok(()) => out.as_slice().starts_with(b">[Event \"?\"]\n") && out.len() > 400,
         Err(GameFault::OutOfMemory) => out.as_slice() == b">".as_slice(),
         Err(_) => false,

@@ -5,7 +5,8 @@ use Rattle.pgn_game.proofs.Common.{◌≡◌, ℕ, List, [], ◌∷◌, ◌++◌
 use Rattle.pgn_game.proofs.Common.{false, MoveText, GlyphNumber, CommentText, Line, LineEnd}
 use Rattle.pgn_game.proofs.Common.{ThenMove, ThenGlyph, ThenComment, ThenVariation, GameText, Style}
 use Rattle.pgn_game.specs.Public.Edits.{Edits}
-use Rattle.pgn_game.specs.Public.LineGames.{AreExportsOf, LineGame, as_game, line_items, lines_of}
+use Rattle.pgn_game.specs.Public.LineGames.{AreTextsOf, AsExports, LineGame, as_game}
+use Rattle.pgn_game.specs.Public.LineGames.{line_items, lines_of}
 
 -- 1. e4 {a} (1. d4 $1 d5 (1... Nf6) 2. c4) 1... e5 (1... c5)
 abbrev played : Line
@@ -49,7 +50,7 @@ nothing_in_front [] rest more none = cc
 nothing_in_front (b ∷ head) rest more none = cc
 
 no_empty_text : (edits : Option Edits) (style : Style) (game : GameText) (line : LineGame)
-    (more : List LineGame) → AreExportsOf edits style game (line ∷ more) [] → ⊥
+    (more : List LineGame) → AreTextsOf (AsExports edits style) game (line ∷ more) [] → ⊥
 no_empty_text edits style game line more (own, rest, parted, (edited, is, exports), later) =
     nothing_in_front exports.head (exports.movetext ++ 10 ∷ []) rest
     (parted ∙ ap (λ bytes. bytes ++ rest) exports.spells)

@@ -1,5 +1,5 @@
 -- What is a line's own is no other's, and the lines of a game have one text at most.
-use Rattle.std.specs.Prelude.{IsPermutation, Option}
+use Rattle.std.specs.Prelude.{Bool, IsPermutation}
 use Rattle.std.proofs.lemmas.List.Sorted.{IsPermutation-append, IsPermutation-append_comm}
 use Rattle.std.proofs.lemmas.List.Sorted.{IsPermutation-cons, IsPermutation-refl}
 use Rattle.std.proofs.lemmas.List.Sorted.{IsPermutation-trans}
@@ -7,14 +7,16 @@ use Rattle.pgn_game.proofs.Common.{◌≡◌, ℕ, List, [], ◌∷◌, ◌++◌
 use Rattle.pgn_game.proofs.Common.{append_assoc, Item, MoveText, GlyphNumber, CommentText}
 use Rattle.pgn_game.proofs.Common.{VariationOpen, VariationClose, Line, LineEnd, ThenMove}
 use Rattle.pgn_game.proofs.Common.{ThenGlyph}
-use Rattle.pgn_game.proofs.Common.{ThenComment, ThenVariation, spelled, GameText, Style}
-use Rattle.pgn_game.specs.Public.Edits.{Edits}
+use Rattle.pgn_game.proofs.Common.{ThenComment, ThenVariation, spelled, GameText, tag_in, fen_tag}
+use Rattle.pgn_game.proofs.Common.{main_words}
 use Rattle.pgn_game.specs.Public.Laws.{EachElementIsOfOneLine, LinesHaveOneText, own_parts}
 use Rattle.pgn_game.specs.Public.Laws.{without_parentheses}
-use Rattle.pgn_game.specs.Public.LineGames.{AreExportsOf, LineGame, as_game, lines_of, own_items}
+use Rattle.pgn_game.specs.Public.LineGames.{AreTextsOf, AsExports, IsTextOfLine, LineGame}
+use Rattle.pgn_game.specs.Public.LineGames.{LineLayout, OnLines, as_game, lines_of, own_items}
 use Rattle.pgn_game.specs.Public.LineGames.{variations_in}
 use Rattle.pgn_game.proofs.OneEdited.{one_edited_line}
 use Rattle.pgn_game.proofs.Spelling.{one_tree}
+use Rattle.pgn_game.proofs.TurnTextFacts.{one_line_text}
 
 -- ---- each element is one line's own
 
@@ -88,10 +90,20 @@ each_element line = each_of_one line [] []
 
 -- ---- one text
 
-module _ (edits : Option Edits) (style : Style) (game : GameText) where
+one_of_line : (layout : LineLayout) (inside : Bool) (line : GameText) (text other : List ℕ)
+    → IsTextOfLine layout inside line text → IsTextOfLine layout inside line other → text ≡ other
+one_of_line (AsExports edits style) inside line text other is also =
+    one_edited_line inside edits style line text other is also
+one_of_line (OnLines notation before) inside line text other (own, is, spells)
+    (own2, also, spells2) =
+    spells
+    ∙ ap (λ bytes. before ++ bytes ++ 10 ∷ []) (one_line_text notation inside
+    (tag_in fen_tag line.tags) (main_words line.elements 0) own own2 is also)
+    ∙ sym spells2
+
+module _ (layout : LineLayout) (game : GameText) where
   one_of_each : (lines : List LineGame) (text other : List ℕ)
-      → AreExportsOf edits style game lines text → AreExportsOf edits style game lines other
-      → text ≡ other
+      → AreTextsOf layout game lines text → AreTextsOf layout game lines other → text ≡ other
   one_of_each [] text other is also = is ∙ sym also
   one_of_each (line ∷ more) text other (own, rest, parted, is, later) (
     own2,
@@ -101,11 +113,11 @@ module _ (edits : Option Edits) (style : Style) (game : GameText) where
     others,
   ) =
       parted ∙ ap (λ bytes. bytes ++ rest)
-      (one_edited_line line.inside edits style (as_game game line) own own2 is is2)
+      (one_of_line layout line.inside (as_game game line) own own2 is is2)
       ∙ ap (λ bytes. own2 ++ bytes) (one_of_each more rest rest2 later others) ∙ sym split
 
 pub one_text_of_lines : LinesHaveOneText
-one_text_of_lines edits style game text other (line, spells, is) (line2, spells2, also) =
-    one_of_each edits style game (lines_of line) text other is
-    (subst (λ l. AreExportsOf edits style game (lines_of l) other)
+one_text_of_lines layout game text other (line, spells, is) (line2, spells2, also) =
+    one_of_each layout game (lines_of line) text other is
+    (subst (λ l. AreTextsOf layout game (lines_of l) other)
     (one_tree line2 line (sym spells2 ∙ spells)) also)

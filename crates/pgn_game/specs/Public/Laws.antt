@@ -17,8 +17,8 @@ use Rattle.pgn_text.specs.Public.Parts.{Part}
 use Rattle.pgn_text.specs.Public.Strings.{IsContents}
 use Rattle.pgn_game.specs.Public.AllLines.{Line, spelled, own_words}
 use Rattle.pgn_game.specs.Public.MainLines.{main_words}
-use Rattle.pgn_game.specs.Public.Edits.{Edits, first_plies}
-use Rattle.pgn_game.specs.Public.LineGames.{AreLineExports, LineGame, lines_of}
+use Rattle.pgn_game.specs.Public.Edits.{first_plies}
+use Rattle.pgn_game.specs.Public.LineGames.{AreLineTexts, LineGame, LineLayout, lines_of}
 use Rattle.pgn_game.specs.Public.LaterPlies.{later_plies}
 use Rattle.pgn_game.specs.Public.TagLines.{in_order, is_among}
 use Rattle.pgn_game.specs.Public.Faults.{Fault, IsFault}
@@ -136,11 +136,11 @@ abbrev pub EachElementIsOfOneLine : Type 0
 EachElementIsOfOneLine = (line : Line)
     → IsPermutation (without_parentheses (spelled line)) (own_parts (lines_of line))
 
--- after edits and in a style a game has one text of its lines at most
+-- in a layout a game has one text of its lines at most
 abbrev pub LinesHaveOneText : Type 0
 LinesHaveOneText =
-    (edits : Option Edits) (style : Style) (game : GameText) (text other : List ℕ)
-    → AreLineExports edits style game text → AreLineExports edits style game other → text ≡ other
+    (layout : LineLayout) (game : GameText) (text other : List ℕ)
+    → AreLineTexts layout game text → AreLineTexts layout game other → text ≡ other
 
 -- these lines of a game have one fault at most
 abbrev pub GameHasOneFault : Type 0

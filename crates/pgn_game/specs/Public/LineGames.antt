@@ -1,12 +1,18 @@
 -- Each line of a game as a game of its own: the main line, and each variation with the moves that
 -- lead to the position that it is played from.
 use Rattle.std.specs.Prelude.{◌≡◌, ℕ, Bool, true, false, not, bytes_eq, codes, filter, map, Option}
-use Rattle.std.specs.Prelude.{List, [], ◌∷◌, ◌++◌}
+use Rattle.std.specs.Prelude.{option_map, List, [], ◌∷◌, ◌++◌}
 use Rattle.pgn_text.specs.Public.Games.{Item, MoveText, GlyphNumber, CommentText}
-use Rattle.pgn_text.specs.Public.GameTexts.{GameText}
+use Rattle.pgn_text.specs.Public.GameTexts.{GameText, tag_in}
 use Rattle.pgn_game.specs.Public.AllLines.{Line, LineEnd, ThenMove, ThenGlyph, ThenComment}
 use Rattle.pgn_game.specs.Public.AllLines.{ThenVariation, spelled}
 use Rattle.pgn_game.specs.Public.Edits.{Edits, IsEditedLine}
+use Rattle.pgn_game.specs.Public.GameLines.{IsLineText}
+use Rattle.pgn_game.specs.Public.MainLines.{main_words}
+use Rattle.pgn_game.specs.Public.Starts.{fen_tag}
+use Rattle.pgn_game.specs.declared.exports.line_form.LineForm.{LineForm}
+use Rattle.pgn_game.specs.declared.exports.line_form.LineForm.TheVariants as forms
+use Rattle.pgn_game.specs.declared.exports.notation.Notation.{Notation}
 use Rattle.pgn_game.specs.declared.exports.style.Style.{Style}
 
 -- the elements of a line that stand in none of its variations
@@ -62,31 +68,46 @@ ending_as true game = unfinished game
 abbrev pub as_game : GameText → LineGame → GameText
 as_game game line = record (ending_as line.inside game) { elements = line_items line }
 
--- the text is the exports in the style of these lines of the game, each as a game that is edited,
--- one after the other
-abbrev pub AreExportsOf : Option Edits → Style → GameText → List LineGame → List ℕ → Type 0
-AreExportsOf edits style game [] text = text ≡ []
-AreExportsOf edits style game (line ∷ more) text =
+-- how lines are written: as exports in a style, each as a game that is edited, or each on a line of
+-- text with its turns in a notation, after the same bytes
+pub data LineLayout : Type 0 where
+  AsExports : Option Edits → Style → LineLayout
+  OnLines : Notation → List ℕ → LineLayout
+
+-- what a form asks for
+abbrev pub layout_of : LineForm → LineLayout
+layout_of (forms.Export edits style) = AsExports (option_map (λ own. own.now) edits) style.now
+layout_of (forms.Turns notation before) = OnLines notation before.now
+
+-- the text of a line, which is a variation or not and a game of its own
+abbrev pub IsTextOfLine : LineLayout → Bool → GameText → List ℕ → Type 0
+IsTextOfLine (AsExports edits style) inside line text = IsEditedLine inside edits style line text
+IsTextOfLine (OnLines notation before) inside line text = (own : List ℕ)
+    × IsLineText notation inside (tag_in fen_tag line.tags) (main_words line.elements 0) own
+    × (text ≡ before ++ own ++ 10 ∷ [])
+
+-- the text is those of these lines of the game, one after the other
+abbrev pub AreTextsOf : LineLayout → GameText → List LineGame → List ℕ → Type 0
+AreTextsOf layout game [] text = text ≡ []
+AreTextsOf layout game (line ∷ more) text =
     (own : List ℕ) × (rest : List ℕ) × (text ≡ own ++ rest)
-    × IsEditedLine line.inside edits style (as_game game line) own
-    × AreExportsOf edits style game more rest
+    × IsTextOfLine layout line.inside (as_game game line) own
+    × AreTextsOf layout game more rest
 
--- the text is the exports of all lines of the game
-abbrev pub AreLineExports : Option Edits → Style → GameText → List ℕ → Type 0
-AreLineExports edits style game text = (line : Line) × (game.elements ≡ spelled line)
-    × AreExportsOf edits style game (lines_of line) text
+-- the text is those of all lines of the game
+abbrev pub AreLineTexts : LineLayout → GameText → List ℕ → Type 0
+AreLineTexts layout game text = (line : Line) × (game.elements ≡ spelled line)
+    × AreTextsOf layout game (lines_of line) text
 
--- the text is the exports of the first of these lines, and the others are left
-abbrev pub WritesFirst : Option Edits → Style → GameText → List LineGame → List LineGame → List ℕ
-    → Type 0
-WritesFirst edits style game lines left text =
-    (first : List LineGame) × (lines ≡ first ++ left) × AreExportsOf edits style game first text
+-- the text is those of the first of these lines, and the others are left
+abbrev pub WritesFirst : LineLayout → GameText → List LineGame → List LineGame → List ℕ → Type 0
+WritesFirst layout game lines left text =
+    (first : List LineGame) × (lines ≡ first ++ left) × AreTextsOf layout game first text
 
 -- the lines that are left of a game of which the first are written, and how they are written; and
 -- how many of its elements are still to be gone along
 pub record LinesLeft : Type 0 where
-  pub edits : Option Edits
-  pub style : Style
+  pub layout : LineLayout
   pub game : GameText
   pub lines : List LineGame
   pub steps : ℕ

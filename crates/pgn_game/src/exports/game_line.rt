@@ -1,12 +1,15 @@
-//! The main line of a game on one line: the position that it starts from, and its moves.
+//! A line of a game on one line of text: the position that it starts from, and its moves.
 ghost use Rattle.std.specs.Prelude.{◌≡◌, ◌<◌, ◌≤◌, ◌+◌, ◌++◌, ◌∷◌, ℕ, List, Option, [], map, IfErr};
 ghost use Rattle.std.specs.Prelude.{IfSome, OnOk};
 ghost use Rattle.pgn_text.specs.Public.Elements.{item_of};
 ghost use Rattle.pgn_text.specs.Public.GameTexts.{tag_in};
-ghost use Rattle.pgn_game.specs.Public.Faults.{IsFault, IsMoveFault, IsRefusedWord};
-ghost use Rattle.pgn_game.specs.Public.GameLines.{IsGameLine, IsStartText, promotion_letter};
+ghost use Rattle.pgn_game.specs.Public.Faults.{IsFault, IsMoveFault, IsRefusedTurn, IsRefusedWord};
+ghost use Rattle.pgn_game.specs.Public.GameLines.{AreTurnTexts, IsGameLine, IsLineText};
+ghost use Rattle.pgn_game.specs.Public.GameLines.{IsStartText, promotion_letter};
 ghost use Rattle.pgn_game.specs.Public.GameLines.{uci_text, unspaced};
-ghost use Rattle.pgn_game.specs.Private.LineTexts.{AreWritten, PutsElement, PutsMove};
+ghost use Rattle.pgn_game.specs.Private.LinePaths.{IsSoundLine};
+ghost use Rattle.pgn_game.specs.Private.LineTexts.{AreSaid, AreWritten, PutsElement, PutsMove};
+ghost use Rattle.pgn_game.specs.Private.LineTexts.{PutsTurn, words_in};
 ghost use Rattle.pgn_game.specs.Public.MainLines.{main_words};
 ghost use Rattle.pgn_game.specs.Public.Replays.{fault_of};
 ghost use Rattle.pgn_game.specs.Public.Starts.{IsStart, fen_tag};
@@ -15,8 +18,11 @@ ghost use Rattle.pgn_game.specs.declared.exports.notation.Notation.TheVariants.{
 ghost use Rattle.pgn_game.specs.declared.replays.replayer.Lines.TheVariants.{Main};
 
 use crate::exports::notation::Notation;
+use crate::exports::tokens::play_turn_san;
 use crate::replays::main_line::MainWalk;
+use crate::replays::walk::play_turn;
 use crate::turns::fault::GameFault;
+use crate::turns::line_move::LineMove;
 use crate::turns::naming::{play_named, play_named_san};
 use crate::turns::replayed::GamePosition;
 use crate::turns::starting::starting_position;
@@ -220,4 +226,117 @@ pub fn push_line<'a>(
     let start = starting_position(alloc, game.tags())?;
     push_start(out, &start)?;
     push_moves(out, start, game.elements(), notation)
+}
+
+/// Plays what the word says in the position, in a variation or not, and appends its standard text
+/// after a space; or answers its fault.
+fn push_turn_san<'a>(
+    out: &mut Vec<u8>,
+    position: &mut GamePosition,
+    inside: bool,
+    word: &'a [u8],
+) -> Result<(), GameFault<'a>>
+    ensures text { OnOk result (PutsTurn San inside position.old position.new word.now
+        out.old.items out.new.items) }
+    ensures fault { IfErr result (λ fault.
+        IfSome (fault_of fault) (IsRefusedTurn inside position.old 0 word.now)) }
+    ensures kept { (some : List ℕ) × (out.new.items ≡ out.old.items ++ some) }
+{
+    let mut san = ArrayString::new();
+    play_turn_san(position, inside, word, 1, &mut san)?;
+    push_text(out, san.as_bytes())?;
+    Ok(())
+}
+
+/// Plays what the word says in the position, in a variation or not, and appends the squares of a
+/// move or the null move after a space; or answers its fault.
+fn push_turn_uci<'a>(
+    out: &mut Vec<u8>,
+    position: &mut GamePosition,
+    inside: bool,
+    word: &'a [u8],
+) -> Result<(), GameFault<'a>>
+    ensures text { OnOk result (PutsTurn Uci inside position.old position.new word.now
+        out.old.items out.new.items) }
+    ensures fault { IfErr result (λ fault.
+        IfSome (fault_of fault) (IsRefusedTurn inside position.old 0 word.now)) }
+    ensures kept { (some : List ℕ) × (out.new.items ≡ out.old.items ++ some) }
+{
+    match play_turn(position, inside, word, 1)? {
+        LineMove::Played(m) => Ok(push_squares(out, m)?),
+        LineMove::Passed => Ok(push_text(out, b"0000")?),
+    }
+}
+
+/// Plays what the word says in the position, in a variation or not, and appends its text after a
+/// space; or answers its fault.
+fn push_turn<'a>(
+    out: &mut Vec<u8>,
+    position: &mut GamePosition,
+    inside: bool,
+    word: &'a [u8],
+    notation: Notation,
+) -> Result<(), GameFault<'a>>
+    ensures text { OnOk result (PutsTurn notation inside position.old position.new word.now
+        out.old.items out.new.items) }
+    ensures fault { IfErr result (λ fault.
+        IfSome (fault_of fault) (IsRefusedTurn inside position.old 0 word.now)) }
+    ensures kept { (some : List ℕ) × (out.new.items ≡ out.old.items ++ some) }
+{
+    match notation {
+        Notation::San => push_turn_san(out, position, inside, word),
+        Notation::Uci => push_turn_uci(out, position, inside, word),
+    }
+}
+
+/// Plays the words among the elements from the position, in a variation or not, each of which says
+/// a turn, and appends these, each after a space.
+fn push_turns<'a>(
+    out: &mut Vec<u8>,
+    start: GamePosition,
+    inside: bool,
+    elements: &[Element<'a>],
+    notation: Notation,
+) -> Result<(), AllocError>
+    requires { AreSaid inside start (words_in (map item_of elements.now)) }
+    ensures text { OnOk result ((text : List ℕ)
+        × AreTurnTexts notation inside start (words_in (map item_of elements.now)) text
+        × (out.new.items ≡ out.old.items ++ text)) }
+    ensures kept { (some : List ℕ) × (out.new.items ≡ out.old.items ++ some) }
+{
+    let mut position = start;
+    for element in elements {
+        let Element::Move(word) = *element else {
+            continue;
+        };
+        if let Err(fault) = push_turn(out, &mut position, inside, word, notation) {
+            return Err(fault.refused());
+        }
+    }
+    Ok(())
+}
+
+/// Appends a game that is one line, which is a variation or not and sound: the position that it
+/// starts from, as [`push_line`] does, and then each turn after a space. Where memory is refused,
+/// some bytes of it are appended.
+pub(crate) fn push_line_text(
+    alloc: Global,
+    line: &RawGame<'_>,
+    inside: bool,
+    notation: Notation,
+    out: &mut Vec<u8>,
+) -> Result<(), AllocError>
+    requires { IsSoundLine inside (tag_in fen_tag line.now.tags) line.now.elements }
+    ensures text { OnOk result ((text : List ℕ)
+        × IsLineText notation inside (tag_in fen_tag line.now.tags)
+        (main_words line.now.elements 0) text
+        × (out.new.items ≡ out.old.items ++ text)) }
+    ensures kept { (some : List ℕ) × (out.new.items ≡ out.old.items ++ some) }
+{
+    let first = match starting_position(alloc, line.tags()) {
+        Ok(start) => start,
+        Err(fault) => return Err(fault.refused()),
+    };
+    push_start(out, &first)?;
+    push_turns(out, first, inside, line.elements(), notation)
 }

@@ -1,4 +1,4 @@
-//! Each line of a game written as a game of its own.
+//! Each line of a game written, as a game of its own or on a line of text.
 ghost use Rattle.std.specs.Prelude.{◌≡◌, ◌++◌, ◌∷◌, ◌<◌, Bool, true, false, ℕ, List, [], IfErr};
 ghost use Rattle.std.specs.Prelude.{IfOk, IfSome, OnErr, OnOk, map, option_map};
 ghost use Rattle.std.specs.List.{AllByRecursion};
@@ -10,8 +10,9 @@ ghost use Rattle.pgn_game.specs.Public.AllLines.{Line, spelled};
 ghost use Rattle.pgn_game.specs.Public.Edits.{IsEditedLine, order_of};
 ghost use Rattle.pgn_game.specs.Public.Exports.{IsLineExport, IsLineMovetext};
 ghost use Rattle.pgn_game.specs.Public.Faults.{IsFault};
-ghost use Rattle.pgn_game.specs.Public.LineGames.{AreExportsOf, AreLineExports, WritesFirst};
-ghost use Rattle.pgn_game.specs.Public.LineGames.{line_items, lines_of, unfinished};
+ghost use Rattle.pgn_game.specs.Public.LineGames.{AreLineTexts, AreTextsOf, IsTextOfLine};
+ghost use Rattle.pgn_game.specs.Public.LineGames.{WritesFirst, layout_of, line_items, lines_of};
+ghost use Rattle.pgn_game.specs.Public.LineGames.{unfinished};
 ghost use Rattle.pgn_game.specs.Public.Replays.{IsSoundGame, fault_of};
 ghost use Rattle.pgn_game.specs.Public.Starts.{IsStart, fen_tag};
 ghost use Rattle.pgn_game.specs.Private.Editing.{plies_up_to};
@@ -24,6 +25,8 @@ ghost use Rattle.pgn_game.specs.declared.replays.replayer.Lines.TheVariants.{All
 
 use crate::exports::edits::TagEdits;
 use crate::exports::exporter::put_parts;
+use crate::exports::game_line::push_line_text;
+use crate::exports::line_form::LineForm;
 use crate::exports::movetext::play_line;
 use crate::exports::style::Style;
 use crate::replays::replayer::{Lines, check_lines};
@@ -190,7 +193,7 @@ fn unfinished_head<'b>(alloc: Global, game: &'b RawGame<'_>) -> Result<RawGame<'
     Ok(head)
 }
 
-/// How the lines of a game are written.
+/// How the lines of a game are exported.
 #[derive(Drop)]
 struct LineExport<'s> {
     alloc: Global,
@@ -263,8 +266,52 @@ impl LineExport<'_> {
             Err(fault) => Err(fault.refused()),
         }
     }
+}
 
-    /// Appends the export of the variation that begins in front of what is left of the elements, if
+/// How the lines of a game are written, and what gives memory for it.
+#[derive(Drop)]
+struct LinePrinter<'s> {
+    alloc: Global,
+    form: LineForm<'s>,
+}
+
+impl LinePrinter<'_> {
+    /// Appends the text of the game with these elements of a sound line, which is a variation or
+    /// not; where memory is refused, some bytes of it.
+    fn put_line(
+        &self,
+        game: &RawGame<'_>,
+        inside: bool,
+        elements: Vec<Element<'_>>,
+        out: &mut Vec<u8>,
+    ) -> Result<(), AllocError>
+        requires { IsSoundLine inside (tag_in fen_tag game.now.tags) (map item_of elements.items) }
+        ensures text { OnOk result ((text : List ℕ)
+            × IsTextOfLine (layout_of self.now.form) inside
+            (record game.entry.now { elements = map item_of elements.entry.items }) text
+            × (out.new.items ≡ out.old.items ++ text)) }
+        ensures kept { (some : List ℕ) × (out.new.items ≡ out.old.items ++ some) }
+    {
+        let alloc = self.alloc;
+        match self.form {
+            LineForm::Export { edits, style } => {
+                let export = LineExport {
+                    alloc,
+                    edits,
+                    style,
+                };
+                export.put_line(game, inside, elements, out)
+            }
+            LineForm::Turns { notation, before } => {
+                let line = game.with_elements(alloc, elements)?;
+                out.extend_from_slice(before)?;
+                push_line_text(alloc, &line, inside, notation, out)?;
+                out.extend_from_slice(b"\n")
+            }
+        }
+    }
+
+    /// Appends the text of the variation that begins in front of what is left of the elements, if
     /// one does; where memory is refused, some bytes of it.
     fn put_begun<'e>(
         &self,
@@ -279,7 +326,7 @@ impl LineExport<'_> {
         ensures text { OnOk result ((game : GameText)
             → head.now ≡ record (unfinished game) { elements = [] }
             → (text : List ℕ)
-            × AreExportsOf (option_map (λ edits. edits.now) self.now.edits) self.now.style.now game
+            × AreTextsOf (layout_of self.now.form) game
             (begun_at (map item_of rest.now) (track_of path.now)) text
             × (out.new.items ≡ out.old.items ++ text)) }
         ensures kept { (some : List ℕ) × (out.new.items ≡ out.old.items ++ some) }
@@ -297,11 +344,11 @@ impl LineExport<'_> {
     }
 }
 
-/// A game whose main line is written as a game of its own, and whose variations are to be.
-/// Contracts see how it is written, and which of its lines are left.
+/// A game whose main line is written, and whose variations are to be. Contracts see how it is
+/// written, and which of its lines are left.
 #[derive(Drop)]
 pub struct LineWriter<'g, 'a> {
-    export: LineExport<'g>,
+    printer: LinePrinter<'g>,
     game: &'g RawGame<'a>,
     /// The game without its elements and without a result.
     head: RawGame<'g>,
@@ -310,11 +357,12 @@ pub struct LineWriter<'g, 'a> {
 }
 
 impl<'g, 'a> Model for LineWriter<'g, 'a> {
-    ghost use Rattle.std.specs.Prelude.{◌≡◌, [], true, length, map, option_map};
+    ghost use Rattle.std.specs.Prelude.{◌≡◌, [], true, length, map};
     ghost use Rattle.std.specs.List.{AllByRecursion};
     ghost use Rattle.pgn_text.specs.Public.Elements.{item_of};
     ghost use Rattle.pgn_text.specs.Public.GameTexts.{tag_in};
-    ghost use Rattle.pgn_game.specs.Public.LineGames.{LinesLeft, line_items, unfinished};
+    ghost use Rattle.pgn_game.specs.Public.LineGames.{LinesLeft, layout_of, line_items};
+    ghost use Rattle.pgn_game.specs.Public.LineGames.{unfinished};
     ghost use Rattle.pgn_game.specs.Public.Starts.{fen_tag};
     ghost use Rattle.pgn_game.specs.Private.LinePaths.{IsNested, IsSoundLine, track_of};
     ghost use Rattle.pgn_game.specs.Private.LinePaths.{tracks_around, variations_left};
@@ -322,8 +370,7 @@ impl<'g, 'a> Model for LineWriter<'g, 'a> {
     ghost Value = { LinesLeft };
 
     ghost view = { λ own. record {
-      edits = option_map (λ edits. edits.now) own.export.edits;
-      style = own.export.style.now;
+      layout = layout_of own.printer.form;
       game = own.game.now;
       lines = variations_left (map item_of own.rest.now) (track_of own.path)
           (tracks_around own.path);
@@ -341,36 +388,29 @@ impl<'g, 'a> Model for LineWriter<'g, 'a> {
 }
 
 impl<'g, 'a> LineWriter<'g, 'a> {
-    /// Appends the export of the main line of a game whose lines are sound, after the edits. Where
-    /// memory is refused, some bytes of it are appended.
+    /// Appends the text of the main line of a game whose lines are sound. Where memory is refused,
+    /// some bytes of it are appended.
     pub fn begin(
         alloc: Global,
         game: &'g RawGame<'a>,
-        edits: Option<&'g TagEdits>,
-        style: &'g Style,
+        form: LineForm<'g>,
         out: &mut Vec<u8>,
     ) -> Result<Self, AllocError>
         requires { IsSoundGame All (tag_in fen_tag game.now.tags) game.now.elements }
         ensures text { IfOk result (λ left. (line : Line) × (text : List ℕ)
             × (game.now.elements ≡ spelled line)
-            × WritesFirst (option_map (λ edits. edits.now) edits.entry) style.now game.now
-            (lines_of line) left.lines text
+            × WritesFirst (layout_of form.entry) game.now (lines_of line) left.lines text
             × (out.new.items ≡ out.old.items ++ text)) }
         ensures how { IfOk result (λ left.
-            (left.edits ≡ option_map (λ edits. edits.now) edits.entry)
-            × (left.style ≡ style.now) × (left.game ≡ game.now)) }
+            (left.layout ≡ layout_of form.entry) × (left.game ≡ game.now)) }
         ensures kept { (some : List ℕ) × (out.new.items ≡ out.old.items ++ some) }
     {
-        let export = LineExport {
-            alloc,
-            edits,
-            style,
-        };
+        let printer = LinePrinter { alloc, form };
         let mut main = Vec::new(alloc);
         push_own(&mut main, game.elements())?;
-        export.put_line(game, false, main, out)?;
+        printer.put_line(game, false, main, out)?;
         Ok(LineWriter {
-            export,
+            printer,
             game,
             head: unfinished_head(alloc, game)?,
             path: Path::new(alloc),
@@ -378,18 +418,16 @@ impl<'g, 'a> LineWriter<'g, 'a> {
         })
     }
 
-    /// Goes on by an element, and appends the export of the variation that begins with it, if one
+    /// Goes on by an element, and appends the text of the variation that begins with it, if one
     /// does: true where there is an element, false where no line is left. Where memory is refused,
-    /// some bytes of the export are appended.
+    /// some bytes of the text are appended.
     pub fn put_next(&mut self, out: &mut Vec<u8>) -> Result<bool, AllocError>
         ensures text { OnOk result ((text : List ℕ)
-            × WritesFirst self.old.edits self.old.style self.old.game self.old.lines self.new.lines
-            text
+            × WritesFirst self.old.layout self.old.game self.old.lines self.new.lines text
             × (out.new.items ≡ out.old.items ++ text)) }
         ensures left { IfOk result (λ more. (more ≡ true → self.new.steps < self.old.steps)
             × (more ≡ false → self.new.lines ≡ [])) }
-        ensures how { (self.new.edits ≡ self.old.edits) × (self.new.style ≡ self.old.style)
-            × (self.new.game ≡ self.old.game) }
+        ensures how { (self.new.layout ≡ self.old.layout) × (self.new.game ≡ self.old.game) }
         ensures kept { (some : List ℕ) × (out.new.items ≡ out.old.items ++ some) }
     {
         let rest = self.rest;
@@ -397,45 +435,41 @@ impl<'g, 'a> LineWriter<'g, 'a> {
         let [element, after @ ..] = rest else {
             return Ok(false);
         };
-        self.export.put_begun(&self.head, &self.path, rest, out)?;
+        self.printer.put_begun(&self.head, &self.path, rest, out)?;
         self.path.step(*element)?;
         self.rest = after;
         Ok(true)
     }
 }
 
-/// Appends the exports of the lines of the game; where memory is refused, some bytes of them.
+/// Appends the texts of the lines of the game; where memory is refused, some bytes of them.
 fn put_lines(
     alloc: Global,
     game: &RawGame<'_>,
-    edits: Option<&TagEdits>,
-    style: &Style,
+    form: LineForm<'_>,
     out: &mut Vec<u8>,
 ) -> Result<(), AllocError>
     requires { IsSoundGame All (tag_in fen_tag game.now.tags) game.now.elements }
-    ensures text { OnOk result ((text : List ℕ)
-        × AreLineExports (option_map (λ edits. edits.now) edits.entry) style.now game.now text
+    ensures text { OnOk result ((text : List ℕ) × AreLineTexts (layout_of form.entry) game.now text
         × (out.new.items ≡ out.old.items ++ text)) }
     ensures kept { (some : List ℕ) × (out.new.items ≡ out.old.items ++ some) }
 {
-    let mut left = LineWriter::begin(alloc, game, edits, style, out)?;
+    let mut left = LineWriter::begin(alloc, game, form, out)?;
     while left.put_next(out)? {}
     Ok(())
 }
 
-/// Appends each line of the game in the export format as a game of its own, after the edits: the
-/// main line, and then the variations in the order of the text, each with the moves that lead to
-/// it, with the game's tags, and without a result. Where a line of the game is faulty, its first
-/// fault is answered; then, and where memory is refused, nothing is appended.
+/// Appends each line of the game in the form: the main line, and then the variations in the order
+/// of the text, each with the moves that lead to it, as a game with the game's tags and without a
+/// result. Where a line of the game is faulty, its first fault is answered; then, and where memory
+/// is refused, nothing is appended.
 pub fn export_lines<'a>(
     alloc: Global,
     game: &RawGame<'a>,
-    edits: Option<&TagEdits>,
-    style: &Style,
+    form: LineForm<'_>,
     out: &mut Vec<u8>,
 ) -> Result<(), GameFault<'a>>
-    ensures text { OnOk result ((text : List ℕ)
-        × AreLineExports (option_map (λ edits. edits.now) edits.entry) style.now game.now text
+    ensures text { OnOk result ((text : List ℕ) × AreLineTexts (layout_of form.entry) game.now text
         × (out.new.items ≡ out.old.items ++ text)) }
     ensures sound { OnOk result
         (IsSoundGame All (tag_in fen_tag game.now.tags) game.now.elements) }
@@ -445,7 +479,7 @@ pub fn export_lines<'a>(
 {
     check_lines(alloc, game, Lines::All)?;
     let length = out.len();
-    let put = put_lines(alloc, game, edits, style, out);
+    let put = put_lines(alloc, game, form, out);
     if put.is_err() {
         out.truncate(length);
     }

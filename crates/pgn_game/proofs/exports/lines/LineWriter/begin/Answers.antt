@@ -1,8 +1,7 @@
-use Rattle.std.specs.Prelude.{option_map}
 use Rattle.pgn_game.proofs.Common.{[], ◌∷◌, ◌++◌, ◌∙◌, ap, refl, sym, subst, append-nil, map}
 use Rattle.pgn_game.proofs.Common.{item_of, true, false, tag_in, fen_tag, AllByRecursion, GameText}
-use Rattle.pgn_game.specs.Public.Edits.{IsEditedLine}
-use Rattle.pgn_game.specs.Public.LineGames.{LineGame, line_items, own_items}
+use Rattle.pgn_game.specs.Public.LineGames.{IsTextOfLine, LineGame, layout_of, line_items}
+use Rattle.pgn_game.specs.Public.LineGames.{own_items}
 use Rattle.pgn_game.specs.Private.LinePaths.{IsSoundLine, first_track, own_front, track_of}
 use Rattle.pgn_game.specs.Private.LinePaths.{tracks_around, variations_left}
 use Rattle.pgn_game.proofs.exports.LinePathFacts.{same_left}
@@ -49,8 +48,7 @@ invariant_of-result c =
 pub returns-clause-text : goal.returns-clause-text
 returns-clause-text c =
     let game = c.args.game.now in
-    let edits = option_map (λ own. own.now) c.args.edits in
-    let style = c.args.style.now in
+    let layout = layout_of c.args.form in
     let lines = sound_lines (tag_in fen_tag game.tags) game.elements c.requires in
     let main = c.in_ok-push_own.ensures
     ∙ ap (λ some. map item_of some ++ own_front (map item_of c.elements.result.now) 0)
@@ -74,7 +72,7 @@ returns-clause-text c =
           own,
           [],
           sym (append-nil own),
-          subst (λ items. IsEditedLine false edits style (record game { elements = items }) own)
+          subst (λ items. IsTextOfLine layout false (record game { elements = items }) own)
               main edited,
           refl,
         ),

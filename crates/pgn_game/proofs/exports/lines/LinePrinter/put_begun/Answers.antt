@@ -1,11 +1,10 @@
-use Rattle.std.specs.Prelude.{option_map}
 use Rattle.pgn_game.proofs.Common.{[], ◌∙◌, ap, refl, sym, subst, append-nil, map, item_of, true}
 use Rattle.pgn_game.proofs.Common.{tag_in, fen_tag, AllByRecursion, GameText, on_ok_weaker}
-use Rattle.pgn_game.specs.Public.Edits.{IsEditedLine}
-use Rattle.pgn_game.specs.Public.LineGames.{AreExportsOf, LineGame, line_items, unfinished}
+use Rattle.pgn_game.specs.Public.LineGames.{AreTextsOf, IsTextOfLine, LineGame, layout_of}
+use Rattle.pgn_game.specs.Public.LineGames.{line_items, unfinished}
 use Rattle.pgn_game.specs.Private.LinePaths.{IsSoundLine, track_of}
 use Rattle.pgn_game.proofs.exports.LinePathFacts.{begun_here, first_item}
-use Rattle.pgn_game.proofs.exports.lines.LineExport.put_begun.Goals as goal
+use Rattle.pgn_game.proofs.exports.lines.LinePrinter.put_begun.Goals as goal
 
 pub put_line-requires : goal.put_line-requires
 put_line-requires c =
@@ -21,18 +20,17 @@ put_line-requires c =
 pub returns-in_ok-branch-in-Open-clause-text : goal.returns-in_ok-branch-in-Open-clause-text
 returns-in_ok-branch-in-Open-clause-text c =
     let rest = c.args.rest.now in
-    let edits = option_map (λ own. own.now) c.args.self.now.edits in
-    let style = c.args.self.now.style.now in
+    let layout = layout_of c.args.self.now.form in
     let own = map item_of c.in_ok-branch-in-Open.branch.items in
     let here = begun_here rest _ _ (track_of c.args.path.now) c.in-Open.is
     (first_item rest _ c.in-len1-up.len_at_least) in
     on_ok_weaker c.put_line.result (λ (text, exports, put) game head_is. (
       text,
-      subst (λ lines. AreExportsOf edits style game lines text) (sym here) (
+      subst (λ lines. AreTextsOf layout game lines text) (sym here) (
         text,
         [],
         sym (append-nil text),
-        subst (λ (g : GameText). IsEditedLine true edits style g text)
+        subst (λ (g : GameText). IsTextOfLine layout true g text)
             (ap (λ (head : GameText). record head { elements = own }) head_is
             ∙ ap (λ items. record (unfinished game) { elements = items })
             c.in_ok-branch-in-Open.ensures) exports,
