@@ -66,10 +66,10 @@ _pgn_extract_excluded() {
         --plycount --order --to-ply --from-position --lines ;;
     --moves) _pgn_extract_without --list --fen --next --rows --csv --tsv --jsonl --no-header \
         --packed --index --uci --pack --faulty --as-is --set --drop --fix-results --plycount \
-        --order --to-ply --from-position --lines ;;
+        --order --to-ply --from-position ;;
     --uci) _pgn_extract_without --list --fen --next --rows --csv --tsv --jsonl --no-header \
         --packed --index --moves --pack --faulty --as-is --set --drop --fix-results --plycount \
-        --order --to-ply --from-position --lines ;;
+        --order --to-ply --from-position ;;
     --pack) _pgn_extract_without --list --fen --next --rows --csv --tsv --jsonl --no-header \
         --packed --index --moves --uci --tags-first --faulty --as-is -C --no-comments \
         --keep-commands --strip-commands -N --no-glyphs -V --no-variations --roster -w --width \
@@ -110,8 +110,8 @@ _pgn_extract_excluded() {
     --from-position) _pgn_extract_without --list --fen --next --rows --csv --tsv --jsonl \
         --no-header --packed --index --moves --uci --pack --others --faulty --as-is --lines ;;
     --lines) _pgn_extract_without --list --fen --next --rows --csv --tsv --jsonl --no-header \
-        --packed --index --moves --uci --pack --criteria --where --openings --min-ply --tags-first \
-        --others --faulty --as-is -V --no-variations --from-position ;;
+        --packed --index --pack --criteria --where --openings --min-ply --tags-first --others \
+        --faulty --as-is -V --no-variations --from-position ;;
     --progress) _pgn_extract_without --no-progress ;;
     --no-progress) _pgn_extract_without --progress ;;
     --from) _pgn_extract_without --packed ;;

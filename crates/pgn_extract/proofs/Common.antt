@@ -96,6 +96,7 @@ pub use Rattle.pgn_extract.specs.declared.settings.Fields.{Fields}
 pub use Rattle.pgn_extract.specs.declared.settings.Form.{Form}
 pub use Rattle.pgn_extract.specs.declared.settings.Form.TheVariants.{AsItStands, Line, Record}
 pub use Rattle.pgn_extract.specs.declared.settings.Form.TheVariants.{EachLine, FromEntry, Standard}
+pub use Rattle.pgn_extract.specs.declared.settings.Form.TheVariants.{LineOfEach}
 pub use Rattle.pgn_extract.specs.declared.settings.Mode.{Mode}
 pub use Rattle.pgn_extract.specs.declared.settings.Select.{Select}
 pub use Rattle.pgn_extract.specs.declared.settings.Select.TheVariants.{Faulty, Matching, Others}

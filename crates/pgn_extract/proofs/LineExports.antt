@@ -10,10 +10,12 @@ use Rattle.pgn_game.proofs.SomeLines.{sound_up_to, start_of_line}
 use Rattle.pgn_game.specs.Public.Edits.{Edits, IsEditedLine, IsTagged, all_edits, up_to}
 use Rattle.pgn_game.specs.Public.Exports.{IsLineExport}
 use Rattle.pgn_game.specs.Public.AllLines.{Line, spelled}
-use Rattle.pgn_game.specs.Public.LineGames.{AreExportsOf, AreLineExports, LineGame, WritesFirst}
-use Rattle.pgn_game.specs.Public.LineGames.{as_game, ending_as, line_items, lines_of}
+use Rattle.pgn_game.specs.Public.LineGames.{AreLineTexts, AreTextsOf, AsExports, IsTextOfLine}
+use Rattle.pgn_game.specs.Public.LineGames.{LineGame, LineLayout, OnLines, WritesFirst, as_game}
+use Rattle.pgn_game.specs.Public.LineGames.{ending_as, line_items, lines_of}
 use Rattle.pgn_game.proofs.Spelling.{one_tree}
-use Rattle.pgn_game.proofs.LinesInRow.{all_parted, exports_joined}
+use Rattle.pgn_game.proofs.LinesInRow.{all_parted, texts_joined}
+use Rattle.pgn_game.proofs.TurnTextFacts.{some_line_text}
 use Rattle.pgn_game.specs.Public.Replays.{IsSoundGame}
 use Rattle.pgn_game.specs.declared.replays.replayer.Lines.TheVariants.{All}
 use Rattle.pgn_extract.proofs.SomeEdited.{edits_or_not, own_edited_line, some_edited, up_to_good}
@@ -48,31 +50,41 @@ some_edited_line inside (Some edits) style game good sound =
     (up_to_good edits.last_ply game good) (sound_up_to inside edits.last_ply game sound) in
     (text, (own, is, exports))
 
-module _ (edits : Option Edits) (style : Style) (game : GameText) (good : IsGameText game) where
-  some_exports : (lines : List LineGame)
+some_text_of_line : (layout : LineLayout) (inside : Bool) (line : GameText) → IsGameText line
+    → LineIsSound inside (tag_in fen_tag line.tags) line.elements
+    → (text : List ℕ) × IsTextOfLine layout inside line text
+some_text_of_line (AsExports edits style) inside line good sound =
+    some_edited_line inside edits style line good sound
+some_text_of_line (OnLines notation before) inside line good sound =
+    let (own, is) =
+    some_line_text notation inside (tag_in fen_tag line.tags) line.elements sound in
+    (before ++ own ++ 10 ∷ [], (own, is, refl))
+
+module _ (layout : LineLayout) (game : GameText) (good : IsGameText game) where
+  some_texts : (lines : List LineGame)
       → AllByRecursion (λ (line : LineGame). LineIsSound line.inside (tag_in fen_tag game.tags)
       (line_items line)) lines
-      → (text : List ℕ) × AreExportsOf edits style game lines text
-  some_exports [] all = ([], refl)
-  some_exports (line ∷ more) (sound, all) =
-      let (rest, later) = some_exports more all in
+      → (text : List ℕ) × AreTextsOf layout game lines text
+  some_texts [] all = ([], refl)
+  some_texts (line ∷ more) (sound, all) =
+      let (rest, later) = some_texts more all in
       let (own, is) =
-      some_edited_line line.inside edits style (as_game game line) (good_line game good line sound)
+      some_text_of_line layout line.inside (as_game game line) (good_line game good line sound)
       (rw (start_of_line game good line) sound) in
       (own ++ rest, (own, rest, refl, is, later))
 
-  pub some_line_exports : IsSoundGame All (tag_in fen_tag game.tags) game.elements
-      → (text : List ℕ) × AreLineExports edits style game text
-  some_line_exports sound =
+  pub some_line_texts : IsSoundGame All (tag_in fen_tag game.tags) game.elements
+      → (text : List ℕ) × AreLineTexts layout game text
+  some_line_texts sound =
       let (line, spells, all) = each_line_sound (tag_in fen_tag game.tags) game.elements sound in
-      let (text, exports) = some_exports (lines_of line) all in
-      (text, (line, spells, exports))
+      let (text, are) = some_texts (lines_of line) all in
+      (text, (line, spells, are))
 
   -- and where the first of them are written, the others have one
   pub some_rest : IsSoundGame All (tag_in fen_tag game.tags) game.elements → (line : Line)
       → game.elements ≡ spelled line → (left : List LineGame) (text : List ℕ)
-      → WritesFirst edits style game (lines_of line) left text
-      → (more : List ℕ) × AreLineExports edits style game (text ++ more)
+      → WritesFirst layout game (lines_of line) left text
+      → (more : List ℕ) × AreLineTexts layout game (text ++ more)
   some_rest sound line spells left text (first, parted, put) =
       let fen = tag_in fen_tag game.tags in
       let (own, spelled_so, all) = each_line_sound fen game.elements sound in
@@ -81,13 +93,13 @@ module _ (edits : Option Edits) (style : Style) (game : GameText) (good : IsGame
       λ one. LineIsSound one.inside fen (line_items one) in
       let parts = all_parted Sound first left
       (subst (AllByRecursion Sound) (ap lines_of same ∙ parted) all) in
-      let (more, exports) = some_exports left parts.1 in (
+      let (more, are) = some_texts left parts.1 in (
         more,
         (
           line,
           spells,
-          subst (λ lines. AreExportsOf edits style game lines (text ++ more)) (sym parted)
-              (exports_joined edits style game first left text more put exports),
+          subst (λ lines. AreTextsOf layout game lines (text ++ more)) (sym parted)
+              (texts_joined layout game first left text more put are),
         ),
       )
 
@@ -103,20 +115,25 @@ as_itself game line = by line.inside
     by true = refl
     by false = refl
 
-own_exports : (edits : Option Edits) (style : Style) (game : GameText) (lines : List LineGame)
-    (text : List ℕ) → AreExportsOf edits style game lines text
-    → AreExportsOf edits style (by_itself game) lines text
-own_exports edits style game [] text is = is
-own_exports edits style game (line ∷ more) text (own, rest, parted, is, later) = (
+own_text_of_line : (layout : LineLayout) (inside : Bool) (line : GameText) (text : List ℕ)
+    → IsTextOfLine layout inside line text → IsTextOfLine layout inside (by_itself line) text
+own_text_of_line (AsExports edits style) inside line text is =
+    own_edited_line inside edits style line text is
+own_text_of_line (OnLines notation before) inside line text is = is
+
+own_texts : (layout : LineLayout) (game : GameText) (lines : List LineGame) (text : List ℕ)
+    → AreTextsOf layout game lines text → AreTextsOf layout (by_itself game) lines text
+own_texts layout game [] text is = is
+own_texts layout game (line ∷ more) text (own, rest, parted, is, later) = (
   own,
   rest,
   parted,
-  subst (λ g. IsEditedLine line.inside edits style g own) (as_itself game line)
-      (own_edited_line line.inside edits style (as_game game line) own is),
-  own_exports edits style game more rest later,
+  subst (λ g. IsTextOfLine layout line.inside g own) (as_itself game line)
+      (own_text_of_line layout line.inside (as_game game line) own is),
+  own_texts layout game more rest later,
 )
 
-pub own_line_exports : (edits : Option Edits) (style : Style) (game : GameText) (text : List ℕ)
-    → AreLineExports edits style game text → AreLineExports edits style (by_itself game) text
-own_line_exports edits style game text (line, spells, is) =
-    (line, spells, own_exports edits style game (lines_of line) text is)
+pub own_line_texts : (layout : LineLayout) (game : GameText) (text : List ℕ)
+    → AreLineTexts layout game text → AreLineTexts layout (by_itself game) text
+own_line_texts layout game text (line, spells, is) =
+    (line, spells, own_texts layout game (lines_of line) text is)

@@ -11,7 +11,9 @@ use Rattle.pgn_extract.proofs.Common.{IsGameText, ShowsGame, tag_in, Part, spell
 use Rattle.pgn_extract.proofs.Common.{Lines, Main, fen_tag, id_of, IfChosen, is_chosen}
 use Rattle.pgn_extract.proofs.Common.{fault_text, mark_line, IsGameOf, listing, plies_of}
 use Rattle.pgn_extract.proofs.Common.{cause_text, IsReplayOf, Form, Standard, AsItStands}
-use Rattle.pgn_extract.proofs.Common.{EachLine, FromEntry, None, Some}
+use Rattle.pgn_extract.proofs.Common.{EachLine, FromEntry, LineOfEach, None, Some}
+use Rattle.pgn_extract.specs.Public.Exports.{line_begin}
+use Rattle.pgn_game.specs.Public.LineGames.{AsExports, OnLines}
 use Rattle.pgn_extract.proofs.FieldTexts.{some_position}
 use Rattle.pgn_extract.proofs.LaterGames.{main_sound, some_later}
 use Rattle.pgn_game.proofs.BegunGames.{later_sound}
@@ -25,7 +27,7 @@ use Rattle.pgn_extract.proofs.Common.{IsUnreadableVerdict, Replay, Heading, head
 use Rattle.pgn_extract.proofs.Common.{IsMet, IsWanted, IsEntry, Mode}
 use Rattle.pgn_text.specs.Public.Pieces.{Piece, Game, Unreadable, ArePieces}
 use Rattle.pgn_text.proofs.ShownGame.{some_game_text}
-use Rattle.pgn_extract.proofs.LineExports.{some_line_exports}
+use Rattle.pgn_extract.proofs.LineExports.{some_line_texts}
 use Rattle.pgn_extract.proofs.SomeEdited.{some_edited_export}
 use Rattle.pgn_game.proofs.SomeRecord.{a_record}
 use Rattle.pgn_game.proofs.GameLineFacts.{some_line}
@@ -198,7 +200,10 @@ module _ (aim : Aim) (decided : IsDecided aim) (id : GameId) (game : GameText)
             (later_sound (lines_with aim.style.variations) ply game later (replay, is) begins) in
             (some.0, (main, Some ply, later, own, (less, wanted, least), begins, some.1))
       ]
-  some_text EachLine replay is = some_line_exports aim.edits aim.style game text (replay, is)
+  some_text EachLine replay is =
+      some_line_texts (AsExports aim.edits aim.style) game text (replay, is)
+  some_text (LineOfEach notation) replay is =
+      some_line_texts (OnLines notation (line_begin aim.name id)) game text (replay, is)
   some_text AsItStands replay is = (as_it_stands game.text, refl)
   some_text (Line notation) replay is =
       let own = some_line notation (tag_in fen_tag game.tags) game.elements (replay, is) in

@@ -86,6 +86,8 @@ pub enum Form {
     FromEntry,
     /// Each of its lines in the standard's format, as a game of its own.
     EachLine,
+    /// Each of its lines on a line of its own, as `Line`, with its turns in this notation.
+    LineOfEach(Notation),
     /// As it stands, followed by two line feeds.
     AsItStands,
     /// On a line of its own: its mark, the position that it starts from, and the moves of its main

@@ -19,24 +19,44 @@ use Rattle.pgn_text.specs.declared.game.pieces.Piece.{Piece}
 use Rattle.pgn_text.specs.declared.game.pieces.Piece.TheVariants as given
 use Rattle.pgn_text.specs.Public.Pieces as spec
 use Rattle.pgn_game.specs.Public.Faults.{IsFault}
-use Rattle.pgn_game.specs.Public.LineGames.{AreLineExports}
+use Rattle.pgn_game.specs.Public.LineGames.{AreLineTexts}
 use Rattle.pgn_game.specs.Public.Openings.{NamedLine}
 use Rattle.pgn_game.specs.Public.Replays.{IsSoundGame}
 use Rattle.pgn_game.specs.declared.replays.replayer.Lines.TheVariants.{All}
-use Rattle.pgn_extract.specs.Private.Blockwise.{BeginsVerdict, ExportsLines, OfPiece}
-use Rattle.pgn_extract.specs.Private.Blockwise.{PassesVerdict}
+use Rattle.pgn_extract.specs.Private.Blockwise.{BeginsVerdict, ExportsLines, IsOfLines, OfPiece}
+use Rattle.pgn_extract.specs.Private.Blockwise.{PassesVerdict, line_layout}
+use Rattle.pgn_extract.specs.Public.Exports.{line_begin}
+use Rattle.pgn_game.specs.declared.exports.style.Style.{Style}
 use Rattle.pgn_extract.specs.Public.Listing.{CountsAs}
 use Rattle.pgn_extract.specs.declared.settings.Mode.TheVariants as modes
 use Rattle.pgn_extract.specs.declared.settings.Select.{Select}
 use Rattle.pgn_extract.proofs.BlockWritten.{front_none}
 use Rattle.pgn_extract.proofs.ChoiceFacts.{if_taken}
 use Rattle.pgn_extract.proofs.Counting.{counts_there}
-use Rattle.pgn_extract.proofs.LineExports.{own_line_exports}
+use Rattle.pgn_extract.proofs.LineExports.{own_line_texts}
 use Rattle.pgn_extract.proofs.TagsFirst.{played_verdict}
 use Rattle.pgn_extract.proofs.Writing.{appends_join}
 use Rattle.pgn_extract.proofs.engine.AllTaken.{all_written}
 use Rattle.pgn_extract.proofs.engine.Beginnings.{front_join}
 use Rattle.pgn_extract.proofs.engine.Gathered.{adds_passing}
+
+-- ---- the form
+
+all_lines : (form : Form) (style : Style) → IsOfLines form → lines_in form style ≡ All
+all_lines form style (inl is) = ap (λ (f : Form). lines_in f style) is
+all_lines form style (inr (notation, is)) = ap (λ (f : Form). lines_in f style) is
+
+text_in : (form : Form) (aim : Aim) (id : GameId) (game : GameText) (text : List ℕ)
+    → IsOfLines form → AreLineTexts (line_layout form aim (line_begin aim.name id)) game text
+    → IsTextOf form aim id game text
+text_in form aim id game text (inl is) are =
+    subst (λ (f : Form). IsTextOf f aim id game text) (sym is)
+    (subst (λ (f : Form). AreLineTexts (line_layout f aim (line_begin aim.name id)) game text) is
+    are)
+text_in form aim id game text (inr (notation, is)) are =
+    subst (λ (f : Form). IsTextOf f aim id game text) (sym is)
+    (subst (λ (f : Form). AreLineTexts (line_layout f aim (line_begin aim.name id)) game text) is
+    are)
 
 -- ---- the verdict
 
@@ -60,21 +80,22 @@ module _ (aim : Aim) (all : ExportsLines aim) (id : GameId) (game : GameText)
             (not_out _) is,
       )
 
-  -- of a sound game it is the exports of its lines
+  -- of a sound game it is the texts of its lines
   pub lines_verdict : (text : List ℕ)
       → IsSoundGame All (tag_in fen_tag game.tags) game.elements
-      → AreLineExports aim.edits aim.style game text
+      → AreLineTexts (line_layout aim.form aim (line_begin aim.name id)) game text
       → (at : ℕ) (parts : List Part) → ShowsGame game at parts
       → IsVerdictIn aim.mode aim id parts (SoundGame text)
   lines_verdict text (replay, sound) exports =
       let played : IsReplayOf (lines_in aim.form aim.style) game replay =
-      subst (λ (f : Form). IsReplayOf (lines_in f aim.style) game replay) (sym all.form) sound in
+      subst (λ lines. IsReplayOf lines game replay)
+      (sym (all_lines aim.form aim.style all.form)) sound in
       replayed (SoundGame text) (
         replay,
         played,
         all_written aim id game replay text all.all played
-            (subst (λ (f : Form). IsTextOf f aim id (by_itself game) text) (sym all.form)
-            (own_line_exports aim.edits aim.style game text exports)),
+            (text_in aim.form aim id (by_itself game) text all.form
+            (own_line_texts (line_layout aim.form aim (line_begin aim.name id)) game text exports)),
       )
 
   -- of another its fault
@@ -85,7 +106,8 @@ module _ (aim : Aim) (all : ExportsLines aim) (id : GameId) (game : GameText)
       (FaultyGame [] (fault_text aim.name id (cause_text fault)) note)
   fault_verdict fault note met noted =
       let faulty : IsFaultOf (lines_in aim.form aim.style) game fault =
-      subst (λ (f : Form). IsFaultOf (lines_in f aim.style) game fault) (sym all.form) met in
+      subst (λ lines. IsFaultOf lines game fault) (sym (all_lines aim.form aim.style all.form))
+      met in
       replayed (FaultyGame [] (fault_text aim.name id (cause_text fault)) note) (
         fault,
         faulty,

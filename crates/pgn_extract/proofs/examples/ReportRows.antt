@@ -68,9 +68,10 @@ matching_are_selected request = refl
 record_is_asked : (request : Request) → asked_form (record request { pack = true }) ≡ Record
 record_is_asked request = refl
 
-lines_are_asked : (request : Request) → asked_form (record request { pack = false; moves = true })
-    ∷ asked_form (record request { pack = false; moves = false; uci = true }) ∷ [] ≡ Line San
-    ∷ Line Uci ∷ []
+lines_are_asked : (request : Request)
+    → asked_form (record request { pack = false; moves = true; lines = false })
+    ∷ asked_form (record request { pack = false; moves = false; uci = true; lines = false })
+    ∷ [] ≡ Line San ∷ Line Uci ∷ []
 lines_are_asked request = refl
 
 bytes_are_asked : (request : Request)

@@ -10,6 +10,7 @@ use Rattle.pgn_extract.proofs.Common.{sym, subst, ◌∙◌, Aim}
 use Rattle.pgn_extract.proofs.Common.{game_id, bad_mark, begin_of, end_of, first_line}
 use Rattle.pgn_extract.proofs.Common.{is_one_line, option_refusals, refused, text_refusals, Request}
 use Rattle.pgn_extract.proofs.Common.{Standard, AsItStands, EachLine, FromEntry, Line, Record}
+use Rattle.pgn_extract.proofs.Common.{LineOfEach}
 use Rattle.pgn_extract.proofs.Common.{Matching, Others, Faulty}
 use Rattle.pgn_criteria.specs.Public.Conditions.{Conditions}
 use Rattle.pgn_criteria.specs.Public.Lines.{SpellsCriteria}
@@ -276,10 +277,13 @@ positions_of_games request no_sets no_drops = (
 -- and lines where they are, none of them twice
 abbrev no_lines_written : List ℕ
 no_lines_written = codes
-    "pgn-extract: --lines goes with none of --list, --index, --rows, --moves, --uci, --pack, --as-is, --faulty, --others, --criteria, --where, --min-ply, --openings, --from-position and -V\n"
+    "pgn-extract: --lines goes with none of --list, --index, --rows, --pack, --as-is, --faulty, --others, --criteria, --where, --min-ply, --openings, --from-position and -V\n"
 
 lines_of_games : (request : Request) (path : Bor (List ℕ)) → request.conditions.items ≡ []
+    → request.sets.items ≡ [] → request.drops.items ≡ []
     → IsTaken (record (plain request) { lines = true; roster = true; criteria = None })
+    × IsTaken (record (plain request) { lines = true; moves = true; criteria = None })
+    × IsTaken (record (plain request) { lines = true; uci = true; criteria = None })
     × RefusedWith (record (plain request) { lines = true; list = true }) no_lines_written
     × RefusedWith (record (plain request) { lines = true; pack = true }) no_lines_written
     × RefusedWith (record (plain request) { lines = true; faulty = true }) no_lines_written
@@ -291,8 +295,10 @@ lines_of_games : (request : Request) (path : Bor (List ℕ)) → request.conditi
     no_lines_written
     × RefusedWith (record (plain request) { lines = true; no_variations = true; criteria = None })
     no_lines_written
-lines_of_games request path none = (
+lines_of_games request path none no_sets no_drops = (
   rw none refl,
+  rw (none, no_sets, no_drops) refl,
+  rw (none, no_sets, no_drops) refl,
   refl,
   refl,
   refl,
@@ -544,6 +550,8 @@ each_asked : (request : Request)
     × ((asked_alone (record (plain request) { as_is = true })).form ≡ AsItStands)
     × ((asked_alone (record (plain request) { from_position = true })).form ≡ FromEntry)
     × ((asked_alone (record (plain request) { lines = true })).form ≡ EachLine)
+    × ((asked_alone (record (plain request) { lines = true; moves = true })).form ≡ LineOfEach San)
+    × ((asked_alone (record (plain request) { lines = true; uci = true })).form ≡ LineOfEach Uci)
     × ((asked_alone (record (plain request) { moves = true })).form ≡ Line San)
     × ((asked_alone (record (plain request) { uci = true })).form ≡ Line Uci)
     × ((asked_alone (record (plain request) { pack = true })).form ≡ Record)
@@ -560,6 +568,8 @@ each_asked : (request : Request)
     × ((asked true (plain request) no_given).explain ≡ true)
     × ((asked false (plain request) (record no_given { chosen = Some [] })).chosen ≡ Some [])
 each_asked request = (
+  refl,
+  refl,
   refl,
   refl,
   refl,

@@ -7,7 +7,7 @@ use Rattle.pgn_extract.proofs.Common.{Aim, GameId, IsWanted, AreExports, HasEntr
 use Rattle.pgn_extract.proofs.Common.{IsPieceExport, IsTextOf, IsWritten, faulty, sound, selected}
 use Rattle.pgn_extract.proofs.Common.{unselected, written_lines, IsReplayOf, id_of, is_chosen}
 use Rattle.pgn_extract.proofs.Common.{heading_of, Form, Standard, AsItStands, Line, Record}
-use Rattle.pgn_extract.proofs.Common.{EachLine, FromEntry}
+use Rattle.pgn_extract.proofs.Common.{EachLine, FromEntry, LineOfEach}
 use Rattle.pgn_extract.specs.Public.Laws.{FirstChangesNoExport, with_first}
 use Rattle.pgn_extract.proofs.ChoiceFacts.{choice_of}
 use Rattle.pgn_extract.proofs.Decided.{all_decided}
@@ -21,6 +21,7 @@ text_of_any : (aim : Aim) (id : GameId) (game : GameText) (text : List ℕ) (for
 text_of_any aim id game text Standard first other own = own
 text_of_any aim id game text FromEntry first other own = own
 text_of_any aim id game text EachLine first other own = own
+text_of_any aim id game text (LineOfEach notation) first other own = own
 text_of_any aim id game text AsItStands first other own = own
 text_of_any aim id game text (Line notation) first other own = own
 text_of_any aim id game text Record first other own = own

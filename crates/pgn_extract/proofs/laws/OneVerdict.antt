@@ -25,7 +25,9 @@ use Rattle.pgn_extract.proofs.Counting.{one_counted}
 use Rattle.pgn_game.proofs.OneEdited.{one_edited_line}
 use Rattle.pgn_game.proofs.laws.LinesOnce.{one_text_of_lines}
 use Rattle.pgn_extract.proofs.LaterGames.{one_first, one_from}
-use Rattle.pgn_extract.proofs.Common.{EachLine, FromEntry, Main}
+use Rattle.pgn_extract.proofs.Common.{EachLine, FromEntry, LineOfEach, Main}
+use Rattle.pgn_extract.specs.Public.Exports.{line_begin}
+use Rattle.pgn_game.specs.Public.LineGames.{AsExports, OnLines}
 use Rattle.pgn_extract.specs.Public.Exports.{IsFirstOrNone, IsFromEntry}
 use Rattle.pgn_game.specs.Public.Edits.{IsEditedExport}
 use Rattle.pgn_extract.specs.declared.settings.Mode.TheVariants as modes
@@ -48,7 +50,9 @@ one_text FromEntry aim id game x y (replay, first, own, is, least, begins, expor
     one_edited_line false aim.edits aim.style own x y export
     (subst (λ g. IsEditedExport aim.edits aim.style g y) (sym games) exports)
 one_text EachLine aim id game x y first second =
-    one_text_of_lines aim.edits aim.style game x y first second
+    one_text_of_lines (AsExports aim.edits aim.style) game x y first second
+one_text (LineOfEach notation) aim id game x y first second =
+    one_text_of_lines (OnLines notation (line_begin aim.name id)) game x y first second
 one_text AsItStands aim id game x y first second = first ∙ sym second
 one_text (Line notation) aim id game x y (own, is, first) (other, also, second) =
     first ∙ ap (line_with aim.name id)

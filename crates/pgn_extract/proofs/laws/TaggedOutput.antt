@@ -5,6 +5,7 @@ use Rattle.pgn_extract.proofs.Common.{inl, inr, refl, sym, ap, ◌∙◌, subst,
 use Rattle.pgn_extract.proofs.Common.{ReadableGame, UnreadableRest, TooLongBlock}
 use Rattle.pgn_extract.proofs.Common.{GameText, Part, Replay, heading_of, Form, Standard}
 use Rattle.pgn_extract.proofs.Common.{AsItStands, EachLine, FromEntry, Line, Record, IsTextOf}
+use Rattle.pgn_extract.proofs.Common.{LineOfEach}
 use Rattle.pgn_extract.proofs.Common.{IsWritten}
 use Rattle.pgn_extract.proofs.Common.{selected}
 use Rattle.pgn_extract.proofs.Common.{unselected, faulty_text, listing, Select}
@@ -57,6 +58,7 @@ module _ (aim : Aim) (id : GameId) (game : GameText) where
   same_text Standard text is = is
   same_text FromEntry text is = is
   same_text EachLine text is = is
+  same_text (LineOfEach notation) text is = is
   same_text AsItStands text is = is
   same_text (Line notation) text is = is
   same_text Record text is = is

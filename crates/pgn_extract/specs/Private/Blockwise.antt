@@ -2,12 +2,14 @@
 -- the words between the code and those of `Outcomes`.
 use Rattle.std.specs.Prelude.{◌≡◌, ℕ, zero, suc, ◌+◌, ◌<◌, ◌≤◌, Bool, true, false, List, []}
 use Rattle.std.specs.Prelude.{◌∷◌, ◌++◌, length, drop, count_by, Option, None, Some, IfSome, codes}
-use Rattle.std.specs.Prelude.{decimal, if◌then◌else◌, ◌==◌}
+use Rattle.std.specs.Prelude.{decimal, if◌then◌else◌, ◌==◌, ◌⊎◌}
 use Rattle.std.specs.Io.KnownBytes.{Appends}
 use Rattle.pgn_text.specs.Public.GameTexts.{GameText, IsGameText, ShowsGame}
 use Rattle.pgn_game.specs.Public.Faults.{Fault}
+use Rattle.pgn_game.specs.Public.LineGames.{AsExports, LineLayout, OnLines}
 use Rattle.pgn_game.specs.Public.Openings.{NamedLine}
 use Rattle.pgn_game.specs.Public.Replays.{Replay}
+use Rattle.pgn_game.specs.declared.exports.notation.Notation.{Notation}
 use Rattle.pgn_game.specs.declared.replays.replayer.Lines.{Lines}
 use Rattle.pgn_extract.specs.Public.Exports.{IsTextOf, IsWritten, faulty_text, written_lines}
 use Rattle.pgn_text.specs.Public.Left.{IsPiece}
@@ -42,7 +44,9 @@ use Rattle.pgn_extract.specs.Public.Aims.{Aim, GameId}
 use Rattle.pgn_extract.specs.Public.Choices.{IfChosen, is_chosen}
 use Rattle.pgn_text.specs.Public.LeftMarks.{mark_place}
 use Rattle.pgn_extract.specs.Public.Listing.{CountsAs, Entry, listing}
-use Rattle.pgn_extract.specs.declared.settings.Form.TheVariants.{EachLine, Standard}
+use Rattle.pgn_extract.specs.declared.settings.Form.{Form}
+use Rattle.pgn_extract.specs.declared.settings.Form.TheVariants.{AsItStands, EachLine, FromEntry}
+use Rattle.pgn_extract.specs.declared.settings.Form.TheVariants.{Line, LineOfEach, Record, Standard}
 use Rattle.pgn_extract.specs.declared.settings.Mode.{Mode}
 use Rattle.pgn_extract.specs.declared.settings.Mode.TheVariants as modes
 use Rattle.pgn_extract.specs.declared.settings.Select.TheVariants.{Matching}
@@ -145,10 +149,24 @@ pub record ExportsAll (aim : Aim) : Type 0 where
   pub edits : aim.edits ≡ None
   pub all : TakesAll aim
 
--- each line of each sound game is exported as a game of its own, whatever its moves
+-- each line of a game is written for itself in the form
+abbrev pub IsOfLines : Form → Type 0
+IsOfLines form = (form ≡ EachLine) ⊎ ((notation : Notation) × (form ≡ LineOfEach notation))
+
+-- how: on lines of text after these bytes, or as exports
+abbrev pub line_layout : Form → Aim → List ℕ → LineLayout
+line_layout Standard aim before = AsExports aim.edits aim.style
+line_layout FromEntry aim before = AsExports aim.edits aim.style
+line_layout EachLine aim before = AsExports aim.edits aim.style
+line_layout (LineOfEach notation) aim before = OnLines notation before
+line_layout AsItStands aim before = AsExports aim.edits aim.style
+line_layout (Line notation) aim before = AsExports aim.edits aim.style
+line_layout Record aim before = AsExports aim.edits aim.style
+
+-- each line of each sound game is written for itself, whatever its moves
 pub record ExportsLines (aim : Aim) : Type 0 where
   pub mode : aim.mode ≡ modes.Export
-  pub form : aim.form ≡ EachLine
+  pub form : IsOfLines aim.form
   pub openings : aim.openings ≡ None
   pub all : TakesAll aim
 

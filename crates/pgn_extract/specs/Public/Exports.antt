@@ -12,7 +12,7 @@ use Rattle.pgn_game.specs.Public.Exports.{lines_with}
 use Rattle.pgn_game.specs.Public.Faults.{Fault}
 use Rattle.pgn_game.specs.Public.GameLines.{IsGameLine}
 use Rattle.pgn_game.specs.Public.PackedGames.{IsRecordOf}
-use Rattle.pgn_game.specs.Public.LineGames.{AreLineExports}
+use Rattle.pgn_game.specs.Public.LineGames.{AreLineTexts, AsExports, OnLines}
 use Rattle.pgn_game.specs.Public.Replays.{Replay}
 use Rattle.pgn_game.specs.Public.Starts.{fen_tag}
 use Rattle.pgn_game.specs.declared.replays.replayer.Lines.{Lines}
@@ -27,6 +27,7 @@ use Rattle.pgn_extract.specs.Public.Listing.{IsCounted}
 use Rattle.pgn_extract.specs.declared.settings.Form.{Form}
 use Rattle.pgn_extract.specs.declared.settings.Form.TheVariants.{Standard, AsItStands, Line, Record}
 use Rattle.pgn_extract.specs.declared.settings.Form.TheVariants.{EachLine, FromEntry}
+use Rattle.pgn_extract.specs.declared.settings.Form.TheVariants.{LineOfEach}
 use Rattle.pgn_extract.specs.declared.settings.Mode.{Mode}
 use Rattle.pgn_extract.specs.declared.settings.Mode.TheVariants as modes
 use Rattle.pgn_extract.specs.declared.settings.Select.{Select}
@@ -37,6 +38,7 @@ abbrev pub lines_in : Form → Style → Lines
 lines_in Standard style = lines_with style.variations
 lines_in FromEntry style = lines_with style.variations
 lines_in EachLine style = All
+lines_in (LineOfEach notation) style = All
 lines_in AsItStands style = lines_with style.variations
 lines_in (Line notation) style = Main
 lines_in Record style = Main
@@ -78,15 +80,23 @@ IsSelected Faulty entry = ⊥
 abbrev pub line_with : Option (List ℕ) → GameId → List ℕ → List ℕ
 line_with name id own = (titled (codes ":") name ++ mark id) ++ 32 ∷ own ++ 10 ∷ []
 
+-- what each line of a game begins with, where it stands on a line of text: the game's mark, after
+-- the name of its file where lines have one
+abbrev pub line_begin : Option (List ℕ) → GameId → List ℕ
+line_begin name id = (titled (codes ":") name ++ mark id) ++ 32 ∷ []
+
 -- the text of a game that is selected: its export with the edits, or that of the game from its
--- first entry on, or the exports of its lines, or the game as it stands, or its line, or its record
+-- first entry on, or its lines as exports or on lines, or the game as it stands, or its line, or
+-- its record
 abbrev pub IsTextOf : Form → Aim → GameId → GameText → List ℕ → Type 0
 IsTextOf Standard aim id game text = IsEditedExport aim.edits aim.style game text
 IsTextOf FromEntry aim id game text =
     (replay : Replay) × (first : Option ℕ) × (own : GameText) × IsReplayOf Main game replay
     × IsFirstOrNone aim (heading_of game) replay first × IsFromEntry first game own
     × IsEditedExport aim.edits aim.style own text
-IsTextOf EachLine aim id game text = AreLineExports aim.edits aim.style game text
+IsTextOf EachLine aim id game text = AreLineTexts (AsExports aim.edits aim.style) game text
+IsTextOf (LineOfEach notation) aim id game text =
+    AreLineTexts (OnLines notation (line_begin aim.name id)) game text
 IsTextOf AsItStands aim id game text = text ≡ as_it_stands game.text
 IsTextOf (Line notation) aim id game text =
     (own : List ℕ) × IsGameLine notation (tag_in fen_tag game.tags) game.elements own

@@ -3,6 +3,7 @@ use Rattle.std.specs.Prelude.{Bool, false, true, not, ◌&&◌, ◌||◌, if◌t
 use Rattle.std.specs.Prelude.{◌==◌, ℕ, ◌-◌, ◌^◌, nat_lt, length, List, [], ◌∷◌, ◌++◌, Option, Some}
 use Rattle.std.specs.Prelude.{None, codes, option_map, unwrap_or, ◌≡◌, IfSome}
 use Rattle.std.specs.List.{list_all}
+use Rattle.pgn_game.specs.declared.exports.notation.Notation.{Notation}
 use Rattle.pgn_game.specs.declared.exports.notation.Notation.TheVariants.{San, Uci}
 use Rattle.pgn_game.specs.declared.exports.style.Commands.{Commands}
 use Rattle.pgn_game.specs.declared.exports.style.Commands.TheVariants.{InWords, LeftOut, Whole}
@@ -23,6 +24,7 @@ use Rattle.pgn_extract.specs.declared.settings.EntryLine.TheVariants.{Marked, In
 use Rattle.pgn_extract.specs.declared.settings.Form.{Form}
 use Rattle.pgn_extract.specs.declared.settings.Form.TheVariants.{Standard, AsItStands, Line, Record}
 use Rattle.pgn_extract.specs.declared.settings.Form.TheVariants.{EachLine, FromEntry}
+use Rattle.pgn_extract.specs.declared.settings.Form.TheVariants.{LineOfEach}
 use Rattle.pgn_extract.specs.declared.settings.Mode.{Mode}
 use Rattle.pgn_extract.specs.declared.settings.Mode.TheVariants as modes
 use Rattle.pgn_extract.specs.declared.settings.Select.{Select}
@@ -41,13 +43,17 @@ abbrev pub asked_select : Request → Select
 asked_select request = if request.others then Others
     else (if request.faulty then Faulty else Matching)
 
--- how a game is written: as a record, on a line with its moves, as it stands, or in the standard's
--- form, from its first entry on, line by line or whole
+-- moves on a line: of each line of a game, or of its main line
+abbrev pub asked_moves : Request → Notation → Form
+asked_moves request notation = if request.lines then LineOfEach notation else Line notation
+
+-- how a game is written: as a record, on a line or lines with its moves, as it stands, or in the
+-- standard's form, from its first entry on, line by line or whole
 abbrev pub asked_form : Request → Form
 asked_form request =
     if request.pack then Record else
-    (if request.moves then Line San else
-    (if request.uci then Line Uci else
+    (if request.moves then asked_moves request San else
+    (if request.uci then asked_moves request Uci else
     (if request.as_is then AsItStands else
     (if request.from_position then FromEntry else
     (if request.lines then EachLine else Standard)))))
@@ -247,10 +253,11 @@ abbrev pub line_refusals : Request → List Refusal
 line_refusals request =
     record {
       applies = request.lines
-          && (asks_no_form request || asks_of_games request
+          && ((request.list || request.index || is_some request.rows)
+          || (request.pack || request.as_is || request.faulty) || asks_of_games request
           || (request.from_position || request.no_variations));
       line = codes
-          "pgn-extract: --lines goes with none of --list, --index, --rows, --moves, --uci, --pack, --as-is, --faulty, --others, --criteria, --where, --min-ply, --openings, --from-position and -V\n";
+          "pgn-extract: --lines goes with none of --list, --index, --rows, --pack, --as-is, --faulty, --others, --criteria, --where, --min-ply, --openings, --from-position and -V\n";
     }
     ∷ edit_refusals request
 

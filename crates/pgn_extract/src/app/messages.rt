@@ -52,7 +52,7 @@ pub const NO_POSITION: &str = "pgn-extract: --from-position and --others exclude
 
 /// Lines are written in the standard's form alone, each as a game; criteria look at main lines.
 pub const LINES_ARE_GAMES: &str =
-    "pgn-extract: --lines goes with none of --list, --index, --rows, --moves, --uci, --pack, --as-is, --faulty, --others, --criteria, --where, --min-ply, --openings, --from-position and -V\n";
+    "pgn-extract: --lines goes with none of --list, --index, --rows, --pack, --as-is, --faulty, --others, --criteria, --where, --min-ply, --openings, --from-position and -V\n";
 
 /// Commands are kept whole, and left out.
 pub const BOTH_COMMANDS: &str =

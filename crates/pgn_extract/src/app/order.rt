@@ -10,7 +10,7 @@ ghost use Rattle.pgn_extract.specs.Public.Requests.{file_refusals, form_refusals
 ghost use Rattle.pgn_extract.specs.Public.Requests.{first_line, gives_criteria, gives_mark};
 ghost use Rattle.pgn_extract.specs.Public.Requests.{has_style, needs_each_game, option_refusals};
 ghost use Rattle.pgn_extract.specs.Public.Requests.{other_refusals, row_refusals, search_refusals};
-ghost use Rattle.pgn_extract.specs.Public.Requests.{asked_format, asked_line, refused};
+ghost use Rattle.pgn_extract.specs.Public.Requests.{asked_format, asked_line, asked_moves, refused};
 
 use crate::app::command::{DEFAULT_WIDTH, Request};
 use crate::app::conditions::are_lines;
@@ -170,8 +170,7 @@ fn refused_lines(request: &Request<'_>) -> Option<&'static str>
     ensures { option_map (λ line. line.now) result ≡ first_line (line_refusals request.now) }
 {
     let has_mode = request.list | request.index | request.rows.is_some();
-    let has_form = request.moves | request.uci | request.pack | request.as_is;
-    let is_other = has_mode | has_form | request.faulty;
+    let is_other = has_mode | request.pack | request.as_is | request.faulty;
     let is_search = request.others | (request.min_ply > 0) | has_criteria(request);
     let is_of_games = is_search | request.openings.is_some();
     let is_cut = request.from_position | request.no_variations;
@@ -278,6 +277,17 @@ fn select_of(request: &Request<'_>) -> Select
     }
 }
 
+/// How moves on a line are written: of each line of a game, or of its main line.
+fn moves_of(request: &Request<'_>, notation: Notation) -> Form
+    ensures { result ≡ asked_moves request.now notation }
+{
+    if request.lines {
+        Form::LineOfEach(notation)
+    } else {
+        Form::Line(notation)
+    }
+}
+
 /// How a game that is selected is written.
 fn form_of(request: &Request<'_>) -> Form
     ensures { result ≡ asked_form request.now }
@@ -285,9 +295,9 @@ fn form_of(request: &Request<'_>) -> Form
     if request.pack {
         Form::Record
     } else if request.moves {
-        Form::Line(Notation::San)
+        moves_of(request, Notation::San)
     } else if request.uci {
-        Form::Line(Notation::Uci)
+        moves_of(request, Notation::Uci)
     } else if request.as_is {
         Form::AsItStands
     } else if request.from_position {

@@ -6,16 +6,17 @@ ghost use Rattle.pgn_game.specs.Public.Edits.{IsEditedExport};
 ghost use Rattle.pgn_game.specs.Public.Exports.{lines_with};
 ghost use Rattle.pgn_game.specs.Public.Faults.{IsFault};
 ghost use Rattle.pgn_game.specs.Public.GameLines.{IsGameLine};
-ghost use Rattle.pgn_game.specs.Public.LineGames.{AreLineExports};
+ghost use Rattle.pgn_game.specs.Public.LineGames.{AreLineTexts, layout_of};
 ghost use Rattle.pgn_game.specs.Public.PackedGames.{IsRecordOf};
 ghost use Rattle.pgn_game.specs.Public.Replays.{IsSoundGame, Replay, fault_of};
 ghost use Rattle.pgn_game.specs.Public.Starts.{fen_tag};
 ghost use Rattle.pgn_game.specs.declared.replays.replayer.Lines.TheVariants.{All, Main};
 ghost use Rattle.pgn_extract.specs.Public.Aims.{aim_of};
 ghost use Rattle.pgn_extract.specs.Private.Blockwise.{AddsText, ExportsAll, ExportsLines};
-ghost use Rattle.pgn_extract.specs.Private.Blockwise.{PutsText, StopsIn, TakesAll};
+ghost use Rattle.pgn_extract.specs.Private.Blockwise.{IsOfLines, PutsText, StopsIn, TakesAll};
+ghost use Rattle.pgn_extract.specs.Private.Blockwise.{line_layout};
 ghost use Rattle.pgn_extract.specs.Public.Exports.{HasEntry, IsSelected, as_it_stands, faulty_text};
-ghost use Rattle.pgn_extract.specs.Public.Exports.{line_with, written_lines};
+ghost use Rattle.pgn_extract.specs.Public.Exports.{line_begin, line_with, written_lines};
 ghost use Rattle.pgn_extract.specs.Public.Exports.{IsFirstOrNone, IsTextOf};
 ghost use Rattle.pgn_extract.specs.Private.Finding.{IsChosen, IsOfGame};
 ghost use Rattle.pgn_criteria.specs.Public.Meeting.{heading_of};
@@ -26,7 +27,7 @@ use crate::output::texts::push_named_mark;
 use crate::settings::{Form, Mode, Select, Settings};
 use pgn_game::pack::{GameOrigin, push_record};
 use pgn_game::{
-    GameFault, Lines, Notation, TagEdits, check_lines, check_variations, export_edited,
+    GameFault, LineForm, Lines, Notation, TagEdits, check_lines, check_variations, export_edited,
     export_lines, export_played, later_game, lines_with, push_line,
 };
 use pgn_text::RawGame;
@@ -38,7 +39,7 @@ pub fn written_lines(settings: &Settings) -> Lines
 {
     match settings.form {
         Form::Standard | Form::FromEntry | Form::AsItStands => lines_with(&settings.style),
-        Form::EachLine => Lines::All,
+        Form::EachLine | Form::LineOfEach(_) => Lines::All,
         Form::Line(_) | Form::Record => Lines::Main,
     }
 }
@@ -100,11 +101,23 @@ pub fn exports_all(settings: &Settings) -> bool
     settings.mode == Mode::Export && is_plain && takes_all(settings)
 }
 
-/// Whether each line of each sound game is exported as a game of its own, whatever its moves.
+/// Whether each line of a game is written for itself.
+fn is_of_lines(settings: &Settings) -> bool
+    ensures { IsTrue result → IsOfLines settings.now.form }
+{
+    match settings.form {
+        Form::EachLine => true,
+        Form::LineOfEach(_) => true,
+        Form::Standard | Form::FromEntry | Form::AsItStands => false,
+        Form::Line(_) | Form::Record => false,
+    }
+}
+
+/// Whether each line of each sound game is written for itself, whatever its moves.
 pub fn exports_lines(settings: &Settings) -> bool
     ensures { IsTrue result → ExportsLines (aim_of settings.now) }
 {
-    let is_plain = settings.form == Form::EachLine && settings.openings.is_none();
+    let is_plain = is_of_lines(settings) && settings.openings.is_none();
     settings.mode == Mode::Export && is_plain && takes_all(settings)
 }
 
@@ -115,6 +128,29 @@ pub fn edits_of(settings: &Settings) -> Option<&TagEdits>
     match &settings.edits {
         Some(edits) => Some(edits),
         None => None,
+    }
+}
+
+/// Appends what each line of a game begins with, where it stands on a line of text.
+pub fn push_line_begin(text: &mut Vec<u8>, context: GameContext<'_>) -> Result<(), AllocError>
+    ensures { OnOk result (text.new.items ≡ text.old.items
+        ++ line_begin context.entry.settings.now.name context.entry.own) }
+{
+    push_named_mark(text, &context.settings.name, context.own)?;
+    text.extend_from_slice(b" ")
+}
+
+/// How the lines of a game are written: on lines of text after these bytes, or as exports.
+pub fn line_form<'s>(settings: &'s Settings, before: &'s [u8]) -> LineForm<'s>
+    ensures { layout_of result
+        ≡ line_layout settings.now.form (aim_of settings.now) before.now }
+{
+    let edits = edits_of(settings);
+    let style = &settings.style;
+    match settings.form {
+        Form::LineOfEach(notation) => LineForm::Turns { notation, before },
+        Form::Standard | Form::FromEntry | Form::EachLine => LineForm::Export { edits, style },
+        Form::AsItStands | Form::Line(_) | Form::Record => LineForm::Export { edits, style },
     }
 }
 
@@ -304,17 +340,17 @@ fn put_later<'a>(
     }
 }
 
-/// Appends the exports of the lines of a game with the edits, each line as a game of its own. Where
-/// a line is faulty, the first fault is answered; then, and where memory is refused, nothing is
-/// appended.
+/// Appends the lines of a game, each as a game of its own or on a line of text. Where a line is
+/// faulty, the first fault is answered; then, and where memory is refused, nothing is appended.
 fn put_lines<'a>(
-    alloc: Global,
     text: &mut Vec<u8>,
-    settings: &Settings,
+    context: GameContext<'_>,
     game: &RawGame<'a>,
 ) -> Result<(), GameFault<'a>>
     ensures text { OnOk result ((own : List ℕ)
-        × AreLineExports settings.now.edits settings.now.style game.now own
+        × AreLineTexts (line_layout context.entry.settings.now.form
+        (aim_of context.entry.settings.now)
+        (line_begin context.entry.settings.now.name context.entry.own)) game.now own
         × (text.new.items ≡ text.old.items ++ own)) }
     ensures sound { OnOk result
         (IsSoundGame All (tag_in fen_tag game.now.tags) game.now.elements) }
@@ -322,13 +358,20 @@ fn put_lines<'a>(
         IfSome (fault_of fault) (IsFault All (tag_in fen_tag game.now.tags) game.now.elements)) }
     ensures left { OnErr result (text.new.items ≡ text.old.items) }
 {
-    export_lines(alloc, game, edits_of(settings), &settings.style, text)
+    let mut before = Vec::new(context.alloc);
+    push_line_begin(&mut before, context)?;
+    export_lines(
+        context.alloc,
+        game,
+        line_form(context.settings, &before),
+        text,
+    )
 }
 
 /// Appends the text of a game whose first entry stands at this ply, played while it is written: its
-/// export, whole, from that entry on or line by line, its line, its record, or the game as it
-/// stands. Where one of the lines that are written is faulty, the first fault is answered, and some
-/// bytes of the text may be appended.
+/// export, whole, from that entry on or line by line, its line or lines, its record, or the game as
+/// it stands. Where one of the lines that are written is faulty, the first fault is answered, and
+/// some bytes of the text may be appended.
 fn put_text<'a>(
     text: &mut Vec<u8>,
     context: GameContext<'a>,
@@ -348,7 +391,8 @@ fn put_text<'a>(
     match settings.form {
         Form::Standard => put_export(context.alloc, text, settings, game),
         Form::FromEntry => put_later(text, context, game, first),
-        Form::EachLine => put_lines(context.alloc, text, settings, game),
+        Form::EachLine => put_lines(text, context, game),
+        Form::LineOfEach(_) => put_lines(text, context, game),
         Form::AsItStands => put_as_is(context.alloc, text, settings, game),
         Form::Line(notation) => push_game_line(text, context, notation, game),
         Form::Record => push_game_record(text, context, game),
@@ -362,7 +406,7 @@ fn is_as_it_stands(settings: &Settings) -> bool
     match settings.form {
         Form::AsItStands => true,
         Form::Standard | Form::FromEntry | Form::EachLine => false,
-        Form::Line(_) | Form::Record => false,
+        Form::Line(_) | Form::LineOfEach(_) | Form::Record => false,
     }
 }
 

@@ -6,20 +6,21 @@ ghost use Rattle.pgn_text.specs.Public.GameTexts.{tag_in};
 ghost use Rattle.pgn_text.specs.Public.Left.{piece_place};
 ghost use Rattle.pgn_text.specs.Public.Limits.{block_limit, largest_offset};
 ghost use Rattle.pgn_text.specs.Public.Windows.{Shows};
-ghost use Rattle.pgn_game.specs.Public.LineGames.{AreLineExports};
+ghost use Rattle.pgn_game.specs.Public.LineGames.{AreLineTexts};
 ghost use Rattle.pgn_game.specs.Public.Replays.{IsSoundGame};
 ghost use Rattle.pgn_game.specs.Public.Starts.{fen_tag};
 ghost use Rattle.pgn_game.specs.declared.replays.replayer.Lines.TheVariants.{All};
-ghost use Rattle.pgn_extract.specs.Private.Blockwise.{ExportsLines, IsShown};
+ghost use Rattle.pgn_extract.specs.Private.Blockwise.{ExportsLines, IsShown, line_layout};
 ghost use Rattle.pgn_extract.specs.Private.RunParts.{AddsFront, BeginsPiece, BeginsPieces};
 ghost use Rattle.pgn_extract.specs.Private.RunParts.{BeginsText, GathersPieces, PassesOn};
 ghost use Rattle.pgn_extract.specs.Private.RunParts.{PassesPiece, PassesText, WriteFaultsAre};
 ghost use Rattle.pgn_extract.specs.Private.RunParts.{WritesPieces};
 ghost use Rattle.pgn_extract.specs.Public.Aims.{aim_of};
+ghost use Rattle.pgn_extract.specs.Public.Exports.{line_begin};
 ghost use Rattle.pgn_extract.specs.Public.Runs.{Adds, job_at, passage};
 ghost use Rattle.pgn_extract.specs.declared.settings.Mode.TheVariants.{Index};
 
-use crate::engine::exporting::{edits_of, exports_lines};
+use crate::engine::exporting::{exports_lines, line_form, push_line_begin};
 use crate::engine::report::{BlockContext, Report, add_mark, report_too_long};
 use crate::entries::GameContext;
 use crate::explain::notes::line_after;
@@ -173,8 +174,8 @@ fn report_marks<'a, O: Write, E: Write>(
     Ok(())
 }
 
-/// Writes the lines of a game, each as a game of its own: what is gathered is written between them
-/// once it is large.
+/// Writes the lines of a game, each for itself: what is gathered is written between them once it is
+/// large.
 fn put_lines<'a, O: Write, E: Write>(
     out: &mut Tally<O>,
     err: &mut Tally<E>,
@@ -185,13 +186,15 @@ fn put_lines<'a, O: Write, E: Write>(
     requires sound { (out.old.faulted ≡ false) × (err.old.faulted ≡ false) }
     requires lines { IsSoundGame All (tag_in fen_tag game.now.tags) game.now.elements }
     ensures done { OnOk result ((text : List ℕ)
-        × AreLineExports context.entry.settings.now.edits context.entry.settings.now.style game.now
-        text
+        × AreLineTexts (line_layout context.entry.settings.now.form
+        (aim_of context.entry.settings.now)
+        (line_begin context.entry.settings.now.name context.entry.own)) game.now text
         × PassesText report.old report.new (passage O.contents out.old out.new)
         (passage E.contents err.old err.new) text) }
     ensures stopped { OnErr result ((text : List ℕ)
-        × AreLineExports context.entry.settings.now.edits context.entry.settings.now.style game.now
-        text
+        × AreLineTexts (line_layout context.entry.settings.now.form
+        (aim_of context.entry.settings.now)
+        (line_begin context.entry.settings.now.name context.entry.own)) game.now text
         × BeginsText report.old (passage O.contents out.old out.new)
         (passage E.contents err.old err.new) text) }
     ensures only { IfErr result (λ error. (error ≡ RunError.Write)
@@ -200,20 +203,17 @@ fn put_lines<'a, O: Write, E: Write>(
         (passage E.contents err.old err.new) }
 {
     game.invariant();
-    let GameContext {
-        alloc,
-        settings,
-        ..
-    } = context;
-    let text = &mut report.output;
-    let mut left = LineWriter::begin(alloc, game, edits_of(settings), &settings.style, text)?;
+    let mut before = Vec::new(context.alloc);
+    push_line_begin(&mut before, context)?;
+    let form = line_form(context.settings, &before);
+    let mut left = LineWriter::begin(context.alloc, game, form, &mut report.output)?;
     while left.put_next(&mut report.output)? {
         put_large(out, err, report)?;
     }
     Ok(())
 }
 
-/// Reports on a game, each line of which is exported as a game of its own.
+/// Reports on a game, each line of which is written for itself.
 fn put_game<'a, O: Write, E: Write>(
     out: &mut Tally<O>,
     err: &mut Tally<E>,
@@ -266,8 +266,8 @@ fn put_game<'a, O: Write, E: Write>(
     }
 }
 
-/// Reports on one piece of a block. Lines that are exported as games of their own are written as
-/// they are made; all else is gathered.
+/// Reports on one piece of a block. Lines that are written for themselves are written as they are
+/// made; all else is gathered.
 #[inline(always)]
 fn put_piece<'a, O: Write, E: Write>(
     out: &mut Tally<O>,

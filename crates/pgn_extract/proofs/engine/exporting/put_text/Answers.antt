@@ -1,12 +1,16 @@
 use Rattle.pgn_extract.proofs.Common.{[], refl, MatchResult-weaker, on_ok_weaker}
 use Rattle.pgn_extract.proofs.Common.{fault_of, aim_of, by_itself, EachLine, FromEntry}
+use Rattle.pgn_extract.proofs.Common.{Form, LineOfEach, subst}
+use Rattle.pgn_game.specs.Public.LineGames.{AreLineTexts, AsExports, OnLines}
+use Rattle.pgn_extract.specs.Private.Blockwise.{line_layout}
+use Rattle.pgn_extract.specs.Public.Exports.{line_begin}
 use Rattle.pgn_extract.proofs.Common.{as_it_stands, line_with, Standard, AsItStands, Line, Record}
 use Rattle.pgn_extract.proofs.Common.{lines_with}
 use Rattle.pgn_extract.proofs.engine.AllTaken.{put_as, put_or_left, stops_left}
 use Rattle.pgn_extract.proofs.Finds.{on_result}
 use Rattle.pgn_extract.proofs.GameExport.{own_record}
 use Rattle.pgn_game.specs.declared.replays.replayer.Lines.TheVariants.{All}
-use Rattle.pgn_extract.proofs.LineExports.{own_line_exports}
+use Rattle.pgn_extract.proofs.LineExports.{own_line_texts}
 use Rattle.pgn_extract.proofs.SomeEdited.{own_edited_export}
 use Rattle.pgn_extract.proofs.LaterGames.{own_from}
 use Rattle.pgn_extract.proofs.engine.exporting.put_text.Goals as goal
@@ -73,7 +77,32 @@ returns-in-EachLine c =
       sound.0,
       sound.1,
       text.0,
-      own_line_exports aim.edits aim.style game text.0 text.1,
+      own_line_texts (AsExports aim.edits aim.style) game text.0
+          (subst (λ (f : Form). AreLineTexts (line_layout f aim
+          (line_begin aim.name c.args.context.own)) game text.0) c.in-EachLine.is text.1),
+      text.2,
+    ))
+    (λ fault fails left. stops_left All game old new (fault_of fault) fails left))
+
+pub returns-in-LineOfEach : goal.returns-in-LineOfEach
+returns-in-LineOfEach c =
+    let aim = aim_of c.args.context.settings.now in
+    let id = c.args.context.own in
+    let game = c.args.game.now in
+    let old = c.args.text.now.items in
+    let new = c.put_lines-in-LineOfEach.new.text.items in
+    let put = c.put_lines-in-LineOfEach.ensures in
+    let notation = c.in-LineOfEach.field-0 in
+    put_as aim id game old new c.put_lines-in-LineOfEach.result (λ fault. fault_of fault)
+    (LineOfEach notation) c.in-LineOfEach.is
+    (put_or_left c.put_lines-in-LineOfEach.result put.text put.sound put.fault put.left
+    (λ text sound. (
+      sound.0,
+      sound.1,
+      text.0,
+      own_line_texts (OnLines notation (line_begin aim.name id)) game text.0
+          (subst (λ (f : Form). AreLineTexts (line_layout f aim (line_begin aim.name id)) game
+          text.0) c.in-LineOfEach.is text.1),
       text.2,
     ))
     (λ fault fails left. stops_left All game old new (fault_of fault) fails left))

@@ -1,38 +1,57 @@
-use Rattle.pgn_extract.proofs.Common.{◌++◌, ◌∙◌, refl, subst, err_from_is_err_and}
+use Rattle.pgn_extract.proofs.Common.{◌++◌, ◌∙◌, ap, refl, subst, err_from_is_err_and, aim_of}
+use Rattle.pgn_extract.specs.Private.Blockwise.{line_layout}
+use Rattle.pgn_extract.specs.Public.Exports.{line_begin}
 use Rattle.pgn_game.specs.Public.LineGames.{WritesFirst, lines_of}
 use Rattle.pgn_game.proofs.LinesInRow.{writes_all, writes_more}
 use Rattle.pgn_extract.proofs.BlockWritten.{front_none, written_soundly}
-use Rattle.pgn_extract.proofs.LineExports.{some_line_exports, some_rest}
+use Rattle.pgn_extract.proofs.LineExports.{some_line_texts, some_rest}
 use Rattle.pgn_extract.proofs.engine.Gathered.{adds_passing}
 use Rattle.pgn_extract.proofs.engine.GameVerdict.{sound_added}
 use Rattle.pgn_extract.proofs.engine.LineVerdicts.{text_begun, text_more, text_passed}
 use Rattle.pgn_extract.proofs.engine.LineVerdicts.{text_unwritten}
 use Rattle.pgn_extract.proofs.engine.piecewise.put_lines.Goals as goal
 
+pub returns-in_err-push_line_begin-clause-stopped : goal.returns-in_err-push_line_begin-clause-stopped
+returns-in_err-push_line_begin-clause-stopped g c =
+    let settings = c.args.context.settings.now in
+    let layout = line_layout settings.form (aim_of settings)
+    (line_begin settings.name c.args.context.own) in
+    let some = some_line_texts layout c.args.game.now c.invariant.ensures c.requires.lines in
+    let p = err_from_is_err_and c.from_residual.result c.from_residual.ensures.1 in
+    rw p.1 (some.0, some.1, text_unwritten _ _ _ some.0)
+
 pub returns-in_err-left-clause-stopped : goal.returns-in_err-left-clause-stopped
 returns-in_err-left-clause-stopped g c =
     let settings = c.args.context.settings.now in
-    let some = some_line_exports settings.edits settings.style c.args.game.now
-    c.invariant.ensures c.requires.lines in
-    let p = err_from_is_err_and c.from_residual.result c.from_residual.ensures.1 in
+    let layout = line_layout settings.form (aim_of settings)
+    (line_begin settings.name c.args.context.own) in
+    let some = some_line_texts layout c.args.game.now c.invariant.ensures c.requires.lines in
+    let p = err_from_is_err_and c.from_residual-in_err-left.result
+    c.from_residual-in_err-left.ensures.1 in
     rw p.1 (some.0, some.1, text_unwritten _ _ _ some.0)
 
 pub loop-left-init : goal.loop-left-init
 loop-left-init g c =
     let settings = c.args.context.settings.now in
+    let layout = line_layout settings.form (aim_of settings)
+    (line_begin settings.name c.args.context.own) in
     let (line, text, spells, first, put) = c.in_ok-left.ensures.text in
-    let (edits, style, game) = c.in_ok-left.ensures.how in
+    let (same, game) = c.in_ok-left.ensures.how in
+    let begins = c.deref.ensures.value ∙ c.in_ok-push_line_begin.ensures
+    ∙ ap (λ bytes. bytes ++ line_begin settings.name c.args.context.own)
+    c.new-before.ensures.items in
+    let is = c.line_form-form.ensures
+    ∙ ap (line_layout settings.form (aim_of settings)) begins in
     record {
       done = (
         line,
         text,
         spells,
-        subst (λ e. WritesFirst e settings.style c.args.game.now (lines_of line)
-            c.in_ok-left.left.lines text) c.edits_of.ensures first,
+        subst (λ l. WritesFirst l c.args.game.now (lines_of line) c.in_ok-left.left.lines text)
+            is first,
         adds_passing _ _ (sound_added put refl refl refl),
       );
-      edits = edits ∙ c.edits_of.ensures;
-      style = style;
+      layout = same ∙ is;
       game = game;
       out = c.requires.sound.0;
       err = c.requires.sound.1;
@@ -41,8 +60,10 @@ loop-left-init g c =
 pub returns-in_err-put_next-clause-stopped : goal.returns-in_err-put_next-clause-stopped
 returns-in_err-put_next-clause-stopped g c =
     let settings = c.args.context.settings.now in
+    let layout = line_layout settings.form (aim_of settings)
+    (line_begin settings.name c.args.context.own) in
     let (line, written, spells, first, passes) = c.loop-left.invariant.done in
-    let (more, exports) = some_rest settings.edits settings.style c.args.game.now
+    let (more, exports) = some_rest layout c.args.game.now
     c.invariant.ensures c.requires.lines line spells c.loop-left.left.lines written first in
     let p = err_from_is_err_and c.from_residual-in_err-put_next.result
     c.from_residual-in_err-put_next.ensures.1 in
@@ -52,13 +73,15 @@ returns-in_err-put_next-clause-stopped g c =
 pub loop-left-preserved : goal.loop-left-preserved
 loop-left-preserved g c =
     let settings = c.args.context.settings.now in
+    let layout = line_layout settings.form (aim_of settings)
+    (line_begin settings.name c.args.context.own) in
     let game = c.args.game.now in
     let l = c.loop-left.invariant in
     let was = c.loop-left.left in
     let now = c.put_next.new.self in
     let (line, written, spells, first, passes) = l.done in
     let (text, next, added) = c.in_ok-put_next.ensures.text in
-    let (same_edits, same_style, same_game) = c.put_next.ensures.how in
+    let (same_layout, same_game) = c.put_next.ensures.how in
     let more = text_more passes (record c.loop-left.report { output = c.put_next.new.out }) text
     added refl refl refl in
     let sound = written_soundly c.in_ok-put_large.ensures.faults in
@@ -67,12 +90,11 @@ loop-left-preserved g c =
         line,
         written ++ text,
         spells,
-        writes_more settings.edits settings.style game was.edits was.style was.game
-            (lines_of line) was.lines now.lines written text l.edits l.style l.game first next,
+        writes_more layout game was.layout was.game (lines_of line) was.lines now.lines written
+            text l.layout l.game first next,
         text_passed more c.in_ok-put_large.ensures.ok,
       );
-      edits = same_edits ∙ l.edits;
-      style = same_style ∙ l.style;
+      layout = same_layout ∙ l.layout;
       game = same_game ∙ l.game;
       out = sound.0;
       err = sound.1;
@@ -81,6 +103,8 @@ loop-left-preserved g c =
 pub returns-in_err-put_large-clause-stopped : goal.returns-in_err-put_large-clause-stopped
 returns-in_err-put_large-clause-stopped g c =
     let settings = c.args.context.settings.now in
+    let layout = line_layout settings.form (aim_of settings)
+    (line_begin settings.name c.args.context.own) in
     let game = c.args.game.now in
     let l = c.loop-left.invariant in
     let was = c.loop-left.left in
@@ -89,10 +113,10 @@ returns-in_err-put_large-clause-stopped g c =
     let (text, next, added) = c.in_ok-put_next.ensures.text in
     let gone = text_more passes (record c.loop-left.report { output = c.put_next.new.out }) text
     added refl refl refl in
-    let (more, exports) = some_rest settings.edits settings.style game c.invariant.ensures
+    let (more, exports) = some_rest layout game c.invariant.ensures
     c.requires.lines line spells now.lines (written ++ text)
-    (writes_more settings.edits settings.style game was.edits was.style was.game (lines_of line)
-    was.lines now.lines written text l.edits l.style l.game first next) in
+    (writes_more layout game was.layout was.game (lines_of line) was.lines now.lines written text
+    l.layout l.game first next) in
     let p = err_from_is_err_and c.from_residual-in_err-put_large.result
     c.from_residual-in_err-put_large.ensures.1 in
     rw p.1 (
@@ -104,6 +128,8 @@ returns-in_err-put_large-clause-stopped g c =
 pub returns-clause-done : goal.returns-clause-done
 returns-clause-done g c =
     let settings = c.args.context.settings.now in
+    let layout = line_layout settings.form (aim_of settings)
+    (line_begin settings.name c.args.context.own) in
     let game = c.args.game.now in
     let l = c.loop-left.invariant in
     let was = c.loop-left.left in
@@ -115,10 +141,9 @@ returns-clause-done g c =
       (
         line,
         spells,
-        writes_all settings.edits settings.style game (lines_of line) now.lines
-            (written ++ text) none
-            (writes_more settings.edits settings.style game was.edits was.style was.game
-            (lines_of line) was.lines now.lines written text l.edits l.style l.game first next),
+        writes_all layout game (lines_of line) now.lines (written ++ text) none
+            (writes_more layout game was.layout was.game (lines_of line) was.lines now.lines
+            written text l.layout l.game first next),
       ),
       text_more passes (record c.loop-left.report { output = c.put_next.new.out }) text added
           refl refl refl,
