@@ -9,7 +9,7 @@ use Rattle.pgn_game.proofs.Common.{IsPseudoLegal, IsLegal, Man, Side, Kind, King
 use Rattle.pgn_game.proofs.Common.{AreLegalMoves, positions_from, HasReplayed, IsMainLine, PlyCode}
 use Rattle.pgn_game.proofs.Common.{FitsCode, IsCode, AreCodes, code_bytes, code_of}
 use Rattle.chess.specs.Public.Moves.{is_pawn, IsPromotionKind, IsPromotion}
-use Rattle.pgn_game.specs.Public.CodeLines.{IsCodedLine, IsCodedReplay}
+use Rattle.pgn_game.specs.Public.CodeLines.{IsCodedLine, IsCodedReplay, IsNextCoded}
 use Rattle.pgn_game.specs.Private.CodeWords.{promoted, told_move}
 use Rattle.pgn_game.proofs.PlyCodeFacts.{code_again, code_of_a_move_fits}
 use Rattle.pgn_game.proofs.RecordFacts.{plies_size}
@@ -239,6 +239,49 @@ pub no_part : (start : State) (bytes : List ℕ) → ((n : ℕ) → length bytes
     → (moves : List Move) → IsCodedLine start bytes moves → ⊥
 no_part start bytes part moves line =
     part (length line.codes) (ap length line.spell ∙ plies_size line.codes)
+
+-- ---- the next move
+
+-- at the end of the bytes a line ends
+pub none_coded : (P : State) (bytes : List ℕ) → length bytes ≡ 0 → IsNextCoded P bytes None
+none_coded P bytes none =
+    (replayed_all (replayed_none P bytes) (omega (arith, none))).only
+
+-- the bytes after those of the first code
+later_spell : (c : PlyCode) (cs more : List PlyCode) (bytes : List ℕ)
+    → bytes ≡ flat_map code_bytes cs → cs ≡ c ∷ more → drop 3 bytes ≡ flat_map code_bytes more
+later_spell c cs more bytes spell is =
+    ap (drop 3) (spell ∙ ap (flat_map code_bytes) is)
+
+-- the move that the first code tells is the next one, where it is legal
+pub first_coded : (P : State) (bytes : List ℕ) (m : Move) → m ≡ told_move P (code_at bytes 0)
+    → IsLegal P m → 3 ≤ length bytes → IsNextCoded P bytes (Some m)
+first_coded P bytes m is legal within = (
+  legal,
+  within,
+  λ moves line.
+      let one = next_told (replayed_none P bytes) moves line (omega (arith, within)) in
+      let same : one.m ≡ m = one.is_told ∙ sym is in (
+        one.rest,
+        one.parts ∙ ap (λ (n : Move). n ∷ one.rest) same,
+        record {
+          legal = subst (λ (n : Move). AreLegalMoves (after P n) one.rest) same one.later;
+          codes = drop 1 line.codes;
+          are = rw (← same) one.are;
+          spell = later_spell (code_at bytes 0) line.codes (drop 1 line.codes) bytes line.spell
+              (first_code moves line within);
+        },
+      ),
+)
+  where
+    first_code : (moves : List Move) (line : IsCodedLine P bytes moves) → 3 ≤ length bytes
+        → line.codes ≡ code_at bytes 0 ∷ drop 1 line.codes
+    first_code moves line up =
+        let size : length bytes ≡ 3 * length line.codes =
+        ap length line.spell ∙ plies_size line.codes in
+        code_there line.codes 0 0 1 2 refl refl refl (omega (arith, size, up))
+        (codes_fit P moves line.codes line.legal line.are)
+        ∙ ap (λ (bs : List ℕ). code_at bs 0 ∷ drop 1 line.codes) (sym line.spell)
 
 -- ---- the line of a game
 

@@ -28,6 +28,7 @@
 mod error;
 mod fields;
 mod heading;
+mod next_code;
 mod origin;
 mod ply;
 mod pushing;
@@ -42,6 +43,7 @@ mod segments;
 mod writing;
 
 pub use error::{CodesError, PackError, RecordError, SegmentError};
+pub use next_code::next_coded;
 pub use origin::GameOrigin;
 pub use pushing::push_record;
 pub use reading::{RawRecord, read};

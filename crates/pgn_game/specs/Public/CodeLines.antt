@@ -1,5 +1,5 @@
 -- The line that codes of plies spell from a position.
-use Rattle.std.specs.Prelude.{◌≡◌, List, [], ◌∷◌, ℕ}
+use Rattle.std.specs.Prelude.{◌≡◌, ◌≤◌, List, [], ◌∷◌, ℕ, Option, None, Some, length, drop}
 use Rattle.std.specs.List.{flat_map}
 use Rattle.chess.specs.Public.Moves.{after, IsLegal}
 use Rattle.chess.specs.Public.Positions.{State}
@@ -36,3 +36,11 @@ pub record IsCodedReplay (start : State) (bytes : List ℕ) (replay : Replay) : 
   pub line : IsLegalLine start replay
   pub turns : replay.turns ≡ []
   pub only : (moves : List Move) → IsCodedLine start bytes moves → moves ≡ replay.played
+
+-- each line that goes on from the position by these bytes goes on by this move, which is legal, and
+-- then by the bytes after the first three; or it ends there
+abbrev pub IsNextCoded : State → List ℕ → Option Move → Type 0
+IsNextCoded P bytes None = (moves : List Move) → IsCodedLine P bytes moves → moves ≡ []
+IsNextCoded P bytes (Some m) = IsLegal P m × (3 ≤ length bytes)
+    × ((moves : List Move) → IsCodedLine P bytes moves
+    → (more : List Move) × (moves ≡ m ∷ more) × IsCodedLine (after P m) (drop 3 bytes) more)
