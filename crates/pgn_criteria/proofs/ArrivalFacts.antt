@@ -13,11 +13,13 @@ use Rattle.chess.specs.Public.Moves.{Goes, arriving}
 use Rattle.chess.specs.Public.San.{IsBody, IsPieceText, promotion_text, capture_text, is_capture}
 use Rattle.chess.specs.declared.moves.Move.{Move}
 use Rattle.pgn_game.specs.Public.PlyCodes.{IsCode}
-use Rattle.pgn_criteria.specs.Private.Arrivals.{BeginsBy, EndsWithSquare, IsArrival}
-use Rattle.pgn_criteria.specs.Private.Arrivals.{IsFirstByte, Tells}
+use Rattle.pgn_criteria.specs.Private.Arrivals.{BeginsBy, EndsWithSquare}
+use Rattle.pgn_criteria.specs.Private.Arrivals.{IsFirstByte, IsSuchPly, Tells}
 use Rattle.pgn_criteria.specs.Private.MoveEnds.{EndsWith}
 use Rattle.pgn_criteria.specs.Public.Prefilters.{IsPlayedBy}
 use Rattle.pgn_criteria.specs.declared.by_record.Arrival.{Arrival}
+use Rattle.pgn_criteria.specs.declared.by_record.Sought.{Sought}
+use Rattle.pgn_criteria.specs.declared.by_record.Sought.TheVariants.{Arrival as Arrives, Castling}
 use Rattle.pgn_criteria.proofs.CodedLines.{code_of_move}
 use Rattle.pgn_criteria.proofs.EndFacts.{Begins, Ends, bare_text, begins_text, ends_text}
 use Rattle.pgn_criteria.proofs.EndFacts.{like_begins}
@@ -225,7 +227,7 @@ begun P m code text word b san is castle promote (plain, (rest, front)) like =
 
 -- so the two ends of a word tell the man who arrives
 pub both_tell : (word : List ℕ) (asked : Arrival) → EndsWithSquare word asked.square
-    → IfSome asked.first (IsFirstByte word) → Tells word asked
+    → IfSome asked.first (IsFirstByte word) → Tells word (Arrives asked)
 both_tell word asked ends first P m code text legal is san like =
     let his = told P m text word asked.square san legal ends like in (
       is.to ∙ his.to,
@@ -233,12 +235,38 @@ both_tell word asked ends first P m code text legal is san like =
           begun P m code text word b san is his.castle his.promote begins like),
     )
 
--- where he arrives by no ply, no move is such
-pub no_such_move : (word : List ℕ) (asked : Arrival) (P : State) (codes : List PlyCode)
-    (replay : Replay) → Tells word asked
-    → AllByRecursion (λ code. IsArrival asked code → ⊥) codes → IsPlayedBy P codes replay
+castle_begins : (m : Move) (castle : Option Wing) (piece : Kind) → Begins m castle piece 79
+    → castle ≡ None → ⊥
+castle_begins m (Some wing) piece begins none = absurd (cc (none))
+castle_begins m None Pawn (inl is) none = omega (arith, is)
+castle_begins m None Pawn (inr is) none = omega (arith, is)
+castle_begins m None King is none = omega (arith, is)
+castle_begins m None Queen is none = omega (arith, is)
+castle_begins m None Rook is none = omega (arith, is)
+castle_begins m None Bishop is none = omega (arith, is)
+castle_begins m None Knight is none = omega (arith, is)
+
+castling_told : (word rest : List ℕ) → word ≡ 79 ∷ rest → Tells word Castling
+castling_told word rest front P m code text legal is san like none =
+    castle_begins m m.castle san.man.kind
+    (begins_text P m text 79 san
+    (like_begins 79 rest (without_check_signs text) (λ star. omega (arith, star))
+    (subst (λ w. IsLike w (without_check_signs text)) front like)))
+    (sym is.castle ∙ none)
+
+-- and a word that begins with `O` tells that the move castles
+pub castling_tells : (word : List ℕ) → 1 ≤ length word → get_or word 0 0 ≡ 79
+    → Tells word Castling
+castling_tells [] long first = absurd (omega (arith, long))
+castling_tells (b ∷ rest) long first =
+    castling_told (b ∷ rest) rest (ap (λ x. x ∷ rest) first)
+
+-- where no ply is such, no move is
+pub no_such_move : (word : List ℕ) (sought : Sought) (P : State) (codes : List PlyCode)
+    (replay : Replay) → Tells word sought
+    → AllByRecursion (λ code. IsSuchPly sought code → ⊥) codes → IsPlayedBy P codes replay
     → (ply : ℕ) → GoesOnBy replay ply word → ⊥
-no_such_move word asked P codes replay tells none by ply goes =
-    let at = code_of_move (λ code. IsArrival asked code → ⊥) P codes replay ply goes.position
+no_such_move word sought P codes replay tells none by ply goes =
+    let at = code_of_move (λ code. IsSuchPly sought code → ⊥) P codes replay ply goes.position
     goes.move by goes.here goes.played none in
     at.1 (tells goes.position goes.move at.0 goes.text at.3 at.2 goes.is_text goes.like)

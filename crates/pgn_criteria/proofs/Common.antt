@@ -50,7 +50,8 @@ pub use Rattle.pgn_criteria.specs.Private.Stages.{AreMirrored, AreNoCounts, AreP
 pub use Rattle.pgn_criteria.specs.Private.Stages.{EachAsksWithin, EachOfSeen, FitsAbout, FitsAt}
 pub use Rattle.pgn_criteria.specs.Private.Stages.{IsFirstBefore, IsFreeOfMoves, IsGood, IsRun}
 pub use Rattle.pgn_criteria.specs.Private.Stages.{OfSeen, SaysOfSeen, SpansStand, condition_seen}
-pub use Rattle.pgn_criteria.specs.Private.Stages.{game_seen, move_seen, on_positions, position_seen}
+pub use Rattle.pgn_criteria.specs.Private.Stages.{game_seen, move_seen, on_plies, on_positions}
+pub use Rattle.pgn_criteria.specs.Private.Stages.{position_seen}
 pub use Rattle.pgn_criteria.specs.Private.Stages.{seen, stage_of, stated}
 pub use Rattle.pgn_criteria.specs.Private.Turning.{men_from, other_letter, turned}
 pub use Rattle.pgn_criteria.specs.Public.ByMarks.{IsNextMet, NoneMeets, first_place, has_marks}

@@ -1,5 +1,6 @@
 -- A record shows the heading of its game.
-use Rattle.std.proofs.Common.{Result, Bor}
+use Rattle.std.proofs.Common.{Result, Ok, Err, Bor, Some, None}
+use Rattle.std.specs.Prelude.{IfOk, IfSome}
 use Rattle.std.specs.List.{flat_map}
 use Rattle.std.proofs.lemmas.List.Concat.{flat_map-cons}
 use Rattle.pgn_criteria.proofs.Common.{◌≡◌, ℕ, List, [], ◌∷◌, ◌++◌, length, Option, refl, sym, ap}
@@ -57,3 +58,10 @@ pub named_there : (raw : RawRecord) → IsRawOfGame raw
 named_there raw (packed, fits, is) name found gives =
     ap (λ (r : RawRecord). (heading_of_raw r).named name) is
     ∙ ap (λ (h : Heading). h.named name) (raw_heading packed fits) ∙ sym (gives packed fits is)
+
+-- what is watched is so in other words
+pub said_so : {X E : Type 0} {P Q : X → Type 0} (r : Result (Option X) E) → ((x : X) → P x → Q x)
+    → IfOk r (λ o. IfSome o P) → IfOk r (λ o. IfSome o Q)
+said_so (Ok (Some x)) so all = so x all
+said_so (Ok None) so all = tt
+said_so (Err e) so all = tt

@@ -6,10 +6,11 @@ use Rattle.pgn_criteria.proofs.Common.{◌∷◌, length, get_or, Option, Some, 
 use Rattle.pgn_criteria.proofs.Common.{◌∙◌, subst, inl, inr, arith, slice_get_within, unwrap_or}
 use Rattle.pgn_criteria.proofs.Common.{slice_get, HasMove, Placement, State, IsCheck, Side, Replay}
 use Rattle.pgn_criteria.proofs.Common.{Conditions, Heading, Taken, AllTaken, IsSoOfGame}
-use Rattle.pgn_criteria.proofs.Common.{IsSoOfMoves, PositionsHold, AllHold, HoldsThere, SpansHold}
+use Rattle.pgn_criteria.proofs.Common.{PositionsHold, AllHold, HoldsThere, SpansHold}
 use Rattle.pgn_criteria.proofs.Common.{IsMetBy, SomeHold, Meets, AreMet, IsFirst, AllClaims}
 use Rattle.pgn_criteria.proofs.Common.{AllOfHeading, IsFreeOfMoves, AreFreeOfMoves, AsksWithin}
-use Rattle.pgn_criteria.proofs.Common.{AllAskWithin, AllOfSeen, on_positions, FitsAt, FitsAbout}
+use Rattle.pgn_criteria.proofs.Common.{AllAskWithin, AllOfSeen, on_plies, on_positions, FitsAt}
+use Rattle.pgn_criteria.proofs.Common.{FitsAbout}
 use Rattle.pgn_criteria.proofs.Common.{IsFirstBefore, IsSeenOf, Stated, GameClaim, Moves, Plies}
 use Rattle.pgn_criteria.specs.Private.Stages.{AllOfGame, SaysOfHeading, AllOfPly}
 use Rattle.pgn_game.proofs.Cells.{no_cell}
@@ -69,12 +70,6 @@ all_parted : (heading : Heading) (replay : Replay) (ply : ℕ) (P : State) (cond
     × AllOfPly replay ply conditions)
 all_parted heading replay ply P conditions =
     (λ hold. (hold.0, hold.2, hold.1), λ all. (all.0, all.2, all.1))
-
--- of conditions that do not speak of moves, nothing is said of those about a ply
-pub all_still : (replay : Replay) (ply most : ℕ) (conditions : Conditions)
-    → AllAskWithin most conditions → AllOfPly replay ply conditions
-all_still replay ply most conditions within =
-    subst (AllTaken (IsSoOfMoves replay ply)) (sym within.1) tt
 
 free_within : (claim : GameClaim (List ℕ)) → IsFreeOfMoves claim → AsksWithin 0 claim
 free_within (Moves words) free = absurd free
@@ -417,43 +412,75 @@ next_best heading replay before more min max best found first here = go best fou
           [ inl old ↦ first.3 m low (omega arith) old | inr new ↦ here.3 m low less new ],
     )
 
--- one more alternative of which what it says of the game is so is kept by what it says of
--- positions, and one of which it is not so is dropped
+-- what the conditions say of single plies alone
+met_on_plies : (heading : Heading) (replay : Replay) (ply : ℕ) (P : State)
+    (conditions : Conditions) → IsMetBy heading replay ply P (on_plies conditions)
+    ↔ (PositionsHold P conditions.positions × AllOfPly replay ply conditions)
+met_on_plies heading replay ply P conditions =
+    let parts = met_parted heading replay ply P (on_plies conditions) in (
+      λ met. let all = parts.0 met in (all.1, all.2),
+      λ both. parts.1 (tt, both.0, both.1, tt),
+    )
+
+-- is so where the ply fits
+pub turn_met : (heading : Heading) (replay : Replay) (ply : ℕ) (P : State)
+    (conditions : Conditions) (r : Bool) → slice_get replay.positions ply ≡ Some P
+    → (IsTrue r ↔ FitsAt replay conditions ply)
+    → IsTrue r ↔ IsMetBy heading replay ply P (on_plies conditions)
+turn_met heading replay ply P conditions r here reports =
+    let on = met_on_plies heading replay ply P conditions in (
+      λ t.
+          let fits = reports.0 t in
+          let same : fits.0 ≡ P = cc (fits.1, here) in
+          on.1 (subst (λ Q. PositionsHold Q conditions.positions) same fits.2, fits.3),
+      λ met. let both = on.0 met in reports.1 (P, here, both.0, both.1),
+    )
+
+-- one more alternative of which what it says of the game is so is kept by what it says of single
+-- plies
+pub kept_turn : (heading : Heading) (replay : Replay) (ply : ℕ) (P : State)
+    (before rest : List Conditions) (own : Conditions) → AllOfGame heading replay own
+    → own.spans ≡ [] → SomeHold heading replay ply P ((before ++ on_plies own ∷ []) ++ rest)
+    ↔ SomeHold heading replay ply P (before ++ own ∷ rest)
+kept_turn heading replay ply P before rest own of_game free =
+    let parts = met_parted heading replay ply P own in
+    let on = met_on_plies heading replay ply P own in
+    let spans = no_spans_hold (FitsAt replay own) ply own.spans free in (
+      λ hold. elim (hold_either heading replay ply P (before ++ on_plies own ∷ []) rest hold) [
+        | inl front ↦ elim (hold_either heading replay ply P before (on_plies own ∷ []) front) [
+          | inl old ↦ hold_before heading replay ply P before (own ∷ rest) old
+          | inr here ↦
+              let both = on.0 (one_holds heading replay ply P (on_plies own) here) in
+              hold_after heading replay ply P before (own ∷ rest)
+              (inl (parts.1 (of_game, both.0, both.1, spans)))
+        ]
+        | inr there ↦ hold_after heading replay ply P before (own ∷ rest) (inr there)
+      ],
+      λ hold. elim (hold_either heading replay ply P before (own ∷ rest) hold) [
+        | inl old ↦ hold_before heading replay ply P (before ++ on_plies own ∷ []) rest
+            (hold_before heading replay ply P before (on_plies own ∷ []) old)
+        | inr more ↦ elim more [
+          | inl here ↦
+              let all = parts.0 here in
+              hold_before heading replay ply P (before ++ on_plies own ∷ []) rest
+              (hold_after heading replay ply P before (on_plies own ∷ [])
+              (inl (on.1 (all.1, all.2))))
+          | inr there ↦ hold_after heading replay ply P (before ++ on_plies own ∷ []) rest there
+        ]
+      ],
+    )
+
+-- and by what it says of positions, where it says no more; one of which it is not so is dropped
 pub kept_one : (heading : Heading) (replay : Replay) (ply : ℕ) (P : State)
     (before rest : List Conditions) (own : Conditions) (most : ℕ)
     → AllOfGame heading replay own → AllAskWithin most own
     → SomeHold heading replay ply P ((before ++ on_positions own ∷ []) ++ rest)
     ↔ SomeHold heading replay ply P (before ++ own ∷ rest)
 kept_one heading replay ply P before rest own most of_game within =
-    let parts = met_parted heading replay ply P own in
-    let same = positions_met heading replay ply P own in
-    let still = all_still replay ply most own within in
-    let spans = no_spans_hold (FitsAt replay own) ply own.spans within.2 in (
-      λ hold. elim (hold_either heading replay ply P (before ++ on_positions own ∷ []) rest hold) [
-        | inl front ↦ elim (hold_either heading replay ply P before (on_positions own ∷ []) front) [
-          | inl old ↦ hold_before heading replay ply P before (own ∷ rest) old
-          | inr here ↦ hold_after heading replay ply P before (own
-              ∷ rest) (inl
-              (parts.1 (
-                of_game,
-                same.0 (one_holds heading replay ply P (on_positions own) here),
-                still,
-                spans,
-              )))
-        ]
-        | inr there ↦ hold_after heading replay ply P before (own ∷ rest) (inr there)
-      ],
-      λ hold. elim (hold_either heading replay ply P before (own ∷ rest) hold) [
-        | inl old ↦ hold_before heading replay ply P (before ++ on_positions own
-            ∷ []) rest (hold_before heading replay ply P before (on_positions own ∷ []) old)
-        | inr more ↦ elim more [
-          | inl here ↦ hold_before heading replay ply P (before ++ on_positions own
-              ∷ []) rest (hold_after heading replay ply P before (on_positions own
-              ∷ []) (inl (same.1 (parts.0 here).1)))
-          | inr there ↦ hold_after heading replay ply P (before ++ on_positions own ∷ []) rest there
-        ]
-      ],
-    )
+    subst (λ (c : Conditions). SomeHold heading replay ply P ((before ++ c ∷ []) ++ rest)
+    ↔ SomeHold heading replay ply P (before ++ own ∷ rest))
+    (λ i. record { games = []; positions = own.positions; moves = within.1 i; spans = [] })
+    (kept_turn heading replay ply P before rest own of_game within.2)
 
 pub dropped_one : (heading : Heading) (replay : Replay) (ply : ℕ) (P : State)
     (before rest : List Conditions) (own : Conditions) (r : Bool) → r ≡ false

@@ -15,3 +15,4 @@ pub mod Walks
 pub mod Prefilters
 pub mod ByMarks
 pub mod Laws
+pub mod Turns

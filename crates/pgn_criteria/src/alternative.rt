@@ -5,7 +5,8 @@ ghost use Rattle.chess.specs.Public.Placements.{Placement};
 ghost use Rattle.chess.specs.Public.Positions.{State};
 ghost use Rattle.pgn_game.specs.Public.PackReading.{IsRawOfGame};
 ghost use Rattle.pgn_game.specs.Public.Replays.{Replay};
-ghost use Rattle.pgn_criteria.specs.Private.Counted.{AllOfCounted, AreFreeOfWords, IsFreeOfWords};
+ghost use Rattle.pgn_criteria.specs.Private.Counted.{AllOfCounted, AreFreeOfWords, AreOfTurns};
+ghost use Rattle.pgn_criteria.specs.Private.Counted.{IsFreeOfWords};
 ghost use Rattle.pgn_criteria.specs.Private.Planning.{Plans};
 ghost use Rattle.pgn_criteria.specs.Private.Records.{heading_of_raw};
 ghost use Rattle.pgn_criteria.specs.Public.Meeting.{Meets};
@@ -369,6 +370,13 @@ impl Alternative {
         ensures { IsTrue result ↔ AllClaims IsFreeOfWords self.now.games }
     {
         are_free_of_words(&self.games)
+    }
+
+    /// Whether none of the conditions speaks of the first moves of the game, or of several plies.
+    pub(crate) fn is_of_turns(&self) -> bool
+        ensures { IsTrue result ↔ AreOfTurns self.now }
+    {
+        self.is_free_of_spans() && self.has_no_words()
     }
 
     /// The marks of positions with which the conditions hold. It is `None` where one of them has

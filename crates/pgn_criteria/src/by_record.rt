@@ -9,7 +9,7 @@ ghost use Rattle.pgn_criteria.specs.Public.Meeting.{AllTaken, IsSoOfMoves};
 ghost use Rattle.pgn_criteria.specs.Public.MoveTexts.{GoesOnBy};
 ghost use Rattle.pgn_criteria.specs.Public.Prefilters.{IsPlayedBy, codes_in};
 ghost use Rattle.pgn_criteria.specs.Private.Arrivals.{BeginsBy, EndsWithSquare, IsArrival};
-ghost use Rattle.pgn_criteria.specs.Private.Arrivals.{IsFirstByte, Tells};
+ghost use Rattle.pgn_criteria.specs.Private.Arrivals.{IsFirstByte, IsSuchPly, Tells};
 ghost use Rattle.pgn_criteria.specs.Private.Counted.{AllOfCounted, IsFreeOfWords, SaysOfCounted};
 ghost use Rattle.pgn_criteria.specs.Private.Stages.{AllClaims, IsGood, game_seen, move_seen};
 ghost use Rattle.pgn_criteria.specs.Private.Stages.{stated};
@@ -20,7 +20,7 @@ use crate::headed::Headed;
 use crate::meets::is_of_heading;
 use crate::move_ends::kind_letter;
 use chess::Kind;
-use pgn_game::pack::numbered_man;
+use pgn_game::pack::{numbered_castle, numbered_man};
 
 /// Whether the tags, the result and the number of the plies of the game meet the condition, if that
 /// speaks of them; else always.
@@ -96,6 +96,15 @@ pub(crate) struct Arrival {
     first: Option<u8>,
 }
 
+/// What a ply is by each move whose text is like a word.
+#[derive(Clone, Copy)]
+pub(crate) enum Sought {
+    /// A man arrives by it.
+    Arrival(Arrival),
+    /// It castles.
+    Castling,
+}
+
 /// The number of the square that a word ends with, if it ends with one.
 fn last_square(word: &[u8]) -> Option<u8>
     ensures { IfSome result (EndsWithSquare word.now) }
@@ -119,17 +128,20 @@ fn first_byte(word: &[u8]) -> Option<u8>
     }
 }
 
-/// The man who arrives by each move whose text is like the word, as far as its first byte and the
-/// square at its end tell.
-fn arrival_of(word: &[u8]) -> Option<Arrival>
+/// What each move whose text is like the word does, as far as its first byte and the square at its
+/// end tell.
+fn sought_by(word: &[u8]) -> Option<Sought>
     ensures { IfSome result (Tells word.now) }
 {
-    match last_square(word) {
-        Some(square) => Some(Arrival {
+    if let Some(square) = last_square(word) {
+        return Some(Sought::Arrival(Arrival {
             square,
             first: first_byte(word),
-        }),
-        None => None,
+        }));
+    }
+    match word {
+        [first, ..] if *first == b'O' => Some(Sought::Castling),
+        _ => None,
     }
 }
 
@@ -159,14 +171,25 @@ fn may_arrive(asked: Arrival, a: u8, b: u8, d: u8) -> bool
     }
 }
 
-/// Whether he arrives by one of the plies.
-fn arrives(asked: Arrival, plies: &[u8]) -> bool
+/// Whether the ply of three bytes may be such.
+#[inline(always)]
+fn may_be(sought: Sought, a: u8, b: u8, d: u8) -> bool
+    ensures { result ≡ false → IsSuchPly sought (code_of a b d) → ⊥ }
+{
+    match sought {
+        Sought::Arrival(asked) => may_arrive(asked, a, b, d),
+        Sought::Castling => numbered_castle(b / 64 + 4 * (d / 64)).is_some(),
+    }
+}
+
+/// Whether one of the plies may be such.
+fn is_shown(sought: Sought, plies: &[u8]) -> bool
     ensures { result ≡ false
-        → AllByRecursion (λ code. IsArrival asked code → ⊥) (codes_in plies.now) }
+        → AllByRecursion (λ code. IsSuchPly sought code → ⊥) (codes_in plies.now) }
 {
     let mut rest = plies;
     while let [a, b, d, after @ ..] = rest {
-        if may_arrive(asked, *a, *b, *d) {
+        if may_be(sought, *a, *b, *d) {
             return true;
         }
         rest = after;
@@ -180,8 +203,8 @@ fn word_is_shown(word: &[u8], plies: &[u8]) -> bool
         → IsPlayedBy P (codes_in plies.now) replay → (ply : ℕ)
         → GoesOnBy replay ply word.now → ⊥ }
 {
-    match arrival_of(word) {
-        Some(asked) => arrives(asked, plies),
+    match sought_by(word) {
+        Some(sought) => is_shown(sought, plies),
         None => true,
     }
 }

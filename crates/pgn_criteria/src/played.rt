@@ -93,7 +93,7 @@ fn is_about(
 }
 
 /// Whether all conditions are so that speak of that: of the position, or of the move from there.
-fn are_about(
+pub(crate) fn are_about(
     conditions: &[Stated<MoveClaim<Vec<u8>>>],
     about: About,
     position: &GamePosition,
@@ -115,7 +115,11 @@ fn are_about(
 /// Whether the position meets what the conditions say of it, where it is known whether the move
 /// that led to it does.
 #[inline(always)]
-fn fits_before(alternative: &Alternative, is_reached: bool, position: &GamePosition) -> bool
+pub(crate) fn fits_before(
+    alternative: &Alternative,
+    is_reached: bool,
+    position: &GamePosition,
+) -> bool
     ensures { (replay : Replay) (ply : ℕ) → slice_get replay.positions ply ≡ Some position.now
         → (IsTrue is_reached ↔ AllAbout Last replay ply alternative.now.moves)
         → IsTrue result ↔ FitsBefore replay alternative.now ply }

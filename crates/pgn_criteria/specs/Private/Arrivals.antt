@@ -1,5 +1,5 @@
 -- Where a man arrives by a move, as the text of the move tells it.
-use Rattle.std.specs.Prelude.{◌≡◌, ◌≢◌, ◌⊎◌, ◌<◌, ◌++◌, ◌∷◌, ℕ, List, IfSome}
+use Rattle.std.specs.Prelude.{◌≡◌, ◌≢◌, ◌⊎◌, ◌<◌, ◌++◌, ◌∷◌, ℕ, List, None, IfSome}
 use Rattle.chess.specs.Public.Letters.{file_letter, kind_letter, square_text}
 use Rattle.chess.specs.Public.Moves.{IsLegal}
 use Rattle.chess.specs.Public.Positions.{State}
@@ -11,6 +11,8 @@ use Rattle.chess.specs.declared.moves.Move.{Move}
 use Rattle.pgn_game.specs.Public.PlyCodes.{PlyCode, IsCode}
 use Rattle.pgn_criteria.specs.Public.MoveTexts.{IsLike, without_check_signs}
 use Rattle.pgn_criteria.specs.declared.by_record.Arrival.{Arrival}
+use Rattle.pgn_criteria.specs.declared.by_record.Sought.{Sought}
+use Rattle.pgn_criteria.specs.declared.by_record.Sought.TheVariants.{Arrival as Arrives, Castling}
 
 -- the square has the number, and the word ends with its text
 abbrev pub EndsWithSquare : List ℕ → ℕ → Type 0
@@ -32,8 +34,13 @@ abbrev pub IsArrival : Arrival → PlyCode → Type 0
 IsArrival asked code = (code.to ≡ square_at asked.square)
     × IfSome asked.first (BeginsBy code code.man.kind)
 
--- he arrives by each move whose text is like the word
-abbrev pub Tells : List ℕ → Arrival → Type 0
-Tells word asked =
+-- the ply with that code is such
+abbrev pub IsSuchPly : Sought → PlyCode → Type 0
+IsSuchPly (Arrives asked) code = IsArrival asked code
+IsSuchPly Castling code = code.castle ≡ None → ⊥
+
+-- each move whose text is like the word is such
+abbrev pub Tells : List ℕ → Sought → Type 0
+Tells word sought =
     (P : State) (m : Move) (code : PlyCode) (text : List ℕ) → IsLegal P m → IsCode P m code
-    → IsSan P m text → IsLike word (without_check_signs text) → IsArrival asked code
+    → IsSan P m text → IsLike word (without_check_signs text) → IsSuchPly sought code

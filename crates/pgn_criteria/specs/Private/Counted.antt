@@ -27,3 +27,8 @@ IsFreeOfWords claim = Unit {0}
 -- none of the conditions speaks of moves but by their number
 abbrev pub AreFreeOfWords : Conditions → Type 0
 AreFreeOfWords asked = AllClaims IsFreeOfWords asked.games × (asked.moves ≡ []) × (asked.spans ≡ [])
+
+-- the conditions speak of the game but by the texts of its first moves, of single plies and of the
+-- moves beside them
+abbrev pub AreOfTurns : Conditions → Type 0
+AreOfTurns asked = AllClaims IsFreeOfWords asked.games × (asked.spans ≡ [])

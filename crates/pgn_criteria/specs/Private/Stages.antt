@@ -243,6 +243,11 @@ AreFixed (condition ∷ more) = (condition.is_either ≡ false) × AreFixed more
 abbrev pub on_positions : Conditions → Conditions
 on_positions asked = record { games = []; positions = asked.positions; moves = []; spans = [] }
 
+-- those on single plies
+abbrev pub on_plies : Conditions → Conditions
+on_plies asked =
+    record { games = []; positions = asked.positions; moves = asked.moves; spans = [] }
+
 -- what the conditions say of the position after so many plies, and of the moves before and after
 -- it, is so
 abbrev pub FitsAt : Replay → Conditions → ℕ → Type 0

@@ -1,6 +1,6 @@
 -- The plies at which conditions hold, told while a game is played.
-use Rattle.std.specs.Prelude.{◌≡◌, ◌↔◌, ◌+◌, ◌++◌, ◌<◌, ℕ, Bool, false, List, [], ◌∷◌, IsTrue}
-use Rattle.std.specs.Prelude.{Option, None, Some, get_or, length}
+use Rattle.std.specs.Prelude.{◌≡◌, ◌↔◌, ◌++◌, ◌<◌, ℕ, Bool, false, List, [], ◌∷◌, IsTrue}
+use Rattle.std.specs.Prelude.{Option, Some, get_or, length}
 use Rattle.std.specs.List.{slice_get}
 use Rattle.chess.specs.Public.Positions.{State}
 use Rattle.chess.specs.declared.moves.Move.{Move}
@@ -9,6 +9,7 @@ use Rattle.pgn_criteria.specs.Public.Conditions.{Conditions}
 use Rattle.pgn_criteria.specs.Public.Meeting.{PositionsHold, Taken}
 use Rattle.pgn_criteria.specs.Public.MoveTexts.{GoesOnBy, IsReachedBy}
 use Rattle.pgn_criteria.specs.Public.Setups.{IsSetUp}
+use Rattle.pgn_criteria.specs.Public.Turns.{HasLed}
 use Rattle.pgn_criteria.specs.Private.Stages.{FitsAt}
 use Rattle.pgn_criteria.specs.declared.condition.MoveClaim.{MoveClaim}
 use Rattle.pgn_criteria.specs.declared.condition.MoveClaim.TheVariants.{Next, Played, Setup}
@@ -27,9 +28,7 @@ abbrev pub IsAbout : About → Replay → ℕ → State → Option Move → Type
 IsAbout about.Here replay ply P m = slice_get replay.positions ply ≡ Some P
 IsAbout about.Next replay ply P m = (slice_get replay.positions ply ≡ Some P)
     × (slice_get replay.played ply ≡ m)
-IsAbout about.Last replay ply P None = ply ≡ 0
-IsAbout about.Last replay ply P (Some m) = (before : ℕ) × (ply ≡ before + 1)
-    × (slice_get replay.positions before ≡ Some P) × (slice_get replay.played before ≡ Some m)
+IsAbout about.Last replay ply P m = HasLed replay ply P m
 
 -- what a condition says at a ply, if it speaks of that
 abbrev pub SaysAbout : About → Replay → ℕ → Bool → MoveClaim (List ℕ) → Type 0

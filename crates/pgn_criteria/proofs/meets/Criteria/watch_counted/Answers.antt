@@ -1,15 +1,7 @@
-use Rattle.std.proofs.Common.{◌≡◌, ◌∙◌, ◌/◌, ℕ, List, length, Option, Some, None, Result, Ok, Err}
-use Rattle.std.proofs.Common.{sym, ap}
-use Rattle.pgn_criteria.proofs.Common.{IfOk, IfSome, heading_of, heading_of_raw}
-use Rattle.pgn_criteria.proofs.RecordHeadings.{raw_heading, text_heading}
+use Rattle.std.proofs.Common.{◌≡◌, ◌∙◌, ◌/◌, ℕ, List, length, sym, ap}
+use Rattle.pgn_criteria.proofs.Common.{heading_of, heading_of_raw}
+use Rattle.pgn_criteria.proofs.RecordHeadings.{raw_heading, said_so, text_heading}
 use Rattle.pgn_criteria.proofs.meets.Criteria.watch_counted.Goals as goal
-
--- what is watched is so in other words
-said_so : {X E : Type 0} {P Q : X → Type 0} (r : Result (Option X) E) → ((x : X) → P x → Q x)
-    → IfOk r (λ o. IfSome o P) → IfOk r (λ o. IfSome o Q)
-said_so (Ok (Some x)) so all = so x all
-said_so (Ok None) so all = tt
-said_so (Err e) so all = tt
 
 pub returns : goal.returns
 returns c =
