@@ -19,7 +19,7 @@ use Rattle.pgn_extract.specs.Public.Listing.{Shown, IsShownOf}
 use Rattle.pgn_extract.proofs.Chosen.{entry_at}
 use Rattle.pgn_extract.proofs.Picks.{leaves, leaves_all}
 
-pub at_seam : (before : List State) (P : State) (rest : List State)
+pub at_seam : {A : Type 0} (before : List A) (P : A) (rest : List A)
     → slice_get (before ++ P ∷ rest) (length before) ≡ Some P
 at_seam [] P rest = refl
 at_seam (first ∷ before) P rest = at_seam before P rest

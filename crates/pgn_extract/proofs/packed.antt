@@ -3,4 +3,5 @@ pub mod PackListed
 pub mod Renamed
 pub mod SearchFacts
 pub mod SegmentSearchFacts
+pub mod TurnedLines
 pub mod WalkedLines

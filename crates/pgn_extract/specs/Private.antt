@@ -29,3 +29,4 @@ pub mod Sinks
 pub mod PlayedLines
 pub mod WalkedLines
 pub mod Packing
+pub mod TurnedLines

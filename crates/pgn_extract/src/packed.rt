@@ -27,6 +27,7 @@ pub(crate) mod kept_packed;
 mod marked;
 pub(crate) mod pack_search;
 pub(crate) mod searching;
+mod turned;
 mod walked;
 
 use crate::entries::finding::Finder;
@@ -37,10 +38,11 @@ use crate::marks::GameId;
 use crate::output::texts::{MARK_ROOM, push_mark};
 use crate::packed::kept_packed::{push_kept_record, record_opening, start_of};
 use crate::packed::marked::Marked;
+use crate::packed::turned::{Turned, next_of};
 use crate::packed::walked::Walked;
 use crate::settings::{Fields, Mode, Settings};
 use chess::{Bits, Board, Side};
-use pgn_criteria::{Criteria, MarkSet, Search, Seen, Walk};
+use pgn_criteria::{Criteria, MarkSet, Search, Seen, TurnSearch, Walk};
 use pgn_game::pack::{CodesError, RawRecord, read};
 use pgn_game::{GameFault, GamePosition, Opening, Openings, given_position};
 use pgn_text::is_contents;
@@ -408,14 +410,75 @@ fn may_be_played<'a>(
     Ok(criteria.may_meet_packed(record, &walk))
 }
 
-/// Adds the lines of the entries of a packed game by criteria on its moves or on several plies. Its
-/// line is replayed only where it may have an entry.
+/// Adds the mark and the ply of each entry of a packed game that is played, of which each ply is
+/// asked this in place of the criteria.
+fn push_asked<'a>(
+    text: &mut Vec<u8>,
+    context: RecordContext<'a, '_, 'a>,
+    search: TurnSearch<'a>,
+) -> Result<(), PackedFault>
+    requires asks { EachOfRecord context.record.now (λ game replay packed.
+        AsksFor (bare_aim context.settings.now) game search) }
+    ensures { OnOk result (ListsRecord (bare_aim context.entry.settings.now)
+        context.entry.record.now text.old.items text.new.items) }
+{
+    let here = match start_of(context.alloc, context.record) {
+        Ok(start) => start,
+        Err(fault) => return Err(fault),
+    };
+    let left = context.record.plies();
+    let next = next_of(&here, left)?;
+    let line = Turned {
+        search,
+        before: here.copy(),
+        last: None,
+        here,
+        next,
+        left,
+        ply: 0,
+    };
+    push_found(text, context, LineMaker::Fields(Fields::NONE), line)
+}
+
+/// Adds the mark and the ply of each entry of a packed game by criteria, while it is played.
+/// Answers `false`, and adds nothing, where they speak of its first moves or of several plies, or
+/// where a code tells no legal move.
+fn push_turned<'a>(
+    text: &mut Vec<u8>,
+    context: RecordContext<'a, '_, 'a>,
+    criteria: &'a Criteria,
+) -> Result<bool, PackedFault>
+    requires criteria { context.settings.now.criteria ≡ Some criteria.now }
+    requires shows { IsRawOfGame context.record.now }
+    ensures seen { IfOk result (λ seen. seen ≡ true
+        → ListsRecord (bare_aim context.entry.settings.now)
+        context.entry.record.now text.old.items text.new.items) }
+    ensures unseen { IfOk result (λ seen. seen ≡ false → text.new.items ≡ text.old.items) }
+    ensures err { IfErr result (λ fault. fault ≡ PackedFault.NoGame → ⊥) }
+{
+    let Some(search) = criteria.watch_turns(context.alloc, context.record)? else {
+        return Ok(false);
+    };
+    let mut found = Vec::new(context.alloc);
+    match push_asked(&mut found, context, search) {
+        Ok(()) => {
+            text.extend_from_slice(&found)?;
+            Ok(true)
+        }
+        Err(PackedFault::NoGame) => Ok(false),
+        Err(PackedFault::OutOfMemory) => Err(PackedFault::OutOfMemory),
+    }
+}
+
+/// Adds the mark and the ply of each entry of a packed game by criteria on its moves or on several
+/// plies. It is played only where it may have an entry, and kept where they speak of several plies.
 fn push_played<'a>(
     text: &mut Vec<u8>,
     context: RecordContext<'a, '_, 'a>,
     criteria: &'a Criteria,
 ) -> Result<(), PackedFault>
     requires held { has_annotations context.settings.now.line ≡ false }
+    requires bare { is_bare context.settings.now.line ≡ true }
     requires criteria { context.settings.now.criteria ≡ Some criteria.now }
     requires shows { IsRawOfGame context.record.now }
     ensures ok { OnOk result (ListsRecord (aim_of context.entry.settings.now)
@@ -424,8 +487,13 @@ fn push_played<'a>(
         → (text.new.items ≡ text.old.items) × HasNoText context.entry.record.now) }
 {
     match may_be_played(context, criteria) {
-        Ok(true) => push_kept_record(text, context),
-        Ok(false) => Ok(()),
+        Ok(true) => {}
+        Ok(false) => return Ok(()),
+        Err(fault) => return Err(fault),
+    }
+    match push_turned(text, context, criteria) {
+        Ok(true) => Ok(()),
+        Ok(false) => push_kept_record(text, context),
         Err(fault) => Err(fault),
     }
 }

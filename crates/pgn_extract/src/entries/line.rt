@@ -24,7 +24,7 @@ pub(crate) trait Line {
     /// one.
     ghost At: { Self → Aim → GameText → List State → State → Type 0 };
 
-    /// Of whatever game it is, what is shown can be written.
+    /// Of whatever game it is, what is shown can be written, and it can go on.
     ghost Valid: { Self → Type 0 };
 
     /// It shows these columns.
@@ -42,6 +42,7 @@ pub(crate) trait Line {
 
     /// Whether the position meets what is asked.
     fn is_met(&self) -> bool
+        requires valid { Valid self.now }
         ensures { Where (At self.now) (MeetsHere result) };
 
     /// Appends what a column shows of it. A next move that cannot be played is answered as a fault.
@@ -58,11 +59,12 @@ pub(crate) trait Line {
     /// Goes on to the next position that may meet what is asked, or answers that there is none. It
     /// may also answer so where no more is asked for.
     fn advance(&mut self, is_open: bool) -> Result<bool, Self::Fault>
+        requires valid { Valid self.old }
         ensures moved { MatchResult result
             (λ more. Where (At self.old) (GoesTo (At self.new) is_open more))
             (λ fault. IfSome (fault_of fault) (λ own. Where (At self.old) (HasFault own))) }
         ensures ends { OnOk result (result ≡ Ok true → size self.new < size self.old) }
-        ensures valid { Valid self.old → Valid self.new };
+        ensures valid { Valid self.new };
 
     /// Each replay of the game has these positions, and then others.
     ghost stands: { (line : Self) (aim : Aim) (game : GameText) (before : List State) (P : State)

@@ -1,5 +1,7 @@
-use Rattle.pgn_extract.proofs.Common.{refl, aim_of}
-use Rattle.pgn_extract.proofs.PackedFacts.{lists_no_entry}
+use Rattle.std.specs.Prelude.{OnOk}
+use Rattle.pgn_extract.proofs.Common.{refl, subst, aim_of}
+use Rattle.pgn_extract.specs.Private.Packed.{ListsRecord}
+use Rattle.pgn_extract.proofs.PackedFacts.{lists_bare, lists_no_entry}
 use Rattle.pgn_extract.proofs.packed.push_played.Goals as goal
 
 pub returns-in-Ok-false-clause-ok : goal.returns-in-Ok-false-clause-ok
@@ -9,3 +11,16 @@ returns-in-Ok-false-clause-ok c =
 
 pub returns-in-Err-clause-err : goal.returns-in-Err-clause-err
 returns-in-Err-clause-err c is = (refl, c.in-Err.ensures.err is)
+
+pub returns-in-Ok-true-push_turned-clause-ok : goal.returns-in-Ok-true-push_turned-clause-ok
+returns-in-Ok-true-push_turned-clause-ok c =
+    lists_bare c.args.context.settings.now c.args.context.record.now c.args.text.now.items
+    c.push_turned.new.text.items c.requires.bare
+    (c.in-Ok-true-push_turned.ensures.seen c.in-Ok-true-push_turned.field-0-test)
+
+pub returns-in-Ok-false-push_turned-clause-ok : goal.returns-in-Ok-false-push_turned-clause-ok
+returns-in-Ok-false-push_turned-clause-ok c =
+    subst (λ text. OnOk c.push_kept_record.result (ListsRecord (aim_of c.args.context.settings.now)
+    c.args.context.record.now text c.push_kept_record.new.text.items))
+    (c.in-Ok-false-push_turned.ensures.unseen c.in-Ok-false-push_turned.field-0-test)
+    c.push_kept_record.ensures.ok

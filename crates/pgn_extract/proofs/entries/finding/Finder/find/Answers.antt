@@ -53,7 +53,7 @@ loop-still-preserved g c = record {
       };
   grew = g.met.S.Sink.grows c.args.sink.now c.loop-still.sink _ c.loop-still.invariant.grew
       c.in_ok-still.ensures.kept;
-  valid = c.advance.ensures.valid c.loop-still.invariant.valid;
+  valid = c.advance.ensures.valid;
 }
 
 pub returns-then-not-branch-clause-found : goal.returns-then-not-branch-clause-found
