@@ -40,6 +40,7 @@ pub mod PackRoom
 pub mod SomeExport
 pub mod LinesInRow
 pub mod SomeLines
+pub mod SearchedFacts
 pub mod SomeRecord
 pub mod CodeLineFacts
 pub mod PackStreamFacts

@@ -2,6 +2,7 @@ pub mod CommandsLeftOut
 pub mod LaidOnce
 pub mod LinesOnce
 pub mod OneMovetext
+pub mod OwnPlies
 pub mod OneOpening
 pub mod PlainExport
 pub mod PlainLines

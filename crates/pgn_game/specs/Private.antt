@@ -6,6 +6,7 @@ pub mod LineTexts
 pub mod LineWalks
 pub mod Steps
 pub mod LinePaths
+pub mod PassPlaces
 pub mod RefusalWalks
 pub mod LineWrappers
 pub mod CommentWords

@@ -14,6 +14,7 @@ pub mod Comments
 pub mod Exports
 pub mod Edits
 pub mod LineGames
+pub mod SearchedLines
 pub mod LaterPlies
 pub mod GameLines
 pub mod PlyCodes

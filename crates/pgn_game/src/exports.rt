@@ -15,3 +15,4 @@ pub(crate) mod style;
 mod sweep;
 pub(crate) mod tag_lines;
 mod tokens;
+pub mod variations;

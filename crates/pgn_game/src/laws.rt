@@ -11,7 +11,8 @@ ghost use Rattle.pgn_game.specs.Public.GameLines.{GameLineHasItsWords};
 ghost use Rattle.pgn_game.specs.Public.Laws.{EachMoveIsNamed, MainLineIsTheLine, EachMoveHasATurn};
 ghost use Rattle.pgn_game.specs.Public.Laws.{EachMainMoveIsAPly, FirstPliesAreABeginning};
 ghost use Rattle.pgn_game.specs.Public.Laws.{LaterPliesAreReplayed, LaterPliesAreTheRest};
-ghost use Rattle.pgn_game.specs.Public.Laws.{EachElementIsOfOneLine, LinesHaveOneText};
+ghost use Rattle.pgn_game.specs.Public.Laws.{EachElementIsOfOneLine, EachPlyIsOfOneLine};
+ghost use Rattle.pgn_game.specs.Public.Laws.{LinesHaveOneText};
 ghost use Rattle.pgn_game.specs.Public.Laws.{SameNamesInOrder};
 ghost use Rattle.pgn_game.specs.Public.Laws.{GameHasOneReplay, GameHasOneBeginning};
 ghost use Rattle.pgn_game.specs.Public.Laws.{GameHasOneOpening, OpeningIsOneOrNone, OpeningIsThere};
@@ -55,10 +56,11 @@ pub fn later_games()
     ensures replayed { LaterPliesAreReplayed }
 {}
 
-/// Each move, NAG and comment of a game is one line's own, and no other's; and in a layout a game
-/// has one text of its lines at most.
+/// Each move, NAG and comment of a game is one line's own, and no other's, and so is the ply that a
+/// move leads to; and in a layout a game has one text of its lines at most.
 pub fn lines_of_a_game()
     ensures each { EachElementIsOfOneLine }
+    ensures plies { EachPlyIsOfOneLine }
     ensures one { LinesHaveOneText }
 {}
 

@@ -24,6 +24,7 @@ pub use exports::lines::{LineWriter, export_lines};
 pub use exports::notation::Notation;
 pub use exports::style::{Commands, Style, lines_with};
 pub use exports::tag_lines::push_contents;
+pub use exports::variations::{Variation, Variations};
 pub use openings::{Classified, FollowedLine, Opening, OpeningLine, Openings};
 pub use replays::main_line::count_main_moves;
 pub use replays::played_line::MainLine;

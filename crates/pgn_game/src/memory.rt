@@ -2,8 +2,9 @@
 
 use crate::exports::exporter::export;
 use crate::exports::style::Style;
+use crate::exports::variations::Variations;
 use crate::pack::{GameOrigin, put_record};
-use crate::replays::replayer::{Lines, replay};
+use crate::replays::replayer::{Lines, check_lines, replay};
 use crate::turns::fault::GameFault;
 use crate::turns::line_move::LineMove;
 use crate::turns::replayed::Replayed;
@@ -23,6 +24,27 @@ pub fn exported(alloc: Global, block: &[u8], style: &Style) -> Result<Vec<u8>, A
         }
     }
     Ok(out)
+}
+
+/// Appends the first own ply of the variation that begins in front of what is left, if one does.
+fn push_own_ply(plies: &mut Vec<usize>, left: &Variations<'_, '_>) -> Result<(), AllocError> {
+    if let Some(variation) = left.here()? {
+        plies.push(variation.own_ply)?;
+    }
+    Ok(())
+}
+
+/// The first own plies of the variations of a game, in the order of the text; or the first fault of
+/// its lines.
+pub fn own_plies<'a>(alloc: Global, game: &RawGame<'a>) -> Result<Vec<usize>, GameFault<'a>> {
+    check_lines(alloc, game, Lines::All)?;
+    let mut plies = Vec::new(alloc);
+    let mut left = Variations::of_game(alloc, game);
+    push_own_ply(&mut plies, &left)?;
+    while left.go_on()? {
+        push_own_ply(&mut plies, &left)?;
+    }
+    Ok(plies)
 }
 
 /// The turn that follows so many others in the order of the text, if there is one.

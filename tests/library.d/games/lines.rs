@@ -1,8 +1,11 @@
 //! The lines of games, as games of their own and on lines of text.
 use crate::games::rows::Says;
 use crate::support::rows_hold;
-use pgn_game::{Commands, GameFault, LineForm, Notation, Style, TagEdits, export_lines};
-use pgn_text::RawGame;
+use pgn_game::{
+    Commands, GameFault, LineForm, Lines, Notation, Style, TagEdits, Variation, Variations,
+    check_lines, export_lines,
+};
+use pgn_text::{Element, RawGame};
 use std::alloc::Global;
 use std::str;
 use std::test::Fail;
@@ -106,4 +109,52 @@ const LINES: &str = r#"
 #[test]
 fn each_line_is_a_game(rt: HostRuntime) -> Result<(), Fail> {
     rows_hold(&Says::Lines.over(rt.alloc()), LINES, 20)
+}
+
+/// Appends the first own ply of a variation and its moves, each after a blank, and a semicolon.
+fn push_variation(shown: &mut Vec<u8>, variation: &Variation<'_>) -> Option<()> {
+    shown.push(b'0' + variation.own_ply as u8).ok()?;
+    for element in variation.game.elements() {
+        if let Element::Move(word) = *element {
+            shown.push(b' ').ok()?;
+            shown.extend_from_slice(word).ok()?;
+        }
+    }
+    shown.push(b';').ok()
+}
+
+/// Whether the variations of the game are so as main lines, or one of its lines is faulty.
+pub fn has_variations(alloc: Global, game: &RawGame<'_>, columns: [&str; 5]) -> Option<bool> {
+    let [_, wanted, ..] = columns;
+    if check_lines(alloc, game, Lines::All).is_err() {
+        return Some(wanted == "fault");
+    }
+    let mut shown = Vec::new(alloc);
+    let mut left = Variations::of_game(alloc, game);
+    loop {
+        if let Some(variation) = left.here().ok()? {
+            push_variation(&mut shown, &variation)?;
+        }
+        if !left.go_on().ok()? {
+            return Some(shown.as_slice() == wanted.as_bytes());
+        }
+    }
+}
+
+/// A game and its variations: the first ply that no line around each has, and its moves up to its
+/// first pass, with those that lead to it. By hand, from the standard's 8.2.5.
+const VARIATIONS: &str = r#"
+1. e4 (1. d4 d5) e5 1-0 | 1 d4 d5;
+1. e4 (1. d4 d5 (1... f5 2. c4) 2. c4) * | 1 d4 d5 c4;2 d4 f5 c4;
+1. e4 (1. d4) (1. c4) e5 (1... c5) * | 1 d4;1 c4;2 e4 c5;
+1. e4 e5 2. Nf3 (2. f4 exf4 3. Nf3 (3. Bc4 Qh4+)) * | 3 e4 e5 f4 exf4 Nf3;5 e4 e5 f4 exf4 Bc4 Qh4+;
+1. e4 (1. d4 () d5) * | 1 d4 d5;1;
+1. e4 e5 (1... -- 2. d4 Z0) * | 2 e4;
+1. e4 e5 (1... c5 2. Z0 d6 (2... d5)) * | 2 e4 c5;4 e4 c5;
+1. e4 (1. Qh5) e5 * | fault
+"#;
+
+#[test]
+fn each_variation_is_a_main_line(rt: HostRuntime) -> Result<(), Fail> {
+    rows_hold(&Says::Searched.over(rt.alloc()), VARIATIONS, 8)
 }

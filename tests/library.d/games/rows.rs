@@ -1,5 +1,5 @@
 //! What the rows of each table say. In a text `\n` is a line feed, `\\` a backslash.
-use crate::games::lines::writes_lines;
+use crate::games::lines::{has_variations, writes_lines};
 use crate::games::openings::has_opening;
 use crate::games::records::has_record;
 use crate::games::refusals::{is_refused, names, tag_stands};
@@ -22,6 +22,7 @@ pub enum Says {
     Turns,
     Packed,
     Lines,
+    Searched,
     Refused,
     TagStands,
     Names,
@@ -62,6 +63,7 @@ fn holds(alloc: Global, says: &Says, block: &[u8], columns: [&str; 5]) -> Option
         Says::Turns => has_lines(alloc, &game, columns),
         Says::Packed => has_record(alloc, &game, columns),
         Says::Lines => writes_lines(alloc, &game, columns),
+        Says::Searched => has_variations(alloc, &game, columns),
         Says::Refused => is_refused(alloc, block, &game, columns),
         Says::TagStands => tag_stands(block, &game, columns),
         Says::Names | Says::Opened => None,

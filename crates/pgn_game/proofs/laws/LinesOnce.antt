@@ -40,7 +40,7 @@ own_joined (line ∷ first) second = ap (λ items. line.own ++ items) (own_joine
     ∙ sym (append_assoc line.own (own_parts first) (own_parts second))
 
 -- two lines with what stands in them, of which the second comes first
-turned : (inner within rest later : List Item)
+pub turned : {X : Type 0} (inner within rest later : List X)
     → IsPermutation ((inner ++ within) ++ (rest ++ later)) (rest ++ (inner ++ (within ++ later)))
 turned inner within rest later =
     let own = inner ++ within in

@@ -1,5 +1,6 @@
 -- What holds of every game, whatever replays it.
-use Rattle.std.specs.Prelude.{◌≡◌, ◌⊎◌, ℕ, ◌+◌, ◌/◌, ◌%◌, ◌^◌, ◌==◌, ◌<◌, ◌≤◌, List, [], ◌∷◌, ◌++◌}
+use Rattle.std.specs.Prelude.{◌≡◌, ◌⊎◌, ℕ, ◌+◌, ◌-◌, ◌/◌, ◌%◌, ◌^◌, ◌==◌, ◌<◌, ◌≤◌, List, [], ◌∷◌}
+use Rattle.std.specs.Prelude.{◌++◌}
 use Rattle.std.specs.Prelude.{◌↔◌, length, Option, Some, IfSome, IsSome, IsTrue, is_some, take}
 use Rattle.std.specs.Prelude.{drop, IsPermutation}
 use Rattle.std.specs.List.{slice_get, AllByRecursion}
@@ -18,7 +19,9 @@ use Rattle.pgn_text.specs.Public.Strings.{IsContents}
 use Rattle.pgn_game.specs.Public.AllLines.{Line, spelled, own_words}
 use Rattle.pgn_game.specs.Public.MainLines.{main_words}
 use Rattle.pgn_game.specs.Public.Edits.{first_plies}
-use Rattle.pgn_game.specs.Public.LineGames.{AreLineTexts, LineGame, LineLayout, lines_of}
+use Rattle.pgn_game.specs.Public.LineGames.{AreLineTexts, LineGame, LineLayout, line_items}
+use Rattle.pgn_game.specs.Public.LineGames.{lines_of}
+use Rattle.pgn_game.specs.Public.SearchedLines.{own_ply}
 use Rattle.pgn_game.specs.Public.LaterPlies.{later_plies}
 use Rattle.pgn_game.specs.Public.TagLines.{in_order, is_among}
 use Rattle.pgn_game.specs.Public.Faults.{Fault, IsFault}
@@ -135,6 +138,28 @@ own_parts (line ∷ more) = line.own ++ own_parts more
 abbrev pub EachElementIsOfOneLine : Type 0
 EachElementIsOfOneLine = (line : Line)
     → IsPermutation (without_parentheses (spelled line)) (own_parts (lines_of line))
+
+-- the words of all moves among the elements
+abbrev pub moves_in : List Item → List (List ℕ)
+moves_in [] = []
+moves_in (MoveText word ∷ items) = word ∷ moves_in items
+moves_in (GlyphNumber number ∷ items) = moves_in items
+moves_in (CommentText text ∷ items) = moves_in items
+moves_in (VariationOpen ∷ items) = moves_in items
+moves_in (VariationClose ∷ items) = moves_in items
+
+-- those of a line that lead to its own plies: to the first of them, and to each after it
+abbrev pub own_moves : LineGame → List (List ℕ)
+own_moves line = drop (own_ply line - 1) (main_words (line_items line) 0)
+
+abbrev pub own_moves_of : List LineGame → List (List ℕ)
+own_moves_of [] = []
+own_moves_of (line ∷ more) = own_moves line ++ own_moves_of more
+
+-- each move of a game leads to a ply that is one line's own, and no other's
+abbrev pub EachPlyIsOfOneLine : Type 0
+EachPlyIsOfOneLine = (line : Line)
+    → IsPermutation (moves_in (spelled line)) (own_moves_of (lines_of line))
 
 -- in a layout a game has one text of its lines at most
 abbrev pub LinesHaveOneText : Type 0

@@ -1,6 +1,6 @@
 //! Each line of a game written, as a game of its own or on a line of text.
 ghost use Rattle.std.specs.Prelude.{◌≡◌, ◌++◌, ◌∷◌, ◌<◌, Bool, true, false, ℕ, List, [], IfErr};
-ghost use Rattle.std.specs.Prelude.{IfOk, IfSome, OnErr, OnOk, map, option_map};
+ghost use Rattle.std.specs.Prelude.{IfOk, IfSome, OnErr, OnOk, length, map, option_map};
 ghost use Rattle.std.specs.List.{AllByRecursion};
 ghost use Rattle.chess.specs.Public.Positions.{State};
 ghost use Rattle.pgn_text.specs.Public.Elements.{item_of};
@@ -39,7 +39,7 @@ use std::mem;
 
 /// A line as far as it was gone along, and those around it.
 #[derive(Drop)]
-struct Path<'a> {
+pub(crate) struct Path<'a> {
     /// The moves that lead to the last move of the line; where it has none, to the line.
     before: Vec<&'a [u8]>,
     /// The last move of the line.
@@ -58,7 +58,7 @@ struct Fork<'a> {
 
 impl<'a> Path<'a> {
     /// At the start of the main line.
-    fn new(alloc: Global) -> Self
+    pub(crate) fn new(alloc: Global) -> Self
         ensures track { track_of result ≡ first_track }
         ensures around { tracks_around result ≡ [] }
         ensures nested { IsNested result }
@@ -117,7 +117,7 @@ impl<'a> Path<'a> {
     }
 
     /// Goes on by an element.
-    fn step(&mut self, element: Element<'a>) -> Result<(), AllocError>
+    pub(crate) fn step(&mut self, element: Element<'a>) -> Result<(), AllocError>
         requires { IsNested self.old }
         ensures left { OnOk result ((items : List Item)
             → variations_left (item_of element.entry ∷ items) (track_of self.old)
@@ -137,9 +137,16 @@ impl<'a> Path<'a> {
         }
     }
 
+    /// How many moves lead to the last move of the line.
+    pub(crate) fn length(&self) -> usize
+        ensures { result ≡ length (track_of self.now).before }
+    {
+        self.before.len()
+    }
+
     /// The elements of the game of a variation that begins in front of these: the moves that lead
     /// to it, and its own elements.
-    fn branch(
+    pub(crate) fn branch(
         &self,
         alloc: Global,
         elements: &[Element<'a>],
