@@ -1,24 +1,21 @@
 -- Plies that are told while a game is played.
 use Rattle.pgn_criteria.proofs.Common.{◌≡◌, ◌↔◌, ◌+◌, ◌-◌, ◌<◌, ◌≤◌, ◌++◌, ℕ, Bool, false}
-use Rattle.pgn_criteria.proofs.Common.{List, [], ◌∷◌, length, get_or, Option, Some, IsTrue, refl}
+use Rattle.pgn_criteria.proofs.Common.{List, [], ◌∷◌, length, get_or, IsTrue, refl}
 use Rattle.pgn_criteria.proofs.Common.{sym, ap, ◌∙◌, subst, inl, inr, arith, cases_lt}
 use Rattle.pgn_criteria.proofs.Common.{length-append}
 use Rattle.pgn_criteria.proofs.Common.{slice_get_within}
-use Rattle.pgn_criteria.proofs.Common.{State, Replay}
-use Rattle.pgn_criteria.proofs.Common.{Conditions, Heading, SomeHold, Meets, AreMet, FitsAt}
+use Rattle.pgn_criteria.proofs.Common.{Replay}
+use Rattle.pgn_criteria.proofs.Common.{Conditions, Heading, Meets, AreMet, FitsAt}
 use Rattle.pgn_criteria.proofs.Common.{FitsAbout, IsRun, SpansStand}
 use Rattle.std.proofs.lemmas.List.{get_or_past, get_or_push, get_or_append_left}
 use Rattle.std.proofs.lemmas.List.{get_or-set_same, get_or-set_other}
 use Rattle.std.proofs.Common.{slice_set}
 use Rattle.std.proofs.lemmas.Option.{get_or_from_slice_get}
-use Rattle.std.specs.Option.{is_some}
-use Rattle.std.specs.Prelude.{IfSome, MatchOption, None}
-use Rattle.pgn_criteria.proofs.Common.{AllClaims, IsAmong}
+use Rattle.pgn_criteria.proofs.Common.{IsAmong}
 use Rattle.pgn_criteria.specs.Private.Stages.{AllOfGame, AreSoMany}
 use Rattle.pgn_criteria.specs.Private.Told.{IsTold, AreTold, AreToldOf}
-use Rattle.pgn_criteria.specs.Private.Counted.{IsFreeOfWords}
 use Rattle.pgn_criteria.proofs.SpanFacts.{all_same, no_spans_hold, reports_about}
-use Rattle.pgn_criteria.proofs.StageFacts.{one_meets, fits_of, dropped_one, same_plies}
+use Rattle.pgn_criteria.proofs.StageFacts.{one_meets, fits_of}
 
 -- none is told past the end
 pub told_within : (told : List Bool) (ply : ℕ) → IsTold told ply → ply < length told
@@ -146,64 +143,9 @@ module _ (asked : Conditions) (old now : List Bool) (at run many : ℕ) (is : Bo
         (λ t. about.0 (stands.0 (sym put ∙ t)), λ fits. put ∙ stands.1 (about.1 fits))
   ]
 
--- ---- one alternative alone
+-- ---- what is told of one alternative
 
--- none of the alternatives so far is left, or one is of which what it says of the game is so; with
--- those that follow it stands for all
-abbrev pub Leaves : {A : Type 0} → (A → Conditions) → Heading → Replay → List Conditions
-    → Option A → List Conditions → Type 0
-Leaves view heading replay whole only rest =
-    MatchOption only
-    ((ply : ℕ) (P : State) → SomeHold heading replay ply P rest
-    ↔ SomeHold heading replay ply P whole)
-    (λ a. AllOfGame heading replay (view a)
-    × ((ply : ℕ) (P : State) → SomeHold heading replay ply P (view a ∷ rest)
-    ↔ SomeHold heading replay ply P whole))
-
-module _ {A : Type 0} (view : A → Conditions) (heading : Heading) (replay : Replay)
-    (whole left rest : List Conditions) (own : Conditions) (front : left ≡ own ∷ rest) where
-  -- an alternative that is dropped
-  pub leaves_less : (only : Option A) (r : Bool) → r ≡ false
-      → (IsTrue r ↔ AllOfGame heading replay own)
-      → Leaves view heading replay whole only left → Leaves view heading replay whole only rest
-  leaves_less None r fails reports leaves = λ ply P.
-      let one = dropped_one heading replay ply P [] rest own r fails reports in
-      let all = rw front at (leaves ply P) in
-      (λ hold. all.0 (one.0 hold), λ hold. one.1 (all.1 hold))
-  leaves_less (Some a) r fails reports (of_game, leaves) = (
-    of_game,
-    λ ply P.
-        let one = dropped_one heading replay ply P (view a ∷ []) rest own r fails reports in
-        let all = rw front at (leaves ply P) in
-        (λ hold. all.0 (one.0 hold), λ hold. one.1 (all.1 hold)),
-  )
-
-  -- the first that is left
-  pub leaves_one : (only : Option A) → is_some only ≡ false → AllOfGame heading replay own
-      → Leaves view heading replay whole only left → AllOfGame heading replay own
-      × ((ply : ℕ) (P : State) → SomeHold heading replay ply P (own ∷ rest)
-      ↔ SomeHold heading replay ply P whole)
-  leaves_one (Some a) none of_game leaves = absurd (cc (none))
-  leaves_one None none of_game leaves = (of_game, λ ply P. rw front at (leaves ply P))
-
--- at the end
-pub left_alone : {A : Type 0} (view : A → Conditions) (heading : Heading) (plies : ℕ)
-    (whole rest : List Conditions) (only : Option A) → rest ≡ []
-    → MatchOption only (Unit {0}) (λ a. AllClaims IsFreeOfWords (view a).games)
-    → ((replay : Replay) → length replay.played ≡ plies
-    → Leaves view heading replay whole only rest)
-    → IfSome only (λ a. AllClaims IsFreeOfWords (view a).games
-    × ((replay : Replay) → length replay.played ≡ plies → AllOfGame heading replay (view a)
-    × ((ply : ℕ) → Meets heading replay ply (view a ∷ []) ↔ Meets heading replay ply whole)))
-left_alone view heading plies whole rest None end are leaves = tt
-left_alone view heading plies whole rest (Some a) end are leaves = (
-  are,
-  λ replay size.
-      let (of_game, same) = leaves replay size in
-      (of_game, same_plies heading replay (view a ∷ []) whole (λ ply P. rw end at (same ply P))),
-)
-
--- and what is told of it
+-- where what it says of the game is so, it is what is met
 pub told_met : (heading : Heading) (replay : Replay) (own : Conditions) (whole : List Conditions)
     (told : List Bool) → AllOfGame heading replay own
     → ((ply : ℕ) → Meets heading replay ply (own ∷ []) ↔ Meets heading replay ply whole)

@@ -1,5 +1,5 @@
 //! The plies of a game that is replayed which meet criteria, found at once.
-ghost use Rattle.std.specs.Prelude.{◌≡◌, ◌∷◌, ◌++◌, [], ℕ, List, IfOk, length};
+ghost use Rattle.std.specs.Prelude.{◌≡◌, ◌∷◌, ◌++◌, ◌+◌, [], ℕ, List, IfOk, length};
 ghost use Rattle.chess.specs.Public.Positions.{State};
 ghost use Rattle.pgn_text.specs.Public.GameTexts.{GameText, tag_in};
 ghost use Rattle.pgn_game.specs.Public.CodeLines.{IsLegalLine};
@@ -21,10 +21,11 @@ use pgn_text::RawGame;
 use std::alloc::{AllocError, Global};
 
 /// For each ply of the main line the answer that it does not meet what there is none of.
-fn no_plies(alloc: Global, replayed: &Replayed) -> Result<Vec<bool>, AllocError>
-    ensures { IfOk result (λ met. (heading : Heading) → AreMet heading replayed.now [] met.items) }
+pub(crate) fn no_plies(alloc: Global, plies: usize) -> Result<Vec<bool>, AllocError>
+    ensures { IfOk result (λ met. (heading : Heading) (replay : Replay)
+        → length replay.positions ≡ plies + 1 → AreMet heading replay [] met.items) }
 {
-    let mut met = vec![in alloc; false; replayed.plies()]?;
+    let mut met = vec![in alloc; false; plies]?;
     met.push(false)?;
     Ok(met)
 }
@@ -60,7 +61,7 @@ fn met_by<'a, H: Headed<'a>>(
     ensures { IfOk result (λ met.
         AreMet (H.heading game.now) replayed.now alternatives.now met.items) }
 {
-    let mut met = no_plies(alloc, replayed)?;
+    let mut met = no_plies(alloc, replayed.plies())?;
     for alternative in alternatives {
         add_alternative(&mut met, alternative, game, replayed);
     }

@@ -1,16 +1,17 @@
 //! The plies of a game that meet criteria, found while its main line is played.
 ghost use Rattle.std.specs.Prelude.{◌≡◌, ◌↔◌, ◌++◌, ◌∷◌, [], ℕ, Bool, Some, IsTrue, IfSome};
-ghost use Rattle.std.specs.Prelude.{OnOk, MatchResult, map, length};
+ghost use Rattle.std.specs.Prelude.{IfOk, OnOk, MatchResult, map, length};
 ghost use Rattle.std.specs.List.{slice_get};
 ghost use Rattle.chess.specs.Public.Moves.{IsLegal};
 ghost use Rattle.pgn_text.specs.Public.GameTexts.{tag_in};
 ghost use Rattle.pgn_game.specs.Public.Faults.{IsFault};
+ghost use Rattle.pgn_game.specs.Public.MainLines.{main_words};
 ghost use Rattle.pgn_game.specs.Public.Replays.{Replay, IsReplay, fault_of};
 ghost use Rattle.pgn_game.specs.Public.Starts.{fen_tag};
 ghost use Rattle.pgn_game.specs.declared.replays.replayer.Lines.TheVariants.{Main};
-ghost use Rattle.pgn_criteria.specs.Public.Meeting.{heading_of, AreMet, Meets};
-ghost use Rattle.pgn_criteria.specs.Private.Counted.{IsFreeOfWords};
-ghost use Rattle.pgn_criteria.specs.Private.Stages.{AllClaims, AllOfGame, AreSoMany, FitsAbout};
+ghost use Rattle.pgn_criteria.specs.Public.Meeting.{Heading, heading_of, AreMet, Meets};
+ghost use Rattle.pgn_criteria.specs.Private.Stages.{AllClaims, AllOfGame, AreSoMany, EachIs};
+ghost use Rattle.pgn_criteria.specs.Private.Stages.{FitsAbout};
 ghost use Rattle.pgn_criteria.specs.Private.Stages.{FitsAt, move_seen, stated};
 ghost use Rattle.pgn_criteria.specs.Private.Told.{AllAbout, AreTold, FitsBefore, IsAbout, IsSetup};
 ghost use Rattle.pgn_criteria.specs.Private.Told.{IsTold, SaysAbout};
@@ -20,9 +21,11 @@ ghost use Rattle.pgn_criteria.specs.declared.played.About.TheVariants.{Next, Las
 use crate::alternative::Alternative;
 use crate::condition::{MoveClaim, Stated};
 use crate::meets::Criteria;
+use crate::met::no_plies;
 use crate::moves::is_move_like;
 use crate::setup::is_alike;
 use crate::spans::{one_if, stands_about};
+use crate::told::add_met;
 use chess::Move;
 use pgn_game::{GameFault, GamePosition, Lines, MainLine, count_main_moves, replay};
 use pgn_text::RawGame;
@@ -224,7 +227,7 @@ fn count_told(told: &[bool]) -> u128
 }
 
 /// Leaves of the plies that fit those at which `for` and `count` are met.
-fn keep_spans(fits: &mut [bool], alternative: &Alternative)
+pub(crate) fn keep_spans(fits: &mut [bool], alternative: &Alternative)
     ensures { (replay : Replay) → AreTold (FitsAt replay alternative.now) fits.old
         → AreTold (FitsAbout replay alternative.now) fits.new }
 {
@@ -244,31 +247,69 @@ fn keep_spans(fits: &mut [bool], alternative: &Alternative)
     }
 }
 
+/// For each ply of the main line of the game, which has so many, whether it meets some of the
+/// alternatives, of which what they say of the game is so; or the fault of the main line. No
+/// position is kept.
+fn met_by_left<'a>(
+    left: &[&Alternative],
+    alloc: Global,
+    game: &RawGame<'a>,
+    plies: usize,
+) -> Result<Vec<bool>, GameFault<'a>>
+    requires { plies ≡ length (main_words game.now.elements 0) }
+    ensures { MatchResult result
+        (λ met. (replay : Replay)
+        × IsReplay Main (tag_in fen_tag game.now.tags) game.now.elements replay
+        × ((heading : Heading) → EachIs (AllOfGame heading replay) (map (λ a. a.now) left.now)
+        → AreMet heading replay (map (λ a. a.now) left.now) met.items))
+        (λ fault.
+        IfSome (fault_of fault) (IsFault Main (tag_in fen_tag game.now.tags) game.now.elements)) }
+{
+    if let [only] = left {
+        let mut met = fitting_plies(alloc, only, game, plies)?;
+        keep_spans(&mut met, only);
+        return Ok(met);
+    }
+    let mut met = no_plies(alloc, plies)?;
+    let mut at = 0;
+    while left.len() - at > 64 {
+        add_met(&mut met, &left[at..at + 64], alloc, game)?;
+        at += 64;
+    }
+    add_met(&mut met, &left[at..], alloc, game)?;
+    Ok(met)
+}
+
 impl Criteria {
-    /// The one alternative of which the tags, the result and so many plies of the game meet what it
-    /// says of them, if none of its conditions speaks of the first moves.
-    fn only_left<'a>(&'a self, game: &RawGame<'a>, plies: usize) -> Option<&'a Alternative>
-        ensures { IfSome result (λ only. AllClaims IsFreeOfWords only.now.games
-            × ((replay : Replay) → length replay.played ≡ plies
-            → AllOfGame (heading_of game.now) replay only.now
-            × ((ply : ℕ) → Meets (heading_of game.now) replay ply (only.now ∷ [])
+    /// The alternatives of which the tags, the result and so many plies of the game meet what they
+    /// say of them. It is `None` where one of them speaks of the first moves.
+    fn left_of_counted<'a>(
+        &'a self,
+        alloc: Global,
+        game: &RawGame<'a>,
+        plies: usize,
+    ) -> Result<Option<Vec<&'a Alternative>>, AllocError>
+        ensures { IfOk result (λ left. IfSome left (λ own. (replay : Replay)
+            → length replay.played ≡ plies
+            → EachIs (AllOfGame (heading_of game.now) replay) (map (λ a. a.now) own.items)
+            × ((ply : ℕ) → Meets (heading_of game.now) replay ply (map (λ a. a.now) own.items)
             ↔ Meets (heading_of game.now) replay ply self.now))) }
     {
-        let mut only = None;
+        let mut left = Vec::new(alloc);
         for alternative in &self.alternatives {
             if alternative.is_of_counted(game, plies) {
-                if only.is_some() || !alternative.has_no_words() {
-                    return None;
+                if !alternative.has_no_words() {
+                    return Ok(None);
                 }
-                only = Some(alternative);
+                left.push(alternative)?;
             }
         }
-        only
+        Ok(Some(left))
     }
 
     /// For each ply of the main line of the game, from 0 to its last, whether its position meets
-    /// the criteria; or the fault of the main line. No position is kept where tags, the result and
-    /// the number of plies leave one alternative, and that does not speak of the first moves.
+    /// the criteria; or the fault of the main line. No position is kept where no alternative that
+    /// tags, the result and the number of plies leave speaks of the first moves.
     pub fn met_of_game<'a>(
         &'a self,
         alloc: Global,
@@ -283,10 +324,8 @@ impl Criteria {
             (IsFault Main (tag_in fen_tag game.now.tags) game.now.elements)) }
     {
         let plies = count_main_moves(game.elements());
-        if let Some(only) = self.only_left(game, plies) {
-            let mut met = fitting_plies(alloc, only, game, plies)?;
-            keep_spans(&mut met, only);
-            return Ok(met);
+        if let Some(left) = self.left_of_counted(alloc, game, plies)? {
+            return met_by_left(&left, alloc, game, plies);
         }
         let replayed = replay(alloc, game, Lines::Main)?;
         Ok(self.met_plies(alloc, game, &replayed)?)

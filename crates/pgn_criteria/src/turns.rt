@@ -55,7 +55,7 @@ impl<'a> Model for TurnSearch<'a> {
 }
 
 /// Whether what the alternative says of the position, and of the moves before and after it, is so.
-fn fits_turn(alternative: &Alternative, turn: Turn<'_>) -> bool
+pub(crate) fn fits_turn(alternative: &Alternative, turn: Turn<'_>) -> bool
     requires last { IfSome turn.last.now (IsLegal turn.before.now) }
     requires next { IfSome turn.next.now (IsLegal turn.position.now) }
     ensures { (replay : Replay) (ply : ℕ)

@@ -1,8 +1,9 @@
 -- The plies at which conditions hold, told while a game is played.
 use Rattle.std.specs.Prelude.{◌≡◌, ◌↔◌, ◌++◌, ◌<◌, ℕ, Bool, false, List, [], ◌∷◌, IsTrue}
-use Rattle.std.specs.Prelude.{Option, Some, get_or, length}
+use Rattle.std.specs.Prelude.{Option, Some, get_or, length, map}
 use Rattle.std.specs.List.{slice_get}
 use Rattle.chess.specs.Public.Positions.{State}
+use Rattle.chess.specs.Public.Sets.{has_bit}
 use Rattle.chess.specs.declared.moves.Move.{Move}
 use Rattle.pgn_game.specs.Public.Replays.{Replay}
 use Rattle.pgn_criteria.specs.Public.Conditions.{Conditions}
@@ -68,3 +69,17 @@ pub record AreToldOf (asked : Conditions) (count : ℕ) (Of : Replay → Type 0)
   pub each : length told ≡ count
   pub exactly : (replay : Replay) → Of replay → (ply : ℕ) → ply < count
       → IsTold told ply ↔ FitsAt replay asked ply
+
+-- whether each of the numbers has this bit
+abbrev pub column : ℕ → List ℕ → List Bool
+column place fits = map (λ n. has_bit n place) fits
+
+-- the bits of a number are those of the ones that are such, in their order
+abbrev pub AreBits : {A : Type 0} → List A → (A → Type 0) → ℕ → Type 0
+AreBits {A} asked Such fits =
+    (i : ℕ) (one : A) → slice_get asked i ≡ Some one → IsTrue (has_bit fits i) ↔ Such one
+
+-- for each of them, in their order, the bits of the numbers are such
+abbrev pub EachColumn : {A : Type 0} → List A → (A → List Bool → Type 0) → List ℕ → Type 0
+EachColumn {A} asked Such fits =
+    (i : ℕ) (one : A) → slice_get asked i ≡ Some one → Such one (column i fits)

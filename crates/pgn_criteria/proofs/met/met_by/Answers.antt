@@ -7,7 +7,8 @@ use Rattle.pgn_criteria.proofs.met.met_by.Goals as goal
 pub loop-alternative-init : goal.loop-alternative-init
 loop-alternative-init g c = record {
   good = c.requires.good;
-  so_far = c.in_ok-met.ensures (g.H.Headed.heading c.args.game.now);
+  so_far = c.in_ok-met.ensures (g.H.Headed.heading c.args.game.now) c.args.replayed.now
+      c.plies.ensures.positions;
 }
 
 pub loop-alternative-preserved : goal.loop-alternative-preserved

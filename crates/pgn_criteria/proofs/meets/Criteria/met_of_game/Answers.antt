@@ -1,34 +1,30 @@
-use Rattle.std.proofs.lemmas.List.{take_at}
-use Rattle.pgn_criteria.proofs.Common.{◌≡◌, ◌++◌, ◌∙◌, ap, sym, subst, List, Bool, length, take}
-use Rattle.pgn_criteria.proofs.Common.{drop, heading_of, AreMet, FitsAt}
+use Rattle.std.proofs.lemmas.Result.{MatchResult-weaker}
+use Rattle.pgn_criteria.proofs.Common.{◌↔◌, ◌∙◌, ℕ, ap, sym, subst, length, map, Meets}
+use Rattle.pgn_criteria.proofs.Common.{heading_of}
 use Rattle.pgn_game.specs.Public.MainLines.{main_words}
 use Rattle.pgn_game.proofs.OneLine.{plies_played}
-use Rattle.pgn_criteria.specs.Private.Told.{AreTold}
-use Rattle.pgn_criteria.proofs.ToldFacts.{told_met}
+use Rattle.pgn_criteria.proofs.ColumnFacts.{met_as}
+use Rattle.pgn_criteria.specs.Private.Stages.{AllOfGame, EachIs}
 use Rattle.pgn_criteria.proofs.meets.Criteria.met_of_game.Goals as goal
 
 pub returns-in-Some : goal.returns-in-Some
 returns-in-Some c =
     let game = c.args.game.now in
     let heading = heading_of game in
-    let own = c.in-Some.only.now in
-    let (replay, is, size, told) = c.in_ok-met.ensures in
     let words = main_words game.elements 0 in
-    let played = plies_played is.start words replay.positions replay.played is.line in
+    let whole = c.args.self.now in
     let counted = ap (λ items. length (main_words items 0)) c.elements.ensures.elements in
-    let left = c.in-Some.ensures.1 replay
-    (sym played ∙ sym counted ∙ sym c.count_main_moves-plies.ensures) in
-    let new = c.keep_spans.new.fits in
-    let whole : List Bool = take c.in_ok-met.met.len (new
-    ++ drop (length new) c.in_ok-met.met.items) in
-    let same : whole ≡ new =
-    take_at new (drop (length new) c.in_ok-met.met.items) c.in_ok-met.met.len
-    (c.keep_spans.auto.fits ∙ c.deref_mut.ensures.len) in
-    let kept = c.keep_spans.ensures replay
-    (subst (AreTold (FitsAt replay own)) (sym c.deref_mut.ensures.value) told) in
-    let length_is = c.keep_spans.auto.fits ∙ ap length c.deref_mut.ensures.value ∙ size in (
+    MatchResult-weaker c.met_by_left.result c.met_by_left.ensures
+    (λ met (replay, is, are).
+    let played = plies_played is.start words replay.positions replay.played is.line in
+    let (each, same) = rw c.in-Some.is at c.in_ok-left.ensures replay
+    (sym played ∙ sym counted ∙ sym c.count_main_moves-plies.ensures) in (
       replay,
       is,
-      subst (AreMet heading replay c.args.self.now) (sym same)
-          (told_met heading replay own c.args.self.now new left.0 left.1 length_is kept),
-    )
+      met_as heading replay _ whole met.items
+          (subst (λ xs. (ply : ℕ) → Meets heading replay ply (map (λ a. a.now) xs)
+          ↔ Meets heading replay ply whole) (sym c.deref.ensures.value) same)
+          (are heading (subst (λ xs. EachIs (AllOfGame heading replay) (map (λ a. a.now) xs))
+          (sym c.deref.ensures.value) each)),
+    ))
+    (λ fault is. is)
