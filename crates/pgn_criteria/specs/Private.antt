@@ -18,3 +18,4 @@ pub mod SightCodes
 pub mod Counted
 pub mod Arrivals
 pub mod Told
+pub mod SeenPlies

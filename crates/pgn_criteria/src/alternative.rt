@@ -5,8 +5,8 @@ ghost use Rattle.chess.specs.Public.Placements.{Placement};
 ghost use Rattle.chess.specs.Public.Positions.{State};
 ghost use Rattle.pgn_game.specs.Public.PackReading.{IsRawOfGame};
 ghost use Rattle.pgn_game.specs.Public.Replays.{Replay};
-ghost use Rattle.pgn_criteria.specs.Private.Counted.{AllOfCounted, AreFreeOfWords, AreOfTurns};
-ghost use Rattle.pgn_criteria.specs.Private.Counted.{IsFreeOfWords};
+ghost use Rattle.pgn_criteria.specs.Private.Counted.{AllOfCounted, AreFreeOfWords, AreOfSeen};
+ghost use Rattle.pgn_criteria.specs.Private.Counted.{AreOfTurns, IsFreeOfWords};
 ghost use Rattle.pgn_criteria.specs.Private.Planning.{Plans};
 ghost use Rattle.pgn_criteria.specs.Private.Records.{heading_of_raw};
 ghost use Rattle.pgn_criteria.specs.Public.Meeting.{Meets};
@@ -372,11 +372,32 @@ impl Alternative {
         are_free_of_words(&self.games)
     }
 
+    /// Whether none of the conditions speaks of moves but by their number, though it may of several
+    /// plies.
+    pub(crate) fn is_of_seen(&self) -> bool
+        ensures { IsTrue result ↔ AreOfSeen self.now }
+    {
+        self.moves.is_empty() && self.has_no_words()
+    }
+
     /// Whether none of the conditions speaks of the first moves of the game, or of several plies.
     pub(crate) fn is_of_turns(&self) -> bool
         ensures { IsTrue result ↔ AreOfTurns self.now }
     {
         self.is_free_of_spans() && self.has_no_words()
+    }
+
+    /// The marks of positions with which its conditions on them hold. It is `None` where one of
+    /// these has `either`, or speaks of men.
+    pub(crate) fn position_marks(&self) -> Option<u8>
+        ensures { IfSome result (λ set. (men : Placement)
+            → AreMarksOf set (λ turn check stuck.
+            AllOfSeen men turn (IsTrue check) (IsTrue stuck) self.now.positions)) }
+    {
+        match &self.mirrored {
+            Some(_) => None,
+            None => self.plain.marks(),
+        }
     }
 
     /// The marks of positions with which the conditions hold. It is `None` where one of them has
@@ -390,10 +411,7 @@ impl Alternative {
         if !self.is_free_of_moves() {
             return None;
         }
-        match &self.mirrored {
-            Some(_) => None,
-            None => self.plain.marks(),
-        }
+        self.position_marks()
     }
 
     /// Whether none of the conditions has `for` or `count`.

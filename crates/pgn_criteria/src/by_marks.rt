@@ -95,7 +95,7 @@ impl MarkSet {
     /// Whether it has the marks that the first byte of a ply tells, after which that side is to
     /// move.
     #[inline(always)]
-    fn has_told(self, turn: Side, a: u8) -> bool
+    pub(crate) fn has_told(self, turn: Side, a: u8) -> bool
         ensures { result ≡ has_marks self.flags turn (a / 64 % 2 == 1) (a / 128 == 1) }
     {
         (self.flags >> (place_of(turn) + a / 64)) & 1 == 1

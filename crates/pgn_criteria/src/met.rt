@@ -22,7 +22,8 @@ use std::alloc::{AllocError, Global};
 
 /// For each ply of the main line the answer that it does not meet what there is none of.
 pub(crate) fn no_plies(alloc: Global, plies: usize) -> Result<Vec<bool>, AllocError>
-    ensures { IfOk result (λ met. (heading : Heading) (replay : Replay)
+    ensures each { IfOk result (λ met. length met.items ≡ plies + 1) }
+    ensures none { IfOk result (λ met. (heading : Heading) (replay : Replay)
         → length replay.positions ≡ plies + 1 → AreMet heading replay [] met.items) }
 {
     let mut met = vec![in alloc; false; plies]?;

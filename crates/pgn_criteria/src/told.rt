@@ -102,7 +102,7 @@ fn column_of(alloc: Global, fits: &[u64], place: usize) -> Result<Vec<bool>, All
 }
 
 /// Adds the plies that are told.
-fn add_told(met: &mut [bool], told: &[bool])
+pub(crate) fn add_told(met: &mut [bool], told: &[bool])
     ensures { (ply : ℕ) → ply < length met.old → IsTrue (get_or met.new ply false)
         ↔ (IsTrue (get_or met.old ply false) ⊎ IsTold told.now ply) }
 {

@@ -69,6 +69,18 @@ impl<B: Board> Walk<B> {
         }
     }
 
+    /// Exactly the same walk.
+    pub(crate) fn copy(&self) -> Self
+        ensures { result ≡ self.now }
+    {
+        Walk {
+            board: self.board,
+            turn: self.turn,
+            check: self.check,
+            stuck: self.stuck,
+        }
+    }
+
     /// Goes on by the ply that the three bytes tell. Each three bytes tell one.
     #[inline(always)]
     pub fn step(&mut self, a: u8, b: u8, d: u8)

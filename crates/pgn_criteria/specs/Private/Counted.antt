@@ -28,6 +28,10 @@ IsFreeOfWords claim = Unit {0}
 abbrev pub AreFreeOfWords : Conditions → Type 0
 AreFreeOfWords asked = AllClaims IsFreeOfWords asked.games × (asked.moves ≡ []) × (asked.spans ≡ [])
 
+-- none of the conditions speaks of moves but by their number, though it may of several plies
+abbrev pub AreOfSeen : Conditions → Type 0
+AreOfSeen asked = AllClaims IsFreeOfWords asked.games × (asked.moves ≡ [])
+
 -- the conditions speak of the game but by the texts of its first moves, of single plies and of the
 -- moves beside them
 abbrev pub AreOfTurns : Conditions → Type 0

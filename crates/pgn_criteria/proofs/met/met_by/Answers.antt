@@ -7,7 +7,7 @@ use Rattle.pgn_criteria.proofs.met.met_by.Goals as goal
 pub loop-alternative-init : goal.loop-alternative-init
 loop-alternative-init g c = record {
   good = c.requires.good;
-  so_far = c.in_ok-met.ensures (g.H.Headed.heading c.args.game.now) c.args.replayed.now
+  so_far = c.in_ok-met.ensures.none (g.H.Headed.heading c.args.game.now) c.args.replayed.now
       c.plies.ensures.positions;
 }
 

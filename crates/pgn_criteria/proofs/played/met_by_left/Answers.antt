@@ -44,7 +44,7 @@ loop-at-init c = record {
   within = omega arith;
   met = λ replay is heading each.
       let words = main_words c.args.game.now.elements 0 in
-      c.in_ok-met-2.ensures heading replay
+      c.in_ok-met-2.ensures.none heading replay
       (line_length is.start words replay.positions replay.played is.line
       ∙ ap (λ n. n + 1) (sym (plies_played is.start words replay.positions replay.played is.line)
       ∙ sym c.requires));

@@ -1,0 +1,152 @@
+-- What a walk tells of the plies of a line.
+use Rattle.pgn_criteria.proofs.Common.{◌≡◌, ◌↔◌, ◌+◌, ◌++◌, ℕ, zero, suc, Bool, false, List, []}
+use Rattle.pgn_criteria.proofs.Common.{◌∷◌, length, get_or, Some, IsTrue, refl, sym, ap, ◌∙◌}
+use Rattle.pgn_criteria.proofs.Common.{subst, arith, inl, inr, same_Some, slice_get}
+use Rattle.pgn_criteria.proofs.Common.{State, Replay, PlyCode, codes_in, PositionsHold}
+use Rattle.pgn_criteria.proofs.Common.{PositionCondition, Conditions, FitsAt, slice_get_within}
+use Rattle.pgn_criteria.proofs.Common.{◌≤◌, ◌<◌, ◌/◌, append_assoc, drop}
+use Rattle.std.proofs.lemmas.Option.{slice_get_cases}
+use Rattle.chess.specs.Public.Moves.{after}
+use Rattle.chess.specs.declared.moves.Move.{Move}
+use Rattle.pgn_game.specs.Public.CodeLines.{AreLegalMoves, positions_from}
+use Rattle.pgn_game.specs.Public.PlyCodes.{AreCodes, code_of}
+use Rattle.pgn_criteria.specs.Public.Prefilters.{IsPlayedBy}
+use Rattle.pgn_criteria.specs.Public.Walks.{Sight, IsSightOf, stepped}
+use Rattle.pgn_criteria.specs.Private.SeenPlies.{Fits, IsToldTo, TellsSeen}
+use Rattle.pgn_criteria.specs.Private.Stages.{AllOfPly}
+use Rattle.pgn_criteria.specs.Private.Told.{AreTold}
+use Rattle.pgn_criteria.proofs.CodedLines.{played_count}
+use Rattle.pgn_criteria.proofs.StandFacts.{three, below}
+use Rattle.pgn_criteria.proofs.ToldFacts.{told_within}
+use Rattle.pgn_criteria.proofs.WalkFacts.{seen_said, step_shows_next_position}
+
+-- the code that the first three bytes spell
+abbrev pub first_code : List ℕ → PlyCode
+first_code left = code_of (get_or left 0 0) (get_or left 1 0) (get_or left 2 0)
+
+module _ (conditions : List (PositionCondition (List ℕ))) where
+  -- it is told of what is seen before the codes, and of what is seen after each
+  pub tells_size : (s : Sight) (codes : List PlyCode) (told : List Bool)
+      → TellsSeen conditions s codes told → length told ≡ length codes + 1
+  tells_size s [] told (is, items, reports) = ap length items
+  tells_size s (c ∷ codes) told (is, more, items, reports, tells) =
+      let rest = tells_size (stepped s c) codes more tells in
+      let size = ap length items in omega (arith, rest, size)
+
+  tells_each : (P : State) (moves : List Move) (s : Sight) (codes : List PlyCode)
+      (told : List Bool) → AreCodes P moves codes → TellsSeen conditions s codes told
+      → length told ≡ length (positions_from P moves)
+  tells_each P [] s codes told are tells =
+      let (is, items, reports) = subst (λ cs. TellsSeen conditions s cs told) are tells in
+      ap length items
+  tells_each P (m ∷ moves) s codes told (c, rest, is_code, code, are) tells =
+      let (is, more, items, reports, on) =
+      subst (λ cs. TellsSeen conditions s cs told) is_code tells in
+      ap length items
+      ∙ ap suc (tells_each (after P m) moves (stepped s c) rest more are on)
+
+  -- what is told of a position of the line is whether the conditions hold there
+  tells_there : (P : State) (moves : List Move) (s : Sight) (codes : List PlyCode)
+      (told : List Bool) → IsSightOf P s → AreLegalMoves P moves → AreCodes P moves codes
+      → TellsSeen conditions s codes told → (ply : ℕ) (Q : State)
+      → slice_get (positions_from P moves) ply ≡ Some Q
+      → IsTrue (get_or told ply false) ↔ PositionsHold Q conditions
+  tells_there P [] s codes told sight legal are tells zero Q here =
+      let (is, items, reports) = subst (λ cs. TellsSeen conditions s cs told) are tells in
+      let said = seen_said P s.men s.turn (IsTrue s.check) (IsTrue s.stuck) conditions sight in
+      subst (λ R. IsTrue (get_or told 0 false) ↔ PositionsHold R conditions)
+      (same_Some P Q here)
+      (subst (λ ts. IsTrue (get_or ts 0 false) ↔ PositionsHold P conditions) (sym items)
+      (λ t. said.0 (reports.0 t), λ hold. reports.1 (said.1 hold)))
+  tells_there P [] s codes told sight legal are tells (suc ply) Q here = absurd (cc (here))
+  tells_there P (m ∷ moves) s codes told sight legal (c, rest, is_code, code, are) tells zero Q
+      here =
+      let (is, more, items, reports, on) =
+      subst (λ cs. TellsSeen conditions s cs told) is_code tells in
+      let said = seen_said P s.men s.turn (IsTrue s.check) (IsTrue s.stuck) conditions sight in
+      subst (λ R. IsTrue (get_or told 0 false) ↔ PositionsHold R conditions)
+      (same_Some P Q here)
+      (subst (λ ts. IsTrue (get_or ts 0 false) ↔ PositionsHold P conditions) (sym items)
+      (λ t. said.0 (reports.0 t), λ hold. reports.1 (said.1 hold)))
+  tells_there P (m ∷ moves) s codes told sight legal (c, rest, is_code, code, are) tells (suc ply)
+      Q here =
+      let (is, more, items, reports, on) =
+      subst (λ cs. TellsSeen conditions s cs told) is_code tells in
+      subst (λ ts. IsTrue (get_or ts (suc ply) false) ↔ PositionsHold Q conditions) (sym items)
+      (tells_there (after P m) moves (stepped s c) rest more
+      (step_shows_next_position P m c s legal.0.pseudo_legal code sight) legal.1 are on ply Q here)
+
+-- so the plies of a game are told at which an alternative fits that says nothing of moves
+module _ (asked : Conditions) (free : asked.moves ≡ []) (P : State) (s : Sight)
+    (codes : List PlyCode) (replay : Replay) (sight : IsSightOf P s)
+    (by : IsPlayedBy P codes replay) where
+  fits_free : (ply : ℕ) → AllOfPly replay ply asked
+  fits_free ply = rw free tt
+
+  tells_here : (told : List Bool) → TellsSeen asked.positions s codes told → (ply : ℕ) (Q : State)
+      → slice_get replay.positions ply ≡ Some Q
+      → IsTrue (get_or told ply false) ↔ PositionsHold Q asked.positions
+  tells_here told tells ply Q here =
+      tells_there asked.positions P replay.played s codes told sight by.line.legal by.told tells
+      ply Q (ap (λ ps. slice_get ps ply) (sym by.line.positions) ∙ here)
+
+  pub tells_all : (told : List Bool) → TellsSeen asked.positions s codes told
+      → length told ≡ length replay.positions
+  tells_all told tells =
+      tells_each asked.positions P replay.played s codes told by.told tells
+      ∙ ap length (sym by.line.positions)
+
+  pub tells_line : (told : List Bool) → TellsSeen asked.positions s codes told
+      → AreTold (FitsAt replay asked) told
+  tells_line told tells ply = elim (slice_get_cases replay.positions ply).1 [
+    | inl (Q, within, here, same) ↦
+        let there = tells_here told tells ply Q here in (
+          λ t. (Q, here, there.0 t, fits_free ply),
+          λ fits. there.1
+              (subst (λ R. PositionsHold R asked.positions)
+              (same_Some fits.0 Q (sym fits.1 ∙ here)) fits.2),
+        )
+    | inr (past, none) ↦ (
+      λ t. let within = told_within told ply t in let size = tells_all told tells in
+          absurd (omega (arith, within, size, past)),
+      λ fits. let within = slice_get_within replay.positions ply fits.0 fits.1 in
+          absurd (omega (arith, within, past)),
+    )
+  ]
+
+-- one more ply is told, and the last
+module _ (conditions : List (PositionCondition (List ℕ))) (start s : Sight) (all left : List ℕ)
+    (told new : List Bool) (is : Bool) (to : IsToldTo conditions start all s left told)
+    (items : new ≡ told ++ is ∷ []) (reports : IsTrue is ↔ Fits conditions s) where
+  pub told_next : (rest : List ℕ) → 3 ≤ length left → rest ≡ drop 3 left
+      → IsToldTo conditions start all (stepped s (first_code left)) rest new
+  told_next rest long same more tells =
+      subst (TellsSeen conditions start (codes_in all))
+      (sym (append_assoc told (is ∷ []) more) ∙ ap (λ ts. ts ++ more) (sym items))
+      (to (is ∷ more)
+      (rw (three left long) (
+        is,
+        more,
+        refl,
+        reports,
+        subst (λ bs. TellsSeen conditions (stepped s (first_code left)) (codes_in bs) more) same
+            tells,
+      )))
+
+  pub told_last : length left < 3 → TellsSeen conditions start (codes_in all) new
+  told_last short =
+      subst (TellsSeen conditions start (codes_in all)) (sym items)
+      (to (is ∷ []) (rw (below left short) (is, refl, reports)))
+
+-- ---- alternatives
+
+-- how many positions a line has that is played by codes
+line_size : (P : State) (moves : List Move) → length (positions_from P moves) ≡ length moves + 1
+line_size P [] = refl
+line_size P (m ∷ moves) = let more = line_size (after P m) moves in omega (arith, more)
+
+pub positions_count : (P : State) (bytes : List ℕ) (replay : Replay)
+    → IsPlayedBy P (codes_in bytes) replay → length replay.positions ≡ length bytes / 3 + 1
+positions_count P bytes replay by =
+    ap length by.line.positions ∙ line_size P replay.played
+    ∙ ap (λ n. n + 1) (played_count P bytes replay by)
