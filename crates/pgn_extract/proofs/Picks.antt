@@ -1,12 +1,10 @@
 -- Plies of a game that are left, and criteria that are asked in place of others.
 use Rattle.pgn_extract.proofs.Common.{◌≡◌, ◌↔◌, ℕ, zero, suc, ◌+◌, ◌<◌, ◌≤◌, List, [], ◌∷◌, length}
-use Rattle.pgn_extract.proofs.Common.{drop, Option, Some, None, sym, subst, inl, arith, IfSome}
+use Rattle.pgn_extract.proofs.Common.{drop, Option, Some, None, sym, subst, arith, IfSome}
 use Rattle.pgn_extract.proofs.Common.{State, Replay, GameText, Heading, heading_of, Meets}
 use Rattle.pgn_extract.proofs.Common.{Conditions, Aim, GameId, IsMet, IsOfGame, AsksFor, Entry}
 use Rattle.pgn_extract.proofs.Common.{plies_of, AreChosen, none, leave}
-use Rattle.pgn_criteria.specs.Public.Conditions.{no_conditions}
 use Rattle.pgn_extract.specs.Public.Listing.{Shown}
-use Rattle.pgn_extract.proofs.FieldTexts.{some_position}
 
 module _ (id : GameId) (P : ℕ → Type 0) (S : ℕ → Shown → Type 0) where
   -- of positions in a row the first are left
@@ -68,13 +66,3 @@ asks_given aim game alternatives watched others given is alike replay own ply wi
     subst (λ o. IfSome o (AsksAlike game alternatives)) is alike in
     same_met (heading_of game) replay aim.criteria alternatives others ply given
     (here replay own ply)
-
--- and without criteria every position is met
-pub none_given : (aim : Aim) (game : GameText) → aim.criteria ≡ None
-    → AsksFor aim game (no_conditions ∷ [])
-none_given aim game without replay own ply within =
-    let at = some_position replay.positions ply within in (
-      λ met. subst (λ (o : Option (List Conditions)).
-          IsMet o (heading_of game) replay ply) (sym without) tt,
-      λ met. record { position = at.0; here = at.1; hold = inl ((tt, tt, inl tt), tt) },
-    )

@@ -30,7 +30,7 @@ mod told;
 use crate::entries::finding::Finder;
 use crate::entries::kept::find_kept;
 use crate::entries::line_maker::LineMaker;
-use crate::entries::played::{Anything, find_played};
+use crate::entries::played::{Anything, find_again, find_played};
 use crate::entries::row_game::RowGame;
 use crate::entries::told::find_told;
 use crate::marks::GameId;
@@ -78,10 +78,10 @@ fn finder_of<'a>(
 }
 
 /// Adds the lines of the entries of a game, or answers its fault. Each position is asked as it is
-/// reached, and none is kept, unless the criteria speak of single moves, or a row shows something
-/// of the whole main line. Nor is one kept for `for`, `count` and `position`, where a line shows no
-/// more than the ply. A main line that is known to be sound is not played to its end once no more
-/// is looked for.
+/// reached, and none is kept, unless a row shows something of the whole main line. Criteria that
+/// speak of single moves or of several plies are asked first which plies meet them; where a line
+/// shows more than these, the main line is played again. One that is known to be sound is not
+/// played to its end once no more is looked for.
 pub fn push_entries<'a>(
     text: &mut Vec<u8>,
     context: GameContext<'a>,
@@ -99,7 +99,7 @@ pub fn push_entries<'a>(
         settings,
         ..
     } = context;
-    let finder = finder_of(context, game, is_sound)?;
+    let mut finder = finder_of(context, game, is_sound)?;
     if finder.lines.needs_line() {
         return find_kept(&finder, alloc, game, text);
     }
@@ -110,7 +110,7 @@ pub fn push_entries<'a>(
         if settings.line.is_bare() {
             return find_told(&finder, alloc, criteria, game, text);
         }
-        return find_kept(&finder, alloc, game, text);
+        return find_again(&mut finder, alloc, criteria, game, text);
     };
     find_played(&finder, alloc, game, question, text)
 }

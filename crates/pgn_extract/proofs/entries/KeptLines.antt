@@ -1,5 +1,8 @@
 -- A line that is kept stands at a position of the game, and goes on by one ply.
-use Rattle.std.proofs.lemmas.Option.{same_Some}
+use Rattle.std.specs.Prelude.{get_or}
+use Rattle.std.proofs.lemmas.Option.{same_Some, slice_get-get_or}
+use Rattle.pgn_criteria.specs.Public.Meeting.{AreMet}
+use Rattle.pgn_extract.specs.Private.PlayedLines.{TellsOf}
 use Rattle.pgn_extract.proofs.Common.{◌≡◌, ◌↔◌, ◌+◌, ◌-◌, ◌<◌, ◌≤◌, ℕ, zero, suc, List, [], ◌∷◌}
 use Rattle.pgn_extract.proofs.Common.{◌++◌, length, Option, Some, Bool, true, false, IsTrue, refl}
 use Rattle.pgn_extract.proofs.Common.{sym, ap, ◌∙◌, subst, append_assoc, length-append, arith, None}
@@ -106,6 +109,28 @@ reports_there kept met ply aim game before P r at here replay own rest is =
           (subst (IsMet aim.criteria (heading_of game) kept) (sym at.count) (says.0 t)),
       λ met. says.1 (subst (IsMet aim.criteria (heading_of game) kept) at.count
           (met_there aim.criteria (heading_of game) replay kept back.0 back.1 (length before) met)),
+    )
+
+-- what is told of the game is so of each replay of it
+pub tells_known : (game : GameText) (kept : Replay)
+    → IsReplay Main (tag_in fen_tag game.tags) game.elements kept → (asked : List Conditions)
+    (met told : List Bool) → AreMet (heading_of game) kept asked met
+    → ((ply : ℕ) → get_or told ply false ≡ get_or met ply false)
+    → (criteria : Option (List Conditions)) → criteria ≡ Some asked → TellsOf told criteria game
+tells_known game kept is asked met told are same criteria given replay own ply within =
+    let there = one_main game kept replay (Main, is) own in
+    let back = one_main game replay kept own (Main, is) in
+    let size = are.each in
+    let long = ap length there.0 in
+    let here : slice_get met ply ≡ Some (get_or met ply false) =
+    slice_get-get_or met ply false (omega (arith, size, long, within)) in
+    let says = are.reports ply (get_or met ply false) here in (
+      λ t. subst (λ (o : Option (List Conditions)). IsMet o (heading_of game) replay ply)
+          (sym given) (met_there (Some asked) (heading_of game) kept replay there.0 there.1 ply
+          (says.0 (sym (same ply) ∙ t))),
+      λ meets. same ply ∙ says.1 (met_there (Some asked) (heading_of game) replay kept back.0
+          back.1 ply (subst (λ (o : Option (List Conditions)). IsMet o (heading_of game) replay ply)
+          given meets)),
     )
 
 -- so is the value of a column

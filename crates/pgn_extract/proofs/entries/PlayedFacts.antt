@@ -5,7 +5,8 @@ use Rattle.pgn_extract.proofs.Common.{false, Bool, refl, sym, ap, ◌∙◌, sub
 use Rattle.pgn_extract.proofs.Common.{length-append, inr, arith, Some, State, Move}
 use Rattle.pgn_extract.proofs.Common.{GameText, tag_in, Item, IsMainLine, main_words, Replay}
 use Rattle.pgn_extract.proofs.Common.{fen_tag, Main, heading_of, SomeHold, Conditions}
-use Rattle.pgn_extract.proofs.Common.{Aim, AsksFor, Stands, GoesTo}
+use Rattle.pgn_extract.proofs.Common.{Aim, Heading, IsMet, MeetsHere, Stands, GoesTo, IsTrue}
+use Rattle.pgn_extract.proofs.Common.{◌↔◌, ◌≤◌, ◌<◌, slice_get_within}
 use Rattle.pgn_extract.proofs.Common.{NoneAfter, Where, HasFault, IsNeverMet, Fails}
 use Rattle.pgn_extract.proofs.Common.{aim_with, IsNextMove}
 use Rattle.pgn_extract.proofs.Common.{slice_get, MatchOption, IsSan, one_start, false≢true}
@@ -17,7 +18,7 @@ use Rattle.pgn_criteria.specs.Shared.PlayedTo.{IsPlayedTo, GoesOnWith}
 use Rattle.pgn_criteria.proofs.PlayedFacts.{played_none, played_on, played_all}
 use Rattle.pgn_extract.specs.Private.Finding.{StopsInLine}
 use Rattle.pgn_extract.specs.declared.entries.finding.Finder.{Finder}
-use Rattle.pgn_extract.specs.Private.PlayedLines.{IsPlayedWith}
+use Rattle.pgn_extract.specs.Private.PlayedLines.{AsksOf, IsPlayedWith, NoneFrom, TellsAt}
 use Rattle.pgn_extract.proofs.Finds.{at_seam}
 use Rattle.pgn_extract.proofs.entries.PlainTexts.{move_value}
 use Rattle.pgn_extract.specs.Private.Finding.{IsNextValue}
@@ -95,11 +96,12 @@ stands_there game line before played to replay own =
     (rest, left.3 ∙ ap (λ ps. before ++ ps) begins)
 
 -- at its start
-pub begins_with : (known : Bool) (game : GameText) (line : PlayedLine) (asked : List Conditions)
+pub begins_with : (known : Bool) (game : GameText) (line : PlayedLine)
+    (Asks : Option (List Conditions) → GameText → Type 0)
     (aim : Aim) → (known ≡ true → IsSoundGame Main (tag_in fen_tag game.tags) game.elements)
-    → IsBegun (tag_in fen_tag game.tags) game.elements line → AsksFor aim game asked
-    → IsPlayedWith known line asked aim game [] line.position
-begins_with known game line asked aim sound begun asks =
+    → IsBegun (tag_in fen_tag game.tags) game.elements line → Asks aim.criteria game
+    → IsPlayedWith known line Asks aim game [] line.position
+begins_with known game line Asks aim sound begun asks =
     let to = played_none begun in
     record {
       sound = sound;
@@ -117,10 +119,12 @@ pub fails_there : (game : GameText) (line : PlayedLine) (before : List State) (p
     → IsFault Main (tag_in fen_tag game.tags) game.elements fault
 fails_there game line before played to fault met = inr (to.start, to.is_start, to.faults fault met)
 
-module _ (known : Bool) (asked : List Conditions) (old new : PlayedLine) (on : Bool) (aim : Aim)
+module _ (known : Bool)
+    (Asks : Option (List Conditions) → GameText → Type 0)
+    (old new : PlayedLine) (on : Bool) (aim : Aim)
     (game : GameText) (before : List State) where
   abbrev With : PlayedLine → Aim → GameText → List State → State → Type 0
-  With line other some passed P = IsPlayedWith known line asked other some passed P
+  With line other some passed P = IsPlayedWith known line Asks other some passed P
 
   -- after one more move
   pub plays_on : PlaysWord old new → (P : State) → With old aim game before P
@@ -163,84 +167,157 @@ module _ (known : Bool) (asked : List Conditions) (old new : PlayedLine) (on : B
           absurd (omega (arith, size, low, within))
 
 -- what a column shows where the line stands is what it shows of its ply
-abbrev pub ShowsThere : Bool → PlayedLine → List Conditions → PlyColumn → List ℕ → Type 0
-ShowsThere known line asked column value =
-    Where (λ aim game before P. IsPlayedWith known line asked aim game before P)
+abbrev pub ShowsThere : Bool → PlayedLine → (Option (List Conditions) → GameText → Type 0)
+    → PlyColumn → List ℕ → Type 0
+ShowsThere known line Asks column value =
+    Where (λ aim game before P. IsPlayedWith known line Asks aim game before P)
     (ShowsValue column value)
 
-pub shows_ply : {known : Bool} (line : PlayedLine) (asked : List Conditions) (value : List ℕ)
-    → value ≡ decimal line.plies → ShowsThere known line asked Ply value
-shows_ply line asked value is aim game before P at rows replay own rest parts =
+pub shows_ply : {known : Bool} (line : PlayedLine)
+    (Asks : Option (List Conditions) → GameText → Type 0) (value : List ℕ)
+    → value ≡ decimal line.plies → ShowsThere known line Asks Ply value
+shows_ply line Asks value is aim game before P at rows replay own rest parts =
     is ∙ ap decimal (sym at.to.count)
 
-pub shows_position : {known : Bool} (line : PlayedLine) (asked : List Conditions)
+pub shows_position : {known : Bool} (line : PlayedLine)
+    (Asks : Option (List Conditions) → GameText → Type 0)
     (own : PositionColumn) (value : List ℕ) → IsPositionCell own line.position value
-    → ShowsThere known line asked (OfPosition own) value
-shows_position line asked own value is aim game before P at rows replay of rest parts = (
+    → ShowsThere known line Asks (OfPosition own) value
+shows_position line Asks own value is aim game before P at rows replay of rest parts = (
   P,
   ap (λ ps. slice_get ps (length before)) parts ∙ at_seam before P rest,
   subst (λ Q. IsPositionCell own Q value) (sym at.here) is,
 )
 
-pub shows_next : {known : Bool} (line : PlayedLine) (asked : List Conditions) (value : List ℕ)
-    → IsNextValue line value → ShowsThere known line asked Next value
-shows_next line asked value (text, is, left) aim game before P at rows replay own rest parts =
+pub shows_next : {known : Bool} (line : PlayedLine)
+    (Asks : Option (List Conditions) → GameText → Type 0) (value : List ℕ)
+    → IsNextValue line value → ShowsThere known line Asks Next value
+shows_next line Asks value (text, is, left) aim game before P at rows replay own rest parts =
     move_value replay (length before) text value
     (next_text_there at.to replay own text is) left
 
 -- so is the fault of its next move, where something is added already
-pub fails_at : {known : Bool} (line : PlayedLine) (asked : List Conditions)
+pub fails_at : {known : Bool} (line : PlayedLine)
+    (Asks : Option (List Conditions) → GameText → Type 0)
     (old some mid new : List ℕ) → mid ≡ old ++ some → (fault : Fault)
     → StopsInLine line mid new fault
-    → Where (λ aim game before P. IsPlayedWith known line asked aim game before P) (HasFault fault)
+    → Where (λ aim game before P. IsPlayedWith known line Asks aim game before P) (HasFault fault)
     × (more : List ℕ) × (new ≡ old ++ more)
-fails_at line asked old some mid new added fault (met, more, is) = (
+fails_at line Asks old some mid new added fault (met, more, is) = (
   λ aim game before P at. fails_there game line before at.played at.to fault met,
   some ++ more,
   is ∙ ap (λ t. t ++ more) added ∙ append_assoc old some more,
 )
 
 -- the line that went on, or has ended
-pub moves_on : {known : Bool} (asked : List Conditions) (old new : PlayedLine) (on more : Bool)
+pub moves_on : {known : Bool}
+    (Asks : Option (List Conditions) → GameText → Type 0) (old new : PlayedLine) (on more : Bool)
     → HasAdvanced old new more
-    → Where (λ aim game before P. IsPlayedWith known old asked aim game before P)
-    (GoesTo (λ aim game before P. IsPlayedWith known new asked aim game before P) on more)
-moves_on {known} asked old new on true word aim game before P at =
-    plays_on known asked old new on aim game before word P at
-moves_on {known} asked old new on false ended aim game before P at =
-    ends_there known asked old new on aim game before ended P at
+    → Where (λ aim game before P. IsPlayedWith known old Asks aim game before P)
+    (GoesTo (λ aim game before P. IsPlayedWith known new Asks aim game before P) on more)
+moves_on {known} Asks old new on true word aim game before P at =
+    plays_on known Asks old new on aim game before word P at
+moves_on {known} Asks old new on false ended aim game before P at =
+    ends_there known Asks old new on aim game before ended P at
 
 -- a line that is known to be sound, once no more is looked for
-pub ends_known : {known : Bool} (asked : List Conditions) (line : PlayedLine) (on : Bool)
+pub ends_known : {known : Bool}
+    (Asks : Option (List Conditions) → GameText → Type 0) (line : PlayedLine) (on : Bool)
     → known ≡ true → on ≡ false
-    → Where (λ aim game before P. IsPlayedWith known line asked aim game before P)
-    (GoesTo (λ aim game before P. IsPlayedWith known line asked aim game before P) on false)
-ends_known asked line on is off aim game before P at =
+    → Where (λ aim game before P. IsPlayedWith known line Asks aim game before P)
+    (GoesTo (λ aim game before P. IsPlayedWith known line Asks aim game before P) on false)
+ends_known Asks line on is off aim game before P at =
     (at.sound is, λ is_on. absurd (false≢true (sym off ∙ is_on)))
 
-pub fails_moved : {known : Bool} (line : PlayedLine) (asked : List Conditions) (fault : Fault)
+pub fails_moved : {known : Bool} (line : PlayedLine)
+    (Asks : Option (List Conditions) → GameText → Type 0) (fault : Fault)
     → IsMoveFault line.position line.plies line.words fault
-    → Where (λ aim game before P. IsPlayedWith known line asked aim game before P) (HasFault fault)
-fails_moved line asked fault met aim game before P at =
+    → Where (λ aim game before P. IsPlayedWith known line Asks aim game before P) (HasFault fault)
+fails_moved line Asks fault met aim game before P at =
     fails_there game line before at.played at.to fault met
 
--- where nothing is asked nothing is met
-pub never_met : {known : Bool} (line : PlayedLine) (asked : List Conditions) → length asked ≡ 0
-    → Where (λ aim game before P. IsPlayedWith known line asked aim game before P) IsNeverMet
-never_met line asked none aim game before P at replay own rest is n low within met =
-    let meets = (at.asks replay own n within).1 met in no_hold _ _ asked none meets.hold
-  where
-    no_hold : (P : State) (m : ℕ) (asked : List Conditions) → length asked ≡ 0
-        → SomeHold (heading_of game) replay m P asked → ⊥
-    no_hold P m [] empty hold = hold
-    no_hold P m (first ∷ more) empty hold = absurd (omega arith)
+-- so does one of which no more is met
+pub ends_met : {known : Bool} (Asks : Option (List Conditions) → GameText → Type 0)
+    (line : PlayedLine) (on : Bool) → known ≡ true
+    → ((criteria : Option (List Conditions)) (game : GameText) → Asks criteria game
+    → NoneFrom line.plies criteria game)
+    → Where (λ aim game before P. IsPlayedWith known line Asks aim game before P)
+    (GoesTo (λ aim game before P. IsPlayedWith known line Asks aim game before P) on false)
+ends_met Asks line on is none aim game before P at = (
+  at.sound is,
+  λ is_on replay own rest parts n low within wanted.
+      let count = at.to.count in
+      none aim.criteria game at.asks replay own n within (omega (arith, low, count)) wanted.2,
+)
+
+-- where nothing is met from the start on, nothing is
+pub never_met : {known : Bool} (line : PlayedLine)
+    (Asks : Option (List Conditions) → GameText → Type 0)
+    → ((criteria : Option (List Conditions)) (game : GameText) → Asks criteria game
+    → NoneFrom 0 criteria game)
+    → Where (λ aim game before P. IsPlayedWith known line Asks aim game before P) IsNeverMet
+never_met line Asks none aim game before P at replay own rest is n low within met =
+    none aim.criteria game at.asks replay own n within (omega arith) met
+
+-- what is told of the position that is reached is so of its ply
+pub met_played : {known : Bool} (line : PlayedLine)
+    (Asks : Option (List Conditions) → GameText → Type 0) (r : Bool)
+    → ((criteria : Option (List Conditions)) (game : GameText) → Asks criteria game
+    → TellsAt r line.plies line.position criteria game)
+    → Where (λ aim game before P. IsPlayedWith known line Asks aim game before P) (MeetsHere r)
+met_played line Asks r tells aim game before P at replay own rest parts =
+    let here : slice_get replay.positions (length before) ≡ Some line.position =
+    ap (λ ps. slice_get ps (length before)) parts ∙ at_seam before P rest ∙ ap Some at.here in
+    subst (λ n. IsTrue r ↔ IsMet aim.criteria (heading_of game) replay n) (sym at.to.count)
+    (tells aim.criteria game at.asks replay own
+    (subst (λ n. slice_get replay.positions n ≡ Some line.position) at.to.count here))
+
+-- ---- what is asked
+
+no_hold : (heading : Heading) (replay : Replay) (P : State) (ply : ℕ) (asked : List Conditions)
+    → length asked ≡ 0 → SomeHold heading replay ply P asked → ⊥
+no_hold heading replay P ply [] empty hold = hold
+no_hold heading replay P ply (first ∷ more) empty hold = absurd (omega arith)
+
+-- alternatives of which there is none
+pub asks_none : (asked : List Conditions) → length asked ≡ 0 → (least : ℕ)
+    (criteria : Option (List Conditions)) (game : GameText) → AsksOf asked criteria game
+    → NoneFrom least criteria game
+asks_none asked none least criteria game asks replay own ply within up met =
+    let meets = (asks replay own ply within).1 met in
+    no_hold (heading_of game) replay meets.position ply asked none meets.hold
+
+pub asks_there : (asked : List Conditions) (r : Bool) (ply : ℕ) (P : State)
+    → ((heading : Heading) (replay : Replay) (n : ℕ)
+    → IsTrue r ↔ SomeHold heading replay n P asked)
+    → (criteria : Option (List Conditions)) (game : GameText) → AsksOf asked criteria game
+    → TellsAt r ply P criteria game
+asks_there asked r ply P reports criteria game asks replay own here =
+    let within = slice_get_within replay.positions ply P here in
+    let same = asks replay own ply within in
+    let says = reports (heading_of game) replay ply in (
+      λ t. same.0 (record { position = P; here = here; hold = says.0 t }),
+      λ met.
+          let meets = same.1 met in
+          let one : meets.position ≡ P = let at = meets.here in cc (at, here) in
+          says.1 (subst (λ Q. SomeHold (heading_of game) replay ply Q asked) one meets.hold),
+    )
+
+-- every position, where there are no criteria
+pub all_there : (ply : ℕ) (P : State) (criteria : Option (List Conditions)) (game : GameText)
+    → criteria ≡ None → TellsAt true ply P criteria game
+all_there ply P criteria game without replay own here = (
+  λ t. subst (λ (o : Option (List Conditions)). IsMet o (heading_of game) replay ply)
+      (sym without) tt,
+  λ met. refl,
+)
 
 -- a fault from the start on is that of the game
 pub fails_at_start : {known : Bool} (finder : Finder) (game : GameText) (line : PlayedLine)
-    (asked : List Conditions)
-    → IsPlayedWith known line asked (aim_with finder None None) game [] line.position
+    (Asks : Option (List Conditions) → GameText → Type 0)
+    → IsPlayedWith known line Asks (aim_with finder None None) game [] line.position
     → (Grew : Type 0) (fault : Fault)
-    → Fails (λ aim own before P. IsPlayedWith known line asked aim own before P) finder fault × Grew
+    → Fails (λ aim own before P. IsPlayedWith known line Asks aim own before P) finder fault × Grew
     → IsFault Main (tag_in fen_tag game.tags) game.elements fault × Grew
-fails_at_start finder game line asked at Grew fault (fails, grew) =
+fails_at_start finder game line Asks at Grew fault (fails, grew) =
     (fails None None game line.position at, grew)

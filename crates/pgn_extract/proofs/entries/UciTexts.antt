@@ -17,6 +17,7 @@ use Rattle.pgn_game.proofs.OneReplay.{one_move}
 use Rattle.pgn_game.proofs.PlainTokens.{kind_high}
 use Rattle.pgn_game.specs.Public.GameLines.{promotion_letter, uci_text}
 use Rattle.pgn_game.specs.Public.PlayedLines.{PlayedLine, IsNextText}
+use Rattle.pgn_text.specs.Public.GameTexts.{GameText}
 use Rattle.pgn_criteria.specs.Public.Conditions.{Conditions}
 use Rattle.pgn_extract.specs.Private.Finding.{IsNextUci}
 use Rattle.pgn_extract.specs.Private.RowTexts.{IsPlainValue}
@@ -105,9 +106,10 @@ first_left P (word ∷ words) later more value (m, rest, others, later_is, more_
     is ∙ ap uci_text (one_move P word own m also named)
     ∙ ap (λ (ms : List Move). uci_cell (slice_get ms 0)) (sym more_is)
 
-pub shows_next_uci : {known : Bool} (line : PlayedLine) (asked : List Conditions) (value : List ℕ)
-    → IsNextUci line.position line.words value → ShowsThere known line asked NextUci value
-shows_next_uci line asked value is aim game before P at rows replay own rest parts =
+pub shows_next_uci : {known : Bool} (line : PlayedLine)
+    (Asks : Option (List Conditions) → GameText → Type 0) (value : List ℕ)
+    → IsNextUci line.position line.words value → ShowsThere known line Asks NextUci value
+shows_next_uci line Asks value is aim game before P at rows replay own rest parts =
     let left = left_of at.to replay own in
     let here : slice_get replay.played (length before) ≡ slice_get left.1 0 =
     ap (λ (ms : List Move). slice_get ms (length before)) left.4

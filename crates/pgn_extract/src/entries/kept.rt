@@ -1,5 +1,5 @@
-//! The entries of a game whose criteria speak of its moves at each ply, or whose rows show what is
-//! known of its whole main line: that is replayed and kept, and then looked through.
+//! The entries of a game whose rows show what is known of its whole main line: that is replayed and
+//! kept, and then looked through.
 ghost use Rattle.std.specs.Prelude.{◌≡◌, ◌≤◌, ◌<◌, ◌+◌, ◌-◌, ◌++◌, [], List, ℕ, MatchResult};
 ghost use Rattle.std.specs.Prelude.{Option, IfErr, IfOk, IfSome, Some, None, OnOk, length, refl};
 ghost use Rattle.chess.specs.Public.Positions.{State};

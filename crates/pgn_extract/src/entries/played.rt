@@ -1,6 +1,6 @@
 //! A main line whose positions are asked while it is played.
 ghost use Rattle.std.specs.Prelude.{◌≡◌, ◌↔◌, ◌++◌, ℕ, List, true, false, Option, IsTrue, IfErr};
-ghost use Rattle.std.specs.Prelude.{IfSome};
+ghost use Rattle.std.specs.Prelude.{IfSome, None, Some, get_or};
 ghost use Rattle.std.specs.Prelude.{◌≤◌, OnOk, codes, length};
 ghost use Rattle.std.proofs.Common.{ap};
 ghost use Rattle.chess.specs.Public.San.{IsOnlyNamed};
@@ -12,14 +12,15 @@ ghost use Rattle.pgn_game.specs.Public.Starts.{fen_tag};
 ghost use Rattle.pgn_game.specs.declared.replays.replayer.Lines.TheVariants.{Main};
 ghost use Rattle.pgn_extract.specs.Public.Aims.{GameId, aim_of};
 ghost use Rattle.pgn_extract.specs.Private.Lines.{aim_with, HandsOn, MakesLines, keeps_line};
-ghost use Rattle.pgn_criteria.specs.Public.Meeting.{Heading, SomeHold};
+ghost use Rattle.pgn_extract.specs.Private.Lines.{marked_lines};
 ghost use Rattle.pgn_criteria.specs.Public.Conditions.{Conditions};
 ghost use Rattle.pgn_game.specs.Public.Replays.{IsSoundGame, Replay, fault_of};
-ghost use Rattle.pgn_extract.specs.Private.Finding.{AsksFor, StopsInLine};
+ghost use Rattle.pgn_extract.specs.Private.Finding.{StopsAtFault, StopsInLine};
 ghost use Rattle.pgn_extract.specs.Private.Finding.{IsDashLeftOut, IsNextValue, IsNextUci};
 ghost use Rattle.pgn_extract.specs.Private.RowTexts.{IsPlainValue, needs_line};
 ghost use Rattle.pgn_extract.specs.Public.Rows.{IsPositionCell};
-ghost use Rattle.pgn_extract.specs.Private.PlayedLines.{IsPlayedWith};
+ghost use Rattle.pgn_extract.specs.Private.PlayedLines.{AsksOf, IsPlayedWith, NoneFrom, TellsAt};
+ghost use Rattle.pgn_extract.specs.Private.PlayedLines.{TellsOf};
 
 use crate::entries::finding::Finder;
 use crate::entries::line::Line;
@@ -29,36 +30,39 @@ use crate::rows::column::{PlyColumn, PositionColumn};
 use crate::rows::position::{check_sign, push_material, push_men};
 use crate::rows::uci::push_uci;
 use chess::{Move, Side, resolve};
-use pgn_criteria::Search;
+use pgn_criteria::{Criteria, Search};
 use pgn_game::{GameFault, GamePosition, MainLine};
 use pgn_text::RawGame;
 use std::alloc::{AllocError, Global};
 
 /// What each position is asked.
 pub(crate) trait Question: Drop {
-    /// Alternatives of conditions on a position.
-    ghost asked: { Self → List Conditions };
+    ghost use Rattle.pgn_text.specs.Public.GameTexts.{GameText};
 
-    /// Whether a position may meet them: not where there is none.
-    fn is_open(&self) -> bool
-        ensures { result ≡ false → length (asked self.now) ≡ 0 };
+    /// It asks of this game what the criteria ask.
+    ghost Asks: { Self → Option (List Conditions) → GameText → Type 0 };
 
-    /// Whether the position meets them.
-    fn is_met(&self, position: &GamePosition) -> bool
-        ensures { (heading : Heading) (replay : Replay) (ply : ℕ)
-            → IsTrue result ↔ SomeHold heading replay ply position.now (asked self.now) };
+    /// Whether a position may meet them after so many plies or more: not where none does.
+    fn is_open(&self, plies: usize) -> bool
+        ensures { result ≡ false → (criteria : Option (List Conditions)) (game : GameText)
+            → Asks self.now criteria game → NoneFrom plies criteria game };
+
+    /// Whether the position after so many plies meets them.
+    fn is_met(&self, plies: usize, position: &GamePosition) -> bool
+        ensures { (criteria : Option (List Conditions)) (game : GameText)
+            → Asks self.now criteria game → TellsAt result plies position.now criteria game };
 }
 
 impl<'a> Question for Search<'a> {
-    ghost asked = { λ search. search };
+    ghost Asks = { λ search criteria game. AsksOf search criteria game };
 
     #[inline(always)]
-    fn is_open(&self) -> bool {
+    fn is_open(&self, _: usize) -> bool {
         !self.is_empty()
     }
 
     #[inline(always)]
-    fn is_met(&self, position: &GamePosition) -> bool {
+    fn is_met(&self, _: usize, position: &GamePosition) -> bool {
         Search::is_met(self, position)
     }
 }
@@ -68,19 +72,39 @@ impl<'a> Question for Search<'a> {
 pub(crate) struct Anything;
 
 impl Question for Anything {
-    ghost use Rattle.std.specs.Prelude.{[], ◌∷◌};
-    ghost use Rattle.pgn_criteria.specs.Public.Conditions.{no_conditions};
-
-    ghost asked = { λ _. no_conditions ∷ [] };
+    ghost Asks = { λ _ criteria game. criteria ≡ None };
 
     #[inline(always)]
-    fn is_open(&self) -> bool {
+    fn is_open(&self, _: usize) -> bool {
         true
     }
 
     #[inline(always)]
-    fn is_met(&self, _: &GamePosition) -> bool {
+    fn is_met(&self, _: usize, _: &GamePosition) -> bool {
         true
+    }
+}
+
+/// The plies that meet the criteria are known, up to the last of them.
+#[derive(Drop)]
+struct Known {
+    met: Vec<bool>,
+}
+
+impl Question for Known {
+    ghost Asks = { λ known criteria game. TellsOf known.met.items criteria game };
+
+    #[inline(always)]
+    fn is_open(&self, plies: usize) -> bool {
+        plies < self.met.len()
+    }
+
+    #[inline(always)]
+    fn is_met(&self, plies: usize, _: &GamePosition) -> bool {
+        if plies < self.met.len() {
+            return self.met[plies];
+        }
+        false
     }
 }
 
@@ -190,7 +214,7 @@ impl<'g, 'a, Q: Question> Line for Played<'g, 'a, Q> {
     type Fault = GameFault<'a>;
 
     ghost At = { λ own aim game before P.
-        IsPlayedWith own.is_sound own.line (Q.asked own.question) aim game before P };
+        IsPlayedWith own.is_sound own.line (Q.Asks own.question) aim game before P };
 
     ghost Valid = { λ own. Unit {0} };
 
@@ -207,7 +231,8 @@ impl<'g, 'a, Q: Question> Line for Played<'g, 'a, Q> {
 
     #[inline(always)]
     fn is_met(&self) -> bool {
-        self.question.is_met(self.line.position())
+        self.question
+            .is_met(self.line.plies(), self.line.position())
     }
 
     fn push_value(&self, text: &mut Vec<u8>, column: PlyColumn) -> Result<(), GameFault<'a>> {
@@ -228,7 +253,7 @@ impl<'g, 'a, Q: Question> Line for Played<'g, 'a, Q> {
 
     #[inline(always)]
     fn advance(&mut self, is_open: bool) -> Result<bool, GameFault<'a>> {
-        if self.is_sound && !is_open {
+        if self.is_sound && (!is_open || !self.question.is_open(self.line.plies())) {
             return Ok(false);
         }
         self.line.advance()
@@ -250,7 +275,7 @@ pub(crate) fn find_played<'a, Q: Question, S: Sink>(
 ) -> Result<(), GameFault<'a>>
     requires takes { S.Takes finder.now.lines }
     requires shows { keeps_line finder.now.lines ≡ false }
-    requires asks { AsksFor (aim_of finder.now.settings.now) game.now (Q.asked question) }
+    requires asks { Q.Asks question (aim_of finder.now.settings.now).criteria game.now }
     requires sound { finder.now.is_sound ≡ true
         → IsSoundGame Main (tag_in fen_tag game.now.tags) game.now.elements }
     ensures found { OnOk result ((name : Option (List ℕ))
@@ -262,7 +287,7 @@ pub(crate) fn find_played<'a, Q: Question, S: Sink>(
         (λ own. IsFault Main (tag_in fen_tag game.now.tags) game.now.elements own
         × S.Grew sink.old sink.new)) }
 {
-    let is_open = question.is_open();
+    let is_open = question.is_open(0);
     let line = MainLine::begin(alloc, game)?;
     let mut line = Played {
         line,
@@ -270,4 +295,41 @@ pub(crate) fn find_played<'a, Q: Question, S: Sink>(
         is_sound: finder.is_sound,
     };
     finder.find(&mut line, sink, is_open)
+}
+
+/// Leaves out what is told of the plies after the last that is met.
+fn end_met(met: &mut Vec<bool>)
+    ensures { (ply : ℕ) → get_or met.new.items ply false ≡ get_or met.old.items ply false }
+{
+    let mut end = met.len();
+    while end > 0 && !met[end - 1] {
+        end -= 1;
+    }
+    met.truncate(end);
+}
+
+/// Asks which plies of the game meet the criteria, and plays its main line again up to the last of
+/// them, to add the lines of its entries. No position is kept.
+#[inline(never)]
+pub(crate) fn find_again<'a>(
+    finder: &mut Finder<'_>,
+    alloc: Global,
+    criteria: &'a Criteria,
+    game: &RawGame<'a>,
+    text: &mut Vec<u8>,
+) -> Result<(), GameFault<'a>>
+    requires shows { keeps_line finder.old.lines ≡ false }
+    requires criteria { finder.old.settings.now.criteria ≡ Some criteria.now }
+    ensures found { OnOk result ((name : Option (List ℕ))
+        (openings : Option (List NamedLine)) (id : GameId)
+        → MakesLines finder.old.lines name openings id game.now
+        → HandsOn (aim_with finder.old name openings) id game.now
+        (λ got. text.new.items ≡ text.old.items ++ marked_lines finder.old.mark.items got)) }
+    ensures fault { IfErr result (λ fault.
+        IfSome (fault_of fault) (StopsAtFault game.now text.old.items text.new.items)) }
+{
+    let mut met = criteria.met_of_game(alloc, game)?;
+    end_met(&mut met);
+    finder.is_sound = true;
+    find_played(finder, alloc, game, Known { met }, text)
 }

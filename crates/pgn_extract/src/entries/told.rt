@@ -77,8 +77,7 @@ impl Line for Told {
     ghost memory = { λ error fault from. refl };
 }
 
-/// Hands on the entries of the game by criteria. No position of it is kept where these speak of
-/// positions alone.
+/// Hands on the entries of the game by criteria, which are asked first which plies meet them.
 #[inline(never)]
 pub(crate) fn find_told<'a, S: Sink>(
     finder: &Finder<'a>,

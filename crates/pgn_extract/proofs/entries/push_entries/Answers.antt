@@ -2,14 +2,13 @@ use Rattle.std.proofs.Common.{IfSome}
 use Rattle.pgn_extract.proofs.Common.{IfSome_then, on_ok_weaker, MatchResult-weaker, aim_of}
 use Rattle.pgn_extract.proofs.Common.{fault_of, AddsEntries, StopsAtFault}
 use Rattle.pgn_extract.proofs.Finds.{on_result, stops_of}
-use Rattle.pgn_extract.proofs.Picks.{asks_given, none_given}
+use Rattle.pgn_extract.proofs.Picks.{asks_given}
 use Rattle.pgn_extract.proofs.entries.Finders.{finder_adds}
 use Rattle.pgn_extract.proofs.entries.push_entries.Goals as goal
 
 pub find_played-requires-clause-asks : goal.find_played-requires-clause-asks
 find_played-requires-clause-asks c =
-    rw c.in_ok-finder.ensures.settings
-    (none_given (aim_of c.args.context.settings.now) c.args.game.now c.in_default.is)
+    rw c.in_ok-finder.ensures.settings c.in_default.is
 
 pub find_played-requires-2-clause-asks : goal.find_played-requires-2-clause-asks
 find_played-requires-2-clause-asks c =
@@ -72,13 +71,13 @@ returns-in_default-2 c =
     let game = c.args.game.now in
     let finder = c.in_ok-finder in
     let old = c.args.text.now.items in
-    let new = c.find_kept-in_default-2.new.text.items in
-    on_result c.find_kept-in_default-2.result (AddsEntries (aim_of settings) id game old new)
+    let new = c.find_again.new.text.items in
+    on_result c.find_again.result (AddsEntries (aim_of settings) id game old new)
     (λ fault. IfSome (fault_of fault) (StopsAtFault game old new))
-    (on_ok_weaker c.find_kept-in_default-2.result
+    (on_ok_weaker c.find_again.result
     (finder_adds settings id game c.args.is_sound finder.finder finder.ensures old new)
-    c.find_kept-in_default-2.ensures.found)
-    c.find_kept-in_default-2.ensures.fault
+    c.find_again.ensures.found)
+    c.find_again.ensures.fault
 
 pub returns : goal.returns
 returns c =

@@ -1,11 +1,12 @@
-use Rattle.pgn_extract.proofs.Common.{IfSome_then, MatchResult-weaker}
-use Rattle.pgn_extract.proofs.entries.PlayedFacts.{ends_known, moves_on, fails_moved}
+use Rattle.pgn_extract.proofs.Common.{IfSome_then, MatchResult-weaker, subst}
+use Rattle.pgn_extract.proofs.entries.PlayedFacts.{ends_known, ends_met, moves_on, fails_moved}
+use Rattle.pgn_extract.specs.Private.PlayedLines.{NoneFrom}
 use Rattle.pgn_extract.proofs.entries.played.PlayedLine.advance.Goals as goal
 
 pub returns-clause-moved : goal.returns-clause-moved
 returns-clause-moved g c =
-    let asked = g.Q.Question.asked c.args.self.now.question in
+    let Asks = g.Q.Question.Asks c.args.self.now.question in
     let old = c.args.self.now.line in
     MatchResult-weaker c.advance.result c.advance.ensures
-    (moves_on asked old c.advance.new.self c.args.is_open)
-    (λ fault met. IfSome_then _ met (fails_moved old asked))
+    (moves_on Asks old c.advance.new.self c.args.is_open)
+    (λ fault met. IfSome_then _ met (fails_moved old Asks))

@@ -1,11 +1,13 @@
-use Rattle.pgn_extract.proofs.Common.{◌↔◌, IsTrue, sym, ◌∙◌, subst, SomeHold}
-use Rattle.pgn_extract.proofs.Finds.{met_here}
+use Rattle.pgn_extract.proofs.Common.{ap, subst}
+use Rattle.pgn_extract.proofs.entries.PlayedFacts.{met_played}
+use Rattle.pgn_extract.specs.Private.PlayedLines.{TellsAt}
 use Rattle.pgn_extract.proofs.entries.played.PlayedLine.is_met.Goals as goal
 
 pub returns : goal.returns
-returns g c aim game before P at =
-    let asked = g.Q.Question.asked c.args.self.now.question in
-    met_here aim game asked at.asks before P c.is_met.result
-    (λ heading replay ply.
-    subst (λ Q. IsTrue c.is_met.result ↔ SomeHold heading replay ply Q asked)
-    (c.position.ensures ∙ sym at.here) (c.is_met.ensures heading replay ply))
+returns g c =
+    let Asks = g.Q.Question.Asks c.args.self.now.question in
+    let line = c.args.self.now.line in
+    met_played line Asks c.is_met.result (λ criteria game asks.
+    subst (λ Q. TellsAt c.is_met.result line.plies Q criteria game) c.position.ensures
+    (subst (λ n. TellsAt c.is_met.result n c.position.result.now criteria game) c.plies.ensures
+    (c.is_met.ensures criteria game asks)))
