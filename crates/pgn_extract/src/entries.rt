@@ -25,7 +25,7 @@ pub(crate) mod row_game;
 pub(crate) mod row_maker;
 mod sink;
 mod ten_lines;
-mod told;
+pub(crate) mod told;
 
 use crate::entries::finding::Finder;
 use crate::entries::kept::find_kept;

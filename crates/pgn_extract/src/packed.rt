@@ -34,6 +34,7 @@ use crate::entries::finding::Finder;
 use crate::entries::line::Line;
 use crate::entries::line_maker::LineMaker;
 use crate::entries::listing::push_lines;
+use crate::entries::told::Told;
 use crate::marks::GameId;
 use crate::output::texts::{MARK_ROOM, push_mark};
 use crate::packed::kept_packed::{push_kept_record, record_opening, start_of};
@@ -470,8 +471,39 @@ fn push_turned<'a>(
     }
 }
 
+/// Adds the mark and the ply of each entry of a packed game by criteria, which is walked. Answers
+/// `false`, and adds nothing, where they speak of moves otherwise than by their number.
+fn push_told<'a>(
+    text: &mut Vec<u8>,
+    context: RecordContext<'a, '_, 'a>,
+    criteria: &'a Criteria,
+) -> Result<bool, PackedFault>
+    requires criteria { context.settings.now.criteria ≡ Some criteria.now }
+    requires shows { IsRawOfGame context.record.now }
+    ensures seen { IfOk result (λ seen. seen ≡ true
+        → ListsRecord (bare_aim context.entry.settings.now)
+        context.entry.record.now text.old.items text.new.items) }
+    ensures unseen { IfOk result (λ seen. seen ≡ false → text.new.items ≡ text.old.items) }
+    ensures err { IfErr result (λ fault. fault ≡ PackedFault.NoGame
+        → (text.new.items ≡ text.old.items) × HasNoText context.entry.record.now) }
+{
+    let RecordContext { alloc, record, .. } = context;
+    let (check, stuck) = (record.in_check(), record.is_stuck());
+    let mut walk = Walk::new(Bits::initial(), Side::White, check, stuck);
+    if let Err(fault) = begin(alloc, &mut walk, record) {
+        return Err(fault);
+    }
+    let Some(met) = criteria.met_walked(alloc, record, &walk)? else {
+        return Ok(false);
+    };
+    let line = Told { met, ply: 0 };
+    push_found(text, context, LineMaker::Fields(Fields::NONE), line)?;
+    Ok(true)
+}
+
 /// Adds the mark and the ply of each entry of a packed game by criteria on its moves or on several
-/// plies. It is played only where it may have an entry, and kept where they speak of several plies.
+/// plies, if it may have one. It is walked where they speak of positions alone, played where they
+/// speak of single plies, and kept where they speak of moves at several plies.
 fn push_played<'a>(
     text: &mut Vec<u8>,
     context: RecordContext<'a, '_, 'a>,
@@ -492,6 +524,11 @@ fn push_played<'a>(
         Err(fault) => return Err(fault),
     }
     match push_turned(text, context, criteria) {
+        Ok(true) => return Ok(()),
+        Ok(false) => {}
+        Err(fault) => return Err(fault),
+    }
+    match push_told(text, context, criteria) {
         Ok(true) => Ok(()),
         Ok(false) => push_kept_record(text, context),
         Err(fault) => Err(fault),
