@@ -36,7 +36,7 @@ _pgn_extract_excluded() {
     case $1 in
     --list) _pgn_extract_without --rows --csv --tsv --jsonl --no-header --index --moves --uci \
         --pack --others --faulty --as-is --set --drop --fix-results --plycount --order --to-ply \
-        --from-position --lines ;;
+        --from-position ;;
     --fen) _pgn_extract_without --rows --csv --tsv --jsonl --no-header --index --moves --uci \
         --pack --others --faulty --as-is --set --drop --fix-results --plycount --order --to-ply \
         --from-position --lines ;;
@@ -74,12 +74,8 @@ _pgn_extract_excluded() {
         --packed --index --moves --uci --tags-first --faulty --as-is -C --no-comments \
         --keep-commands --strip-commands -N --no-glyphs -V --no-variations --roster -w --width \
         --set --drop --fix-results --plycount --order --to-ply --from-position --lines ;;
-    --criteria) _pgn_extract_without --lines ;;
-    --where) _pgn_extract_without --lines ;;
-    --openings) _pgn_extract_without --tags-first --lines ;;
-    --min-ply) _pgn_extract_without --lines ;;
-    --tags-first) _pgn_extract_without --packed --index --pack --openings --others --faulty \
-        --lines ;;
+    --openings) _pgn_extract_without --tags-first ;;
+    --tags-first) _pgn_extract_without --packed --index --pack --openings --others --faulty ;;
     --others) _pgn_extract_without --list --fen --next --rows --csv --tsv --jsonl --no-header \
         --packed --index --tags-first --faulty --from-position --lines ;;
     --faulty) _pgn_extract_without --list --fen --next --rows --csv --tsv --jsonl --no-header \
@@ -109,9 +105,8 @@ _pgn_extract_excluded() {
         --packed --index --moves --uci --pack --faulty --as-is ;;
     --from-position) _pgn_extract_without --list --fen --next --rows --csv --tsv --jsonl \
         --no-header --packed --index --moves --uci --pack --others --faulty --as-is --lines ;;
-    --lines) _pgn_extract_without --list --fen --next --rows --csv --tsv --jsonl --no-header \
-        --packed --index --pack --criteria --where --openings --min-ply --tags-first --others \
-        --faulty --as-is -V --no-variations --from-position ;;
+    --lines) _pgn_extract_without --fen --next --rows --csv --tsv --jsonl --no-header --packed \
+        --index --pack --others --faulty --as-is -V --no-variations --from-position ;;
     --progress) _pgn_extract_without --no-progress ;;
     --no-progress) _pgn_extract_without --progress ;;
     --from) _pgn_extract_without --packed ;;

@@ -5,6 +5,7 @@ pub mod ChoiceFacts
 pub mod Common
 pub mod Counting
 pub mod ModeOutputs
+pub mod LineOutputs
 pub mod ExactEntries
 pub mod Exported
 pub mod FieldTexts

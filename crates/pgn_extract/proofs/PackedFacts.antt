@@ -200,17 +200,19 @@ appended_same (b ∷ old) own other is =
 
 -- outside the index the listing of a record is its lines
 listed_lines : (aim : Aim) (packed : PackedGame) (text : List ℕ)
-    → (aim.mode ≡ modes.List) ⊎ (aim.mode ≡ modes.Export) → IsRecordListing aim packed text
-    → AreRecordLines aim.mode aim packed text
+    → (aim.mode ≡ modes.List) ⊎ ((aim.mode ≡ modes.EachLine) ⊎ (aim.mode ≡ modes.Export))
+    → IsRecordListing aim packed text → AreRecordLines aim.mode aim packed text
 listed_lines aim packed text (inl list) listed =
     subst (λ (m : Mode). AreRecordLines m aim packed text) (sym list) listed
-listed_lines aim packed text (inr export) listed =
+listed_lines aim packed text (inr (inl lines)) listed =
+    subst (λ (m : Mode). AreRecordLines m aim packed text) (sym lines) listed
+listed_lines aim packed text (inr (inr export)) listed =
     subst (λ (m : Mode). AreRecordLines m aim packed text) (sym export) listed
 
 -- the lines of each game that has the record, as it counts, are the lines of the record
 pub puts_record : (aim : Aim) (raw : RawRecord) (old new : List ℕ)
-    → (aim.mode ≡ modes.List) ⊎ (aim.mode ≡ modes.Export) → ListsCounted aim raw old new
-    → PutsRecord aim raw old new
+    → (aim.mode ≡ modes.List) ⊎ ((aim.mode ≡ modes.EachLine) ⊎ (aim.mode ≡ modes.Export))
+    → ListsCounted aim raw old new → PutsRecord aim raw old new
 puts_record aim raw old new mode lists = (
   lists.0.0,
   lists.0.1,

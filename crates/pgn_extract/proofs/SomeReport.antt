@@ -36,7 +36,15 @@ use Rattle.pgn_extract.proofs.Chosen.{some_chosen}
 use Rattle.pgn_extract.proofs.Decided.{IsDecided, all_decided}
 use Rattle.pgn_extract.proofs.ExactEntries.{within_plies}
 use Rattle.pgn_extract.proofs.Exported.{selected_or_not}
-use Rattle.pgn_extract.specs.Public.Listing.{IsShownOf}
+use Rattle.pgn_extract.specs.Public.Listing.{AfterPly, IsShownOf}
+use Rattle.pgn_extract.specs.Public.LineListing.{AreLineListings, IsLineListing, ListsEachLine}
+use Rattle.pgn_game.specs.Public.LineGames.{LineGame, line_items, lines_of}
+use Rattle.pgn_game.specs.Public.Replays.{IsSoundGame}
+use Rattle.pgn_game.specs.Public.SearchedLines.{as_searched, own_ply, up_to_pass_if}
+use Rattle.pgn_game.specs.declared.replays.replayer.Lines.TheVariants.{All}
+use Rattle.pgn_game.proofs.SearchedFacts.{all_searched}
+use Rattle.std.specs.Prelude.{decimal}
+use Rattle.std.specs.List.{AllByRecursion}
 use Rattle.pgn_extract.proofs.ShownTexts.{some_shown}
 use Rattle.pgn_extract.proofs.SomeCounted.{answers, some_counted}
 use Rattle.pgn_extract.proofs.Counting.{counted_good}
@@ -231,10 +239,49 @@ module _ (aim : Aim) (decided : IsDecided aim) (id : GameId) (game : GameText)
       ply (within_plies replay.positions ply has)) in
       (listing aim.name some.0, (some.0, some.1, refl))
 
+  -- and each of its lines
+  own_entries : (number : ℕ) (line : LineGame)
+      → IsSoundGame Main (tag_in fen_tag game.tags) (as_searched game line).elements
+      → (own : List ℕ) × IsLineListing aim id game number line own
+  own_entries number line (replay, is) =
+      let some = some_chosen id
+      (λ ply. (own_ply line ≤ ply) × IsEntry aim (heading_of game) replay ply)
+      (λ ply shown. shown ≡ AfterPly (32 ∷ decimal number)) (plies_of 0 replay.positions)
+      (λ ply has. elim (cases_lt ply (own_ply line)) [
+        | inl under ↦ inr (λ both. let least = both.0 in omega arith)
+        | inr least ↦ elim (entry_or_not aim (heading_of game) replay ply (λ n less.
+            let short = within_plies replay.positions ply has in
+            decided Main (as_searched game line) replay is n (omega arith))) [
+              | inl entry ↦ inl (omega arith, entry)
+              | inr fails ↦ inr (λ both. fails both.1)
+            ]
+      ])
+      (λ ply has. (AfterPly (32 ∷ decimal number), refl)) in
+      (listing aim.name some.0, (replay, is, some.0, some.1, refl))
+
+  lines_entries : (number : ℕ) (lines : List LineGame)
+      → AllByRecursion (λ line. IsSoundGame Main (tag_in fen_tag game.tags)
+      (up_to_pass_if line.inside (line_items line))) lines
+      → (own : List ℕ) × AreLineListings aim id game number lines own
+  lines_entries number [] sound = ([], refl)
+  lines_entries number (line ∷ more) (first, sound) =
+      let (text, listed) = own_entries number line first in
+      let (rest, later) = lines_entries (number + 1) more sound in
+      (text ++ rest, (text, rest, refl, listed, later))
+
+  each_line : (replay : Replay) → IsReplayOf All game replay
+      → (own : List ℕ) × ListsEachLine aim id game own
+  each_line replay is =
+      let (line, spells, sound) =
+      all_searched (tag_in fen_tag game.tags) game.elements (replay, is) in
+      let (text, listed) = lines_entries 0 (lines_of line) sound in
+      (text, (line, spells, listed))
+
   some_output : (mode : Mode) (replay : Replay) → IsReplayOf (replayed_lines mode aim) game replay
       → (own : List ℕ) × IsOutput mode aim id game replay own
   some_output modes.Index replay is = entries replay is
   some_output modes.List replay is = entries replay is
+  some_output modes.EachLine replay is = each_line replay is
   some_output modes.Export replay is = written replay is
 
   game_replayed : (mode : Mode) → (verdict : Verdict) × IsReplayed mode aim id game verdict
@@ -265,6 +312,11 @@ game_reported aim decided id parts made modes.List =
     let (game, counts) = some_counted aim.openings parts made.0 made.1 in
     let own = game_verdict aim decided id game (counted_good aim.openings parts game counts)
     aim.tags_first modes.List in
+    (own.0, (game, counts, own.1))
+game_reported aim decided id parts made modes.EachLine =
+    let (game, counts) = some_counted aim.openings parts made.0 made.1 in
+    let own = game_verdict aim decided id game (counted_good aim.openings parts game counts)
+    aim.tags_first modes.EachLine in
     (own.0, (game, counts, own.1))
 game_reported aim decided id parts made modes.Export =
     let (game, counts) = some_counted aim.openings parts made.0 made.1 in

@@ -13,3 +13,4 @@ pub mod PlainCells
 pub mod UciTexts
 pub mod LineMaking
 pub mod Finders
+pub mod LineListings

@@ -17,6 +17,7 @@ pub mod Listing
 pub mod GameReports
 pub mod Exports
 pub mod Notes
+pub mod LineListing
 pub mod Verdicts
 pub mod Outcomes
 pub mod Resuming

@@ -13,6 +13,7 @@ ghost use Rattle.pgn_extract.specs.Private.Finding.{ListsNone};
 ghost use Rattle.pgn_extract.specs.Private.Lines.{IsFinderOf};
 
 pub(crate) mod annotations;
+pub(crate) mod each_line;
 mod fields;
 pub(crate) mod finding;
 pub(crate) mod kept;

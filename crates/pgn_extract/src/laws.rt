@@ -19,7 +19,7 @@ ghost use Rattle.pgn_extract.specs.Public.Laws.{FirstChangesNoExport, PieceIsInO
 ghost use Rattle.pgn_extract.specs.Public.Laws.{NoteNamesTheStop, NoNotes};
 ghost use Rattle.pgn_extract.specs.Public.Laws.{PartsJoin, PartsAreReported};
 ghost use Rattle.pgn_extract.specs.Public.Laws.{TagsFirstChangesNoOutput};
-ghost use Rattle.pgn_extract.specs.Public.Laws.{RunIndexes, RunExports, RunResumes};
+ghost use Rattle.pgn_extract.specs.Public.Laws.{RunIndexes, RunExports, RunListsLines, RunResumes};
 
 /// The pieces of each text have entries, and these are one list: the plies of its sound games that
 /// are within the bounds and whose position meets the criteria, or the least such of each game,
@@ -87,10 +87,11 @@ pub fn packs()
     ensures names { NamesAreShown }
 {}
 
-/// What a complete run wrote in the modes that do not list, and where it began at a mark. All of it
+/// What a complete run wrote in the modes but `List`, and where it began at a mark. All of it
 /// follows from what `run` ensures at `Ok`.
 pub fn complete_runs()
     ensures indexes { RunIndexes }
+    ensures lines { RunListsLines }
     ensures exports { RunExports }
     ensures resumes { RunResumes }
 {}

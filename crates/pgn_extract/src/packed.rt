@@ -729,7 +729,7 @@ pub fn push_packed<'a>(
             push_record_line(text, record)?;
             Ok(())
         }
-        Mode::List | Mode::Export => match &settings.openings {
+        Mode::List | Mode::EachLine | Mode::Export => match &settings.openings {
             Some(openings) => push_counted(text, context, openings),
             None => push_entries(text, context),
         },

@@ -17,6 +17,10 @@ pub enum Mode {
     /// Each entry on a line of its own: the mark of a game whose main line can be replayed, and a
     /// ply of it whose position is looked for.
     List,
+    /// The same of each line of a game, where all can be replayed: after the ply stands the number
+    /// of the line in the game. A ply that a variation shares with the line that it stands in is
+    /// an entry of that line alone.
+    EachLine,
     /// The text of each game that is selected.
     Export,
 }

@@ -40,6 +40,7 @@ replayed_in : (mode : Mode) (aim : Aim) (id : GameId) (parts : List Part) (verdi
     → IsVerdictIn mode aim id parts verdict
 replayed_in modes.Index aim id parts verdict other is = absurd (other refl)
 replayed_in modes.List aim id parts verdict other is = is
+replayed_in modes.EachLine aim id parts verdict other is = is
 replayed_in modes.Export aim id parts verdict other is = is
 
 pub game_added : (aim : Aim) {old new : Report} (id : GameId) (game : GameText) → IsGameText game

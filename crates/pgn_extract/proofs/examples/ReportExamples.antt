@@ -110,10 +110,11 @@ no_fault_unsaid : (mode : Mode) (aim : Aim) (id : GameId) (game : GameText) (tex
     → IsReplayed mode aim id game (FaultyGame text [] note) → ⊥
 no_fault_unsaid mode aim id game text note (fault, first, is, noted, written) = cc
 
--- all lines that are written must be sound in the export alone
+-- all lines that are listed or written must be sound
 lines_that_are_replayed : (aim : Aim)
     → replayed_lines modes.Index aim ∷ replayed_lines modes.List aim
-    ∷ replayed_lines modes.Export aim ∷ [] ≡ Main ∷ Main ∷ written_lines aim ∷ []
+    ∷ replayed_lines modes.EachLine aim ∷ replayed_lines modes.Export aim ∷ []
+    ≡ Main ∷ Main ∷ All ∷ written_lines aim ∷ []
 lines_that_are_replayed aim = refl
 
 -- where no entry is listed, nothing goes to the output

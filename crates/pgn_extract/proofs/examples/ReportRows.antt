@@ -43,8 +43,13 @@ no_mark_without_a_sign = refl
 
 -- Requests.
 
-list_is_asked : (request : Request) → asked_mode (record request { list = true }) ≡ modes.List
+list_is_asked : (request : Request)
+    → asked_mode (record request { list = true; lines = false }) ≡ modes.List
 list_is_asked request = refl
+
+list_of_lines_is_asked : (request : Request)
+    → asked_mode (record request { list = true; lines = true }) ≡ modes.EachLine
+list_of_lines_is_asked request = refl
 
 index_is_asked : (request : Request)
     → asked_mode (record request { list = false; rows = None; index = true }) ≡ modes.Index

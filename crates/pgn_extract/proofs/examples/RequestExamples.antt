@@ -277,14 +277,25 @@ positions_of_games request no_sets no_drops = (
 -- and lines where they are, none of them twice
 abbrev no_lines_written : List ℕ
 no_lines_written = codes
-    "pgn-extract: --lines goes with none of --list, --index, --rows, --pack, --as-is, --faulty, --others, --criteria, --where, --min-ply, --openings, --from-position and -V\n"
+    "pgn-extract: --lines goes with none of --index, --rows, --pack, --as-is, --faulty, --others, --from-position and -V, and without --list with none of --criteria, --where, --min-ply and --openings\n"
+
+abbrev no_lines_listed : List ℕ
+no_lines_listed = codes
+    "pgn-extract: --list --lines goes with none of --fen, --next, --first and --packed\n"
 
 lines_of_games : (request : Request) (path : Bor (List ℕ)) → request.conditions.items ≡ []
     → request.sets.items ≡ [] → request.drops.items ≡ []
     → IsTaken (record (plain request) { lines = true; roster = true; criteria = None })
     × IsTaken (record (plain request) { lines = true; moves = true; criteria = None })
     × IsTaken (record (plain request) { lines = true; uci = true; criteria = None })
-    × RefusedWith (record (plain request) { lines = true; list = true }) no_lines_written
+    × IsTaken (record (plain request) { lines = true; list = true; criteria = Some path })
+    × RefusedWith (record (plain request) { lines = true; list = true; fen = true })
+    no_lines_listed
+    × RefusedWith (record (plain request) { lines = true; list = true; first = true })
+    no_lines_listed
+    × RefusedWith (record (plain request) { lines = true; list = true; packed = true })
+    no_lines_listed
+    × RefusedWith (record (plain request) { lines = true; index = true }) no_lines_written
     × RefusedWith (record (plain request) { lines = true; pack = true }) no_lines_written
     × RefusedWith (record (plain request) { lines = true; faulty = true }) no_lines_written
     × RefusedWith (record (plain request) { lines = true; others = true }) no_lines_written
@@ -299,6 +310,7 @@ lines_of_games request path none no_sets no_drops = (
   rw none refl,
   rw (none, no_sets, no_drops) refl,
   rw (none, no_sets, no_drops) refl,
+  rw (no_sets, no_drops) refl,
   refl,
   refl,
   refl,
@@ -306,8 +318,11 @@ lines_of_games request path none no_sets no_drops = (
   refl,
   refl,
   refl,
-  rw none refl,
-  rw none refl,
+  refl,
+  refl,
+  refl,
+  refl,
+  refl,
 )
 
 edits_that_set : (request : Request) (text : Bor (List ℕ)) → request.sets.items ≡ text ∷ []

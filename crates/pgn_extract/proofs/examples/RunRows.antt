@@ -221,11 +221,12 @@ no_empty_line_of_a_record aim packed is = none _ is
 no_line_of_no_record : (aim : Aim) → ArePackLines aim [] (codes "x") → ⊥
 no_line_of_no_record aim are = cc
 
--- in both of its other modes a record has the lines of its game
+-- in each of its other modes a record has the lines of its game
 no_other_lines_in_a_mode : (aim : Aim) (packed : PackedGame) (text : List ℕ)
     → (IsRecordListing aim packed text → ⊥) → (AreRecordLines modes.List aim packed text → ⊥)
+    × (AreRecordLines modes.EachLine aim packed text → ⊥)
     × (AreRecordLines modes.Export aim packed text → ⊥)
-no_other_lines_in_a_mode aim packed text none = (none, none)
+no_other_lines_in_a_mode aim packed text none = (none, none, none)
 
 no_lines_of_another_record : (aim : Aim) (packed : PackedGame) (more : List PackedGame)
     (text : List ℕ) → ((own : List ℕ) → AreRecordLines aim.mode aim packed own → ⊥)

@@ -18,7 +18,12 @@ use Rattle.pgn_game.proofs.GameLineFacts.{one_game_line}
 use Rattle.pgn_game.proofs.SomeRecord.{one_spelling}
 use Rattle.pgn_extract.proofs.ChoiceFacts.{by_both, by_choice}
 use Rattle.pgn_extract.proofs.Chosen.{one_chosen}
-use Rattle.pgn_extract.specs.Public.Listing.{IsShownOf}
+use Rattle.pgn_extract.specs.Public.Listing.{AfterPly, IsShownOf}
+use Rattle.pgn_extract.specs.Public.LineListing.{AreLineListings, AreOwnListed, ListsEachLine}
+use Rattle.pgn_game.specs.Public.LineGames.{LineGame, lines_of}
+use Rattle.pgn_game.specs.Public.SearchedLines.{as_searched, own_ply}
+use Rattle.pgn_game.proofs.Spelling.{one_tree}
+use Rattle.std.specs.Prelude.{◌≤◌, ◌++◌, decimal}
 use Rattle.pgn_extract.specs.Public.Rows.{place_of}
 use Rattle.pgn_extract.proofs.ShownTexts.{one_shown}
 use Rattle.pgn_extract.proofs.Counting.{one_counted}
@@ -80,6 +85,35 @@ one_lines aim id game replay x y (xs, these, first) (ys, those, second) =
     (plies_of 0 replay.positions)
     xs ys these those) ∙ sym second
 
+-- those of the entries of its lines
+one_own : (aim : Aim) (id : GameId) (game : GameText) (number : ℕ) (lines : List LineGame)
+    (x y : List ℕ) → AreLineListings aim id game number lines x
+    → AreLineListings aim id game number lines y → x ≡ y
+one_own aim id game number [] x y is also = is ∙ sym also
+one_own aim id game number (line ∷ more) x y
+    (own, rest, parted, (replay, is, entries, these, text), later)
+    (own2, rest2, split, (other, also, entries2, those, text2), others) =
+    let least = own_ply line in
+    let same : other ≡ replay =
+    one_replay Main (tag_in fen_tag game.tags) (as_searched game line).elements other replay also is
+    in
+    let one = one_chosen id (λ ply. (least ≤ ply) × IsEntry aim (heading_of game) replay ply)
+    (λ ply shown. shown ≡ AfterPly (32 ∷ decimal number))
+    (λ ply a b first second. first ∙ sym second)
+    (plies_of 0 replay.positions) entries entries2 these
+    (subst (λ (r : Replay). AreOwnListed aim id (heading_of game) number least r entries2) same
+    those) in
+    parted ∙ ap (λ t. t ++ rest) (text ∙ ap (listing aim.name) one ∙ sym text2)
+    ∙ ap (λ t. own2 ++ t) (one_own aim id game (number + 1) more rest rest2 later others)
+    ∙ sym split
+
+one_each : (aim : Aim) (id : GameId) (game : GameText) (x y : List ℕ)
+    → ListsEachLine aim id game x → ListsEachLine aim id game y → x ≡ y
+one_each aim id game x y (line, spells, is) (line2, spells2, also) =
+    one_own aim id game 0 (lines_of line) x y is
+    (subst (λ l. AreLineListings aim id game 0 (lines_of l) y)
+    (one_tree line2 line (sym spells2 ∙ spells)) also)
+
 -- what goes to the output of it
 one_output : (mode : Mode) (aim : Aim) (id : GameId) (game : GameText) (replay : Replay)
     (x y : List ℕ) → IsOutput mode aim id game replay x → IsOutput mode aim id game replay y → x ≡ y
@@ -87,6 +121,8 @@ one_output modes.Index aim id game replay x y first second =
     one_lines aim id game replay x y first second
 one_output modes.List aim id game replay x y first second =
     one_lines aim id game replay x y first second
+one_output modes.EachLine aim id game replay x y first second =
+    one_each aim id game x y first second
 one_output modes.Export aim id game replay x y first second =
     one_written aim id game replay x y first second
 
@@ -156,6 +192,7 @@ one_in : (mode : Mode) (aim : Aim) (id : GameId) (parts : List Part) (a b : Verd
     → without_note a ≡ without_note b
 one_in modes.Index aim id parts a b x y = ap without_note (x ∙ sym y)
 one_in modes.List aim id parts a b x y = one_of_parts modes.List aim id parts a b x y
+one_in modes.EachLine aim id parts a b x y = one_of_parts modes.EachLine aim id parts a b x y
 one_in modes.Export aim id parts a b x y = one_of_parts modes.Export aim id parts a b x y
 
 -- a piece
@@ -208,6 +245,7 @@ module _ (aim : Aim) (plain : aim.explain ≡ false) where
       → IsVerdictIn mode aim id parts v → without_note v ≡ v
   bare_in modes.Index id parts v is = ap without_note is ∙ sym is
   bare_in modes.List id parts v is = bare_game aim.tags_first modes.List id is.0 v is.2
+  bare_in modes.EachLine id parts v is = bare_game aim.tags_first modes.EachLine id is.0 v is.2
   bare_in modes.Export id parts v is = bare_game aim.tags_first modes.Export id is.0 v is.2
 
   bare_piece : (kind : PieceKind) (id : GameId) (v : Verdict) → IsPieceVerdict kind aim id v

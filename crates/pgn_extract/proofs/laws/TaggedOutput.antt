@@ -14,7 +14,11 @@ use Rattle.pgn_extract.proofs.Common.{IsGameReported, IsGameVerdict, IsVerdictIn
 use Rattle.pgn_extract.proofs.Common.{AreEntryLines, without_note, output_of}
 use Rattle.pgn_extract.proofs.Common.{output_text, Aim, GameId, IsEntry, IsRuledOut, id_of}
 use Rattle.pgn_extract.proofs.Common.{is_chosen, Mode}
-use Rattle.pgn_extract.specs.Public.Listing.{IsShownOf}
+use Rattle.pgn_extract.specs.Public.Listing.{AfterPly, IsShownOf}
+use Rattle.pgn_extract.specs.Public.LineListing.{AreLineListings, ListsEachLine}
+use Rattle.pgn_game.specs.Public.LineGames.{LineGame, lines_of}
+use Rattle.pgn_game.specs.Public.SearchedLines.{own_ply}
+use Rattle.std.specs.Prelude.{◌≤◌, decimal}
 use Rattle.pgn_extract.specs.Public.Laws.{TagsFirstChangesNoOutput, with_tags_first}
 use Rattle.pgn_extract.proofs.ChoiceFacts.{by_both}
 use Rattle.pgn_extract.proofs.Counting.{one_counted}
@@ -31,6 +35,19 @@ module _ (aim : Aim) (id : GameId) (game : GameText) (out : IsRuledOut aim (head
       (λ ply. no_entry aim (heading_of game) replay ply out) (plies_of 0 replay.positions) entries
       these)
 
+  no_own : (number : ℕ) (lines : List LineGame) (text : List ℕ)
+      → AreLineListings aim id game number lines text → text ≡ []
+  no_own number [] text none = none
+  no_own number (line ∷ more) text
+      (own, rest, parted, (replay, is, entries, these, listed), later) =
+      let nothing = chosen_none id
+      (λ ply. (own_ply line ≤ ply) × IsEntry aim (heading_of game) replay ply)
+      (λ ply shown. shown ≡ AfterPly (32 ∷ decimal number))
+      (λ ply both. no_entry aim (heading_of game) replay ply out both.1)
+      (plies_of 0 replay.positions) entries these in
+      parted ∙ ap (λ t. t ++ rest) (listed ∙ ap (listing aim.name) nothing)
+      ∙ no_own (number + 1) more rest later
+
   not_written : (replay : Replay) (text : List ℕ) → IsWritten aim id game replay text → text ≡ []
   not_written replay text (selected is own) =
       absurd (not_selected aim (heading_of game) replay out is)
@@ -39,6 +56,7 @@ module _ (aim : Aim) (id : GameId) (game : GameText) (out : IsRuledOut aim (head
   no_faulty_text : (mode : Mode) → faulty_text mode aim.select game.text ≡ []
   no_faulty_text modes.Index = refl
   no_faulty_text modes.List = refl
+  no_faulty_text modes.EachLine = refl
   no_faulty_text modes.Export =
       ap (λ (s : Select). faulty_text modes.Export s game.text) out.select
 
@@ -46,6 +64,8 @@ module _ (aim : Aim) (id : GameId) (game : GameText) (out : IsRuledOut aim (head
       → output_of verdict ≡ []
   nothing_out modes.Index (SoundGame text) (replay, is, lines) = no_lines replay text lines
   nothing_out modes.List (SoundGame text) (replay, is, lines) = no_lines replay text lines
+  nothing_out modes.EachLine (SoundGame text) (replay, is, (line, spells, lines)) =
+      no_own 0 (lines_of line) text lines
   nothing_out modes.Export (SoundGame text) (replay, is, written) = not_written replay text written
   nothing_out mode (FaultyGame text line note) (fault, is, here, noted, by) =
       by ∙ no_faulty_text mode
@@ -69,15 +89,29 @@ module _ (aim : Aim) (id : GameId) (game : GameText) where
   same_written replay text (selected is own) = selected is (same_text aim.form text own)
   same_written replay text (unselected fails is) = unselected fails is
 
+  same_own : (number : ℕ) (lines : List LineGame) (text : List ℕ)
+      → AreLineListings (with_tags_first false aim) id game number lines text
+      → AreLineListings (with_tags_first true aim) id game number lines text
+  same_own number [] text is = is
+  same_own number (line ∷ more) text (own, rest, parted, listed, later) =
+      (own, rest, parted, listed, same_own (number + 1) more rest later)
+
+  same_each : (text : List ℕ) → ListsEachLine (with_tags_first false aim) id game text
+      → ListsEachLine (with_tags_first true aim) id game text
+  same_each text (line, spells, lines) = (line, spells, same_own 0 (lines_of line) text lines)
+
   same_replayed : (mode : Mode) (verdict : Verdict)
       → IsReplayed mode (with_tags_first false aim) id game verdict
       → IsReplayed mode (with_tags_first true aim) id game verdict
   same_replayed modes.Index (SoundGame text) (replay, is, lines) = (replay, is, lines)
   same_replayed modes.List (SoundGame text) (replay, is, lines) = (replay, is, lines)
+  same_replayed modes.EachLine (SoundGame text) (replay, is, lines) =
+      (replay, is, same_each text lines)
   same_replayed modes.Export (SoundGame text) (replay, is, written) =
       (replay, is, same_written replay text written)
   same_replayed modes.Index (FaultyGame text line note) is = is
   same_replayed modes.List (FaultyGame text line note) is = is
+  same_replayed modes.EachLine (FaultyGame text line note) is = is
   same_replayed modes.Export (FaultyGame text line note) is = is
 
 -- a note is no output
@@ -113,6 +147,7 @@ in_output : (mode : Mode) (aim : Aim) (id : GameId) (parts : List Part) (a b : V
     → IsVerdictIn mode (with_tags_first false aim) id parts b → output_of a ≡ output_of b
 in_output modes.Index aim id parts a b x y = ap output_of (x ∙ sym y)
 in_output modes.List aim id parts a b x y = parts_output modes.List aim id parts a b x y
+in_output modes.EachLine aim id parts a b x y = parts_output modes.EachLine aim id parts a b x y
 in_output modes.Export aim id parts a b x y = parts_output modes.Export aim id parts a b x y
 
 -- a piece

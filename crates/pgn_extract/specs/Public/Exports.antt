@@ -118,6 +118,7 @@ pub data IsWritten (aim : Aim) (id : GameId) (game : GameText) (replay : Replay)
 abbrev pub faulty_text : Mode → Select → List ℕ → List ℕ
 faulty_text modes.Index select bytes = []
 faulty_text modes.List select bytes = []
+faulty_text modes.EachLine select bytes = []
 faulty_text modes.Export Matching bytes = []
 faulty_text modes.Export Others bytes = []
 faulty_text modes.Export Faulty bytes = as_it_stands bytes

@@ -12,6 +12,7 @@ use Rattle.pgn_game.specs.Public.PackedGames.{longest_name, is_shown, is_shown_n
 use Rattle.pgn_extract.specs.Public.Index.{index, shown_name}
 use Rattle.pgn_extract.specs.Public.Listing.{Entry, AreEntries, listing}
 use Rattle.pgn_extract.specs.Public.Exports.{as_it_stands, IsPieceExport, AreExports}
+use Rattle.pgn_extract.specs.Public.LineListing.{AreGameLineListings}
 use Rattle.pgn_extract.specs.Public.Notes.{IsLinePlace, IsNote, NamesByte, NamesStop}
 use Rattle.pgn_extract.specs.Public.Resuming.{IsMarkAmong, WritesRest}
 use Rattle.pgn_extract.specs.Public.Runs.{Io, Job, job_of, ArePieces, Adds, Completes, IsRun}
@@ -227,6 +228,14 @@ RunIndexes =
     (job : Job) (io : Io) (whole : List ℕ) (summary : Summary)
     (done : Completes job io whole summary) → job.aim.mode ≡ modes.Index
     → Adds io.out (index job.aim.chosen job.aim.name job.id.number done.pieces)
+
+-- in that of the listings of all lines by these of the games among them,
+abbrev pub RunListsLines : Type 0
+RunListsLines =
+    (job : Job) (io : Io) (whole : List ℕ) (summary : Summary)
+    (done : Completes job io whole summary) → job.aim.mode ≡ modes.EachLine
+    → (text : List ℕ) × AreGameLineListings job.aim job.id.number done.pieces text
+    × Adds io.out text
 
 -- and in that of the export by the exports of the games among them.
 abbrev pub RunExports : Type 0

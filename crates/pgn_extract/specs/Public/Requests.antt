@@ -33,10 +33,12 @@ use Rattle.pgn_extract.specs.declared.settings.Select.TheVariants.{Matching, Oth
 
 -- What is asked for.
 
--- what is written: a list, an index, or games
+-- what is written: a list, of each line or of main lines, an index, or games
 abbrev pub asked_mode : Request → Mode
-asked_mode request = if request.list || is_some request.rows then modes.List
-    else (if request.index then modes.Index else modes.Export)
+asked_mode request =
+    if request.list && request.lines then modes.EachLine
+    else (if request.list || is_some request.rows then modes.List
+    else (if request.index then modes.Index else modes.Export))
 
 -- which games are written
 abbrev pub asked_select : Request → Select
@@ -244,22 +246,38 @@ edit_refusals request =
 
 -- games are looked for, or have the tags of their openings
 abbrev pub asks_of_games : Request → Bool
-asks_of_games request = request.others || nat_lt 0 request.min_ply || is_some request.openings
+asks_of_games request = nat_lt 0 request.min_ply || is_some request.openings
     || gives_criteria request
 
--- the refusals of lines as games beside another form or a search of games, those of edits, and
--- those of files
+-- something is asked for that no lines are written or listed with
+abbrev pub asks_no_lines : Request → Bool
+asks_no_lines request = (request.index || is_some request.rows || request.others)
+    || (request.pack || request.as_is || request.faulty)
+    || (request.from_position || request.no_variations)
+
+-- the refusals of more than plies, and of packs, where the lines of games are listed, and those of
+-- edits and files
+abbrev pub line_list_refusals : Request → List Refusal
+line_list_refusals request =
+    record {
+      applies = request.list && request.lines
+          && (request.fen || request.next || request.first || request.packed);
+      line = codes
+          "pgn-extract: --list --lines goes with none of --fen, --next, --first and --packed\n";
+    }
+    ∷ edit_refusals request
+
+-- the refusals of lines beside another form or, where they are not listed, a search of games, those
+-- of lists of lines, those of edits, and those of files
 abbrev pub line_refusals : Request → List Refusal
 line_refusals request =
     record {
       applies = request.lines
-          && ((request.list || request.index || is_some request.rows)
-          || (request.pack || request.as_is || request.faulty) || asks_of_games request
-          || (request.from_position || request.no_variations));
+          && (asks_no_lines request || not request.list && asks_of_games request);
       line = codes
-          "pgn-extract: --lines goes with none of --list, --index, --rows, --pack, --as-is, --faulty, --others, --criteria, --where, --min-ply, --openings, --from-position and -V\n";
+          "pgn-extract: --lines goes with none of --index, --rows, --pack, --as-is, --faulty, --others, --from-position and -V, and without --list with none of --criteria, --where, --min-ply and --openings\n";
     }
-    ∷ edit_refusals request
+    ∷ line_list_refusals request
 
 -- the refusals of tags that come first, those of lines and edits, and those of files
 abbrev pub search_refusals : Request → List Refusal

@@ -122,6 +122,7 @@ abbrev pub AreRecordLines : Mode → Aim → PackedGame → List ℕ → Type 0
 AreRecordLines modes.Index aim packed text =
     text ≡ mark_line packed.name (game_id packed.number packed.offset)
 AreRecordLines modes.List aim packed text = IsRecordListing aim packed text
+AreRecordLines modes.EachLine aim packed text = IsRecordListing aim packed text
 AreRecordLines modes.Export aim packed text = IsRecordListing aim packed text
 
 -- no game has the record

@@ -7,7 +7,7 @@ use Rattle.pgn_text.specs.Public.Parts.{Part}
 use Rattle.pgn_game.specs.Public.Faults.{Fault}
 use Rattle.pgn_game.specs.Public.Replays.{Replay}
 use Rattle.pgn_game.specs.declared.replays.replayer.Lines.{Lines}
-use Rattle.pgn_game.specs.declared.replays.replayer.Lines.TheVariants.{Main}
+use Rattle.pgn_game.specs.declared.replays.replayer.Lines.TheVariants.{All, Main}
 use Rattle.pgn_criteria.specs.Public.Meeting.{heading_of}
 use Rattle.pgn_extract.specs.Public.Index.{fault_text, mark_line}
 use Rattle.pgn_extract.specs.Public.Listing.{Entry, IsCounted, listing}
@@ -15,6 +15,7 @@ use Rattle.pgn_extract.specs.Public.GameReports.{AreListed, IsReplayOf, IsFaultO
 use Rattle.pgn_extract.specs.Public.Aims.{Aim, GameId, IsRuledOut}
 use Rattle.pgn_extract.specs.Public.Choices.{id_of, IfChosen, is_chosen}
 use Rattle.pgn_extract.specs.Public.Exports.{written_lines, IsWritten, faulty_text}
+use Rattle.pgn_extract.specs.Public.LineListing.{ListsEachLine}
 use Rattle.pgn_extract.specs.Public.Notes.{IsNote, NamesStop}
 use Rattle.pgn_extract.specs.declared.settings.Mode.{Mode}
 use Rattle.pgn_extract.specs.declared.settings.Mode.TheVariants as modes
@@ -57,11 +58,12 @@ abbrev pub fault_lines : List Verdict → List ℕ
 fault_lines [] = []
 fault_lines (verdict ∷ more) = fault_line_of verdict ++ fault_lines more
 
--- the lines of a game that must be sound in a mode: in the export all that are written, else its
--- main line
+-- the lines of a game that must be sound in a mode: all where each is listed, in the export those
+-- that are written, else its main line
 abbrev pub replayed_lines : Mode → Aim → Lines
 replayed_lines modes.Index aim = Main
 replayed_lines modes.List aim = Main
+replayed_lines modes.EachLine aim = All
 replayed_lines modes.Export aim = written_lines aim
 
 -- the lines of the entries that a sound game lists
@@ -71,10 +73,11 @@ AreEntryLines aim id game replay text =
     × (text ≡ listing aim.name entries)
 
 -- what goes to the output of a sound game in a mode: in the export what is written of it, else the
--- lines of its entries
+-- lines of its entries, or of those of each of its lines
 abbrev pub IsOutput : Mode → Aim → GameId → GameText → Replay → List ℕ → Type 0
 IsOutput modes.Index aim id game replay text = AreEntryLines aim id game replay text
 IsOutput modes.List aim id game replay text = AreEntryLines aim id game replay text
+IsOutput modes.EachLine aim id game replay text = ListsEachLine aim id game text
 IsOutput modes.Export aim id game replay text = IsWritten aim id game replay text
 
 -- the game is reported by its replay: where it is sound, by what goes to the output of it; else by
@@ -114,6 +117,7 @@ IsGameReported mode aim id parts verdict =
 abbrev pub IsVerdictIn : Mode → Aim → GameId → List Part → Verdict → Type 0
 IsVerdictIn modes.Index aim id parts verdict = verdict ≡ SoundGame (mark_line aim.name id)
 IsVerdictIn modes.List aim id parts verdict = IsGameReported modes.List aim id parts verdict
+IsVerdictIn modes.EachLine aim id parts verdict = IsGameReported modes.EachLine aim id parts verdict
 IsVerdictIn modes.Export aim id parts verdict = IsGameReported modes.Export aim id parts verdict
 
 -- the piece is faulty: these bytes go to the output, this line to standard error, and a note after

@@ -362,7 +362,8 @@ const EDITS: &[Choice] = &[
         "lines",
         "Write each line of a game as a game of its own: the\n\
          main line, and each variation after the moves that\n\
-         lead to it, without a result",
+         lead to it, without a result; with --list, list the\n\
+         positions of each line, with its number after P",
     ),
 ];
 

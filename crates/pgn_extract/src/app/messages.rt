@@ -50,9 +50,13 @@ pub const NO_TAGS_WRITTEN: &str =
 /// Games that have no position that is looked for begin with none.
 pub const NO_POSITION: &str = "pgn-extract: --from-position and --others exclude each other\n";
 
-/// Lines are written in the standard's form alone, each as a game; criteria look at main lines.
+/// Lines are listed, or written in the standard's form alone, each as a game, with no search.
 pub const LINES_ARE_GAMES: &str =
-    "pgn-extract: --lines goes with none of --list, --index, --rows, --pack, --as-is, --faulty, --others, --criteria, --where, --min-ply, --openings, --from-position and -V\n";
+    "pgn-extract: --lines goes with none of --index, --rows, --pack, --as-is, --faulty, --others, --from-position and -V, and without --list with none of --criteria, --where, --min-ply and --openings\n";
+
+/// The entries of each line of a game are listed bare, and a record has one line.
+pub const LINES_ARE_LISTED_BARE: &str =
+    "pgn-extract: --list --lines goes with none of --fen, --next, --first and --packed\n";
 
 /// Commands are kept whole, and left out.
 pub const BOTH_COMMANDS: &str =

@@ -3,6 +3,8 @@ ghost use Rattle.std.specs.Prelude.{◌≡◌, ◌||◌, true, option_map, IfErr
 ghost use Rattle.pgn_extract.specs.Public.Aims.{aim_of};
 ghost use Rattle.pgn_extract.specs.Public.GivenMarks.{IsGameMark};
 ghost use Rattle.pgn_extract.specs.Private.Lines.{is_bare};
+ghost use Rattle.pgn_extract.specs.Public.Requests.{asks_no_lines, asks_of_games};
+ghost use Rattle.pgn_extract.specs.Public.Requests.{line_list_refusals};
 ghost use Rattle.pgn_extract.specs.Public.Requests.{asked, asked_form, asked_mode, asked_select};
 ghost use Rattle.pgn_extract.specs.Public.Requests.{asked_commands, asked_style, asks_names};
 ghost use Rattle.pgn_extract.specs.Public.Requests.{bad_mark, begin_of, edit_refusals, end_of};
@@ -164,18 +166,27 @@ fn refused_searches(request: &Request<'_>) -> Option<&'static str>
     refused_lines(request)
 }
 
-/// The line that refuses lines as games beside another form or a search of games; or edits of tags,
-/// or the options of files.
+/// The line that refuses lines as games beside another form or a search of games; or what lists of
+/// lines are refused with, edits of tags, or the options of files.
 fn refused_lines(request: &Request<'_>) -> Option<&'static str>
     ensures { option_map (λ line. line.now) result ≡ first_line (line_refusals request.now) }
 {
-    let has_mode = request.list | request.index | request.rows.is_some();
-    let is_other = has_mode | request.pack | request.as_is | request.faulty;
-    let is_search = request.others | (request.min_ply > 0) | has_criteria(request);
-    let is_of_games = is_search | request.openings.is_some();
-    let is_cut = request.from_position | request.no_variations;
-    if request.lines & (is_other | is_of_games | is_cut) {
+    let is_searched = !request.list & asks_of_games(request);
+    if request.lines & (asks_no_lines(request) | is_searched) {
         return Some(messages::LINES_ARE_GAMES);
+    }
+    refused_lists_of_lines(request)
+}
+
+/// The line that refuses more than plies, and packs, where the lines of games are listed; or edits
+/// of tags, or the options of files.
+fn refused_lists_of_lines(request: &Request<'_>) -> Option<&'static str>
+    ensures { option_map (λ line. line.now) result
+        ≡ first_line (line_list_refusals request.now) }
+{
+    let has_more = request.fen | request.next | request.first | request.packed;
+    if request.list & request.lines & has_more {
+        return Some(messages::LINES_ARE_LISTED_BARE);
     }
     refused_edits(request)
 }
@@ -220,6 +231,22 @@ fn has_criteria(request: &Request<'_>) -> bool
     request.criteria.is_some() || !request.conditions.is_empty()
 }
 
+/// Whether games are looked for, or have the tags of their openings.
+fn asks_of_games(request: &Request<'_>) -> bool
+    ensures { result ≡ asks_of_games request.now }
+{
+    request.min_ply > 0 || request.openings.is_some() || has_criteria(request)
+}
+
+/// Whether something is asked for that no lines are written or listed with.
+fn asks_no_lines(request: &Request<'_>) -> bool
+    ensures { result ≡ asks_no_lines request.now }
+{
+    let has_mode = request.index || request.rows.is_some() || request.others;
+    let has_form = request.pack || request.as_is || request.faulty;
+    has_mode || has_form || request.from_position || request.no_variations
+}
+
 /// Whether something is asked for that no game can be left out of by its tags, or of packs.
 fn needs_each_game(request: &Request<'_>) -> bool
     ensures { result ≡ needs_each_game request.now }
@@ -255,7 +282,9 @@ pub fn has_names(request: &Request<'_>) -> bool
 fn mode_of(request: &Request<'_>) -> Mode
     ensures { result ≡ asked_mode request.now }
 {
-    if request.list || request.rows.is_some() {
+    if request.list && request.lines {
+        Mode::EachLine
+    } else if request.list || request.rows.is_some() {
         Mode::List
     } else if request.index {
         Mode::Index

@@ -63,7 +63,7 @@ pub fn push_faulty(
     ensures { OnOk result (text.new.items ≡ text.old.items ++ faulty_text mode select bytes.now) }
 {
     match mode {
-        Mode::Index | Mode::List => Ok(()),
+        Mode::Index | Mode::List | Mode::EachLine => Ok(()),
         Mode::Export => match select {
             Select::Matching | Select::Others => Ok(()),
             Select::Faulty => push_as_is(text, bytes),

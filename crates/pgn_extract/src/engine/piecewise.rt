@@ -373,7 +373,9 @@ fn report_block<'a, O: Write, E: Write>(
     match body {
         Body::Bytes(bytes) => match work.settings.mode {
             Mode::Index => report_marks(out, err, report, work, bytes),
-            Mode::List | Mode::Export => report_games(out, err, report, work, bytes),
+            Mode::List | Mode::EachLine | Mode::Export => report_games(
+                out, err, report, work, bytes,
+            ),
         },
         Body::TooLong(size) => {
             let id = GameId {

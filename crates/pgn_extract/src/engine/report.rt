@@ -23,6 +23,7 @@ ghost use Rattle.pgn_game.specs.Public.Starts.{fen_tag};
 ghost use Rattle.pgn_text.specs.Public.GameTexts.{tag_in};
 
 use crate::engine::exporting::{exports_all, push_faulty, put_selected, written_lines};
+use crate::entries::each_line::push_each_line;
 use crate::entries::listing::push_plies;
 use crate::entries::{GameContext, is_ruled_out, lists_none, push_entries};
 use crate::explain::move_notes::{GamePlace, push_game_note};
@@ -149,6 +150,7 @@ impl Report {
 fn replayed_lines(settings: &Settings) -> Lines {
     match settings.mode {
         Mode::Index | Mode::List => Lines::Main,
+        Mode::EachLine => Lines::All,
         Mode::Export => written_lines(settings),
     }
 }
@@ -245,6 +247,7 @@ fn push_sound<'a>(
     match context.settings.mode {
         Mode::Index => push_listed(text, context, game),
         Mode::List => push_listed(text, context, game),
+        Mode::EachLine => push_each_line(text, context, game),
         Mode::Export => put_selected(text, context, game),
     }
 }
@@ -435,6 +438,7 @@ impl Report {
         match settings.mode {
             Mode::Index => push_mark_line(&mut self.output, &settings.name, own),
             Mode::List => self.add_counted(context, game_place, game),
+            Mode::EachLine => self.add_counted(context, game_place, game),
             Mode::Export => self.add_counted(context, game_place, game),
         }
     }

@@ -80,7 +80,7 @@ impl Line for Told {
 /// Hands on the entries of the game by criteria, which are asked first which plies meet them.
 #[inline(never)]
 pub(crate) fn find_told<'a, S: Sink>(
-    finder: &Finder<'a>,
+    finder: &Finder<'_>,
     alloc: Global,
     criteria: &'a Criteria,
     game: &RawGame<'a>,

@@ -56,5 +56,5 @@ returns c = (
       let at = c.loop-alternative.invariant.at in
       let end = c.loop-alternative-test.false in
       c.loop-alternative.invariant.told replay ply turn i one
-          (omega (arith, within, at, end)) there,
+      (omega (arith, within, at, end)) there,
 )

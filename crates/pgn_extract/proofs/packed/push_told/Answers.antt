@@ -1,4 +1,5 @@
-use Rattle.pgn_extract.proofs.Common.{◌↔◌, [], false≢true, IsTrue, List, Option, refl, sym, subst, arith}
+use Rattle.pgn_extract.proofs.Common.{◌↔◌, [], false≢true, IsTrue, List, Option}
+use Rattle.pgn_extract.proofs.Common.{refl, sym, subst, arith}
 use Rattle.pgn_extract.proofs.Common.{Conditions, IsMet, heading_of, record_aim}
 use Rattle.pgn_extract.specs.Private.Packed.{bare_aim}
 use Rattle.pgn_extract.proofs.Finds.{none_yet}

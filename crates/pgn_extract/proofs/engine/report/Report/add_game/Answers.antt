@@ -16,6 +16,13 @@ returns-in-List c =
     game_added (aim_of c.args.context.settings.now) c.args.context.own c.args.game
     c.invariant.ensures (λ index. let list = c.in-List.is in cc) adds) c.add_counted.ensures
 
+pub returns-in-EachLine : goal.returns-in-EachLine
+returns-in-EachLine c =
+    on_ok_weaker c.add_counted-in-EachLine.result (λ adds.
+    game_added (aim_of c.args.context.settings.now) c.args.context.own c.args.game
+    c.invariant.ensures (λ index. let lines = c.in-EachLine.is in cc) adds)
+    c.add_counted-in-EachLine.ensures
+
 pub returns-in-Export : goal.returns-in-Export
 returns-in-Export c =
     on_ok_weaker c.add_counted-in-Export.result (λ adds.
