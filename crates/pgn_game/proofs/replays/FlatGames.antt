@@ -3,7 +3,8 @@ use Rattle.pgn_game.proofs.Common.{◌≡◌, ◌∙◌, ℕ, false, List, [], �
 use Rattle.pgn_game.proofs.Common.{State, after, Move, Item, IsPaired, Line, LineEnd, ThenMove}
 use Rattle.pgn_game.proofs.Common.{ThenGlyph, ThenComment, ThenVariation, IsPlayed, own_words}
 use Rattle.pgn_game.proofs.Common.{spelled, IsFlat, main_words, IsMainLine, IsSoundGame, Main, All}
-use Rattle.pgn_game.proofs.Common.{LineMove, Played}
+use Rattle.pgn_game.proofs.Common.{◌++◌, LineMove, Played}
+use Rattle.pgn_game.specs.Public.LineGames.{variations_in}
 use Rattle.pgn_game.proofs.AnAnswer.{played_sound}
 use Rattle.pgn_game.proofs.OneLine.{main_words_of}
 use Rattle.pgn_game.proofs.Spelling.{one_spelt}
@@ -41,3 +42,12 @@ flat_sound fen items paired flat (replay, is) =
     flat_played tree.0 is.start is.start replay.positions replay.played
     (subst IsFlat tree.1 flat) line in
     played_sound fen is.start items all.0 is.is_start (tree.0, tree.1, all.1)
+
+-- and it has no variation
+pub none_flat : (line : Line) (before now : List (List ℕ)) → IsFlat (spelled line)
+    → variations_in before now line ≡ []
+none_flat LineEnd before now flat = refl
+none_flat (ThenMove word rest) before now flat = none_flat rest now (now ++ word ∷ []) flat
+none_flat (ThenGlyph number rest) before now flat = none_flat rest before now flat
+none_flat (ThenComment text rest) before now flat = none_flat rest before now flat
+none_flat (ThenVariation inner rest) before now flat = absurd flat

@@ -1,7 +1,6 @@
 //! The variations of a game, each as a main line whose positions can be looked for.
-ghost use Rattle.std.specs.Prelude.{◌≡◌, ◌++◌, ◌∷◌, ◌<◌, ◌^◌, true, false, [], IfOk, MatchOption};
-ghost use Rattle.std.specs.Prelude.{map};
-ghost use Rattle.std.specs.Prelude.{OnOk};
+ghost use Rattle.std.specs.Prelude.{◌≡◌, ◌⊎◌, ◌++◌, ◌∷◌, ◌<◌, ◌^◌, true, false, [], IfOk};
+ghost use Rattle.std.specs.Prelude.{MatchOption, OnOk, map};
 ghost use Rattle.pgn_text.specs.Public.Elements.{item_of};
 ghost use Rattle.pgn_text.specs.Public.GameTexts.{tag_in};
 ghost use Rattle.pgn_game.specs.Public.AllLines.{Line, spelled};
@@ -9,10 +8,12 @@ ghost use Rattle.pgn_game.specs.Public.LineGames.{LineGame, variations_in};
 ghost use Rattle.pgn_game.specs.Public.Replays.{IsSoundGame};
 ghost use Rattle.pgn_game.specs.Public.SearchedLines.{as_searched, own_ply, passes, up_to_pass};
 ghost use Rattle.pgn_game.specs.Public.Starts.{fen_tag};
+ghost use Rattle.pgn_game.specs.Private.LineWalks.{IsFlat};
 ghost use Rattle.pgn_game.specs.Private.PassPlaces.{pass_place};
 ghost use Rattle.pgn_game.specs.declared.replays.replayer.Lines.TheVariants.{All, Main};
 
 use crate::exports::lines::Path;
+use crate::replays::replayer::is_flat;
 use crate::turns::saying::is_null_move;
 use pgn_text::{Element, RawGame};
 use std::alloc::{AllocError, Global};
@@ -98,8 +99,16 @@ impl<'g, 'a> Model for Variations<'g, 'a> {
     } };
 }
 
+/// The elements of a game in which a variation stands; none where none does.
+fn varied<'g, 'a>(elements: &'g [Element<'a>]) -> &'g [Element<'a>]
+    ensures { (map item_of result.now ≡ map item_of elements.now)
+        ⊎ ((map item_of result.now ≡ []) × IsFlat (map item_of elements.now)) }
+{
+    if is_flat(elements) { &[] } else { elements }
+}
+
 impl<'g, 'a> Variations<'g, 'a> {
-    /// Those of a game whose lines are sound.
+    /// Those of a game whose lines are sound. A game without one is only looked through.
     pub fn of_game(alloc: Global, game: &'g RawGame<'a>) -> Self
         requires { IsSoundGame All (tag_in fen_tag game.now.tags) game.now.elements }
         ensures lines { (line : Line) × (game.now.elements ≡ spelled line)
@@ -111,7 +120,7 @@ impl<'g, 'a> Variations<'g, 'a> {
             alloc,
             game,
             path: Path::new(alloc),
-            rest: game.elements(),
+            rest: varied(game.elements()),
         }
     }
 

@@ -65,7 +65,7 @@ pub fn check_lines<'a>(alloc: Global, raw: &RawGame<'a>, lines: Lines) -> Result
 }
 
 /// Whether none of the elements begins a variation.
-fn is_flat(elements: &[Element<'_>]) -> bool
+pub(crate) fn is_flat(elements: &[Element<'_>]) -> bool
     ensures { IsTrue result → IsFlat (map item_of elements.now) }
 {
     for element in elements {
