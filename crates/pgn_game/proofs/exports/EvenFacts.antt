@@ -4,7 +4,8 @@ use Rattle.std.proofs.Common.{ap₂, inl, inr}
 use Rattle.std.proofs.Math.Seq.{get_or-append_seam}
 use Rattle.std.proofs.lemmas.Bool.{cases_lt}
 use Rattle.std.proofs.lemmas.List.{get_or-append-add, take-append-drop, drop_more, take_more}
-use Rattle.std.proofs.lemmas.List.{get_or_past, length-take-le, length-drop}
+use Rattle.std.proofs.lemmas.List.{get_or_past, length-take-le, length-drop, set_at}
+use Rattle.std.specs.Prelude.{slice_set}
 use Rattle.std.proofs.Math.Seq.{take-length}
 use Rattle.std.proofs.lemmas.List.Elements.{filter-append}
 use Rattle.pgn_text.proofs.Bits.{both_true, not_true, neither, clash}
@@ -417,17 +418,26 @@ same_tokens commands x y same =
     ap (λ words. tied (if commands then ties false words else []) (braced words)) same
 
 pub both_lines : (before x y : List ℕ)
-    → (((((before ++ 32 ∷ []) ++ 123 ∷ []) ++ x) ++ 10 ∷ []) ++ y) ++ 125 ∷ []
+    → (((before ++ 32 ∷ []) ++ 123 ∷ []) ++ (x ++ 10 ∷ y)) ++ 125 ∷ []
     ≡ before ++ 32 ∷ 123 ∷ (x ++ 10 ∷ (y ++ 125 ∷ []))
 both_lines before x y =
-    let begun = (before ++ 32 ∷ []) ++ 123 ∷ [] in
-    let last = y ++ 125 ∷ [] in
-    append_assoc ((begun ++ x) ++ 10 ∷ []) y (125 ∷ []) ∙ append_assoc (begun ++ x) (10 ∷ []) last
-    ∙ append_assoc begun x (10 ∷ last)
-    ∙ append_assoc (before ++ 32 ∷ []) (123 ∷ []) (x ++ 10 ∷ last)
-    ∙ append_assoc before (32 ∷ []) (123 ∷ (x ++ 10 ∷ last))
+    let last = x ++ 10 ∷ (y ++ 125 ∷ []) in
+    append_assoc ((before ++ 32 ∷ []) ++ 123 ∷ []) (x ++ 10 ∷ y) (125 ∷ [])
+    ∙ ap (λ t. ((before ++ 32 ∷ []) ++ 123 ∷ []) ++ t) (append_assoc x (10 ∷ y) (125 ∷ []))
+    ∙ append_assoc (before ++ 32 ∷ []) (123 ∷ []) last ∙ append_assoc before (32 ∷ []) (123 ∷ last)
 
--- all of what follows a place
-pub rest_is : (text : List ℕ) (n : ℕ) → take (length text - n) (drop n text) ≡ drop n text
-rest_is text n = ap (λ k. take k (drop n text)) (sym (length-drop n text))
-    ∙ take-length (drop n text)
+-- a text after another, with a line feed in place of one of its bytes
+pub parted_there : (out text : List ℕ) (place at : ℕ) → place < length text
+    → at ≡ length out + place
+    → slice_set (out ++ text) at 10 ≡ out ++ (take place text ++ 10 ∷ drop (place + 1) text)
+parted_there out text place at lt is =
+    let x : List ℕ = take place text in
+    let y : List ℕ = drop (place + 1) text in
+    let b : ℕ = get_or text place 37 in
+    let cut : text ≡ x ++ b ∷ y =
+    sym (take-append-drop place text) ∙ ap (λ t. x ++ t) (drop_more text place 37 lt) in
+    let size : length (out ++ x) ≡ at =
+    omega (arith, length-append out x, length-take-le place text (omega (arith, lt)), is) in
+    ap (λ t. slice_set (out ++ t) at 10) cut
+    ∙ ap (λ t. slice_set t at 10) (sym (append_assoc out x (b ∷ y)))
+    ∙ set_at (out ++ x) b y 10 at size ∙ append_assoc out x (10 ∷ y)

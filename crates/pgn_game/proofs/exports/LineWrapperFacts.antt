@@ -56,7 +56,7 @@ put_joined old new before after first rest begun fits put more =
     ∙ sym (in_one_line old.width old.column first rest more fits))
     ∙ sym (ap (λ b. before ++ after_tokens old.width b old.column (first ∷ (rest ++ more))) begun)
 
-pub put_at_once : (old new : LineWrapper) (before after : List ℕ) (tokens : List (List ℕ)) (b : ℕ)
+put_at_once : (old new : LineWrapper) (before after : List ℕ) (tokens : List (List ℕ)) (b : ℕ)
     (text : List ℕ) → joined tokens ≡ b ∷ text → old.begun ≡ true
     → old.column + 1 + length (b ∷ text) ≤ old.width → HasPut old new before after ((b ∷ text) ∷ [])
     → HasPut old new before after tokens
@@ -101,6 +101,22 @@ from_added old new before after tokens begun same width each more =
     ap (λ b. after ++ after_tokens new.width b new.column more) (same ∙ begun)
     ∙ ap (λ n. after ++ added n new.column more) width ∙ each more
     ∙ sym (ap (λ b. before ++ after_tokens old.width b old.column (tokens ++ more)) begun)
+
+-- tokens that stand together in the line that is begun
+pub put_within : (old new : LineWrapper) (before after : List ℕ) (tokens : List (List ℕ)) (b : ℕ)
+    (text : List ℕ) → joined tokens ≡ b ∷ text → old.begun ≡ true
+    → (new.begun ≡ old.begun) × (new.column ≡ old.column + 1 + length (b ∷ text))
+    × (new.width ≡ old.width) → old.column + 1 + length (b ∷ text) ≤ old.width
+    → after ≡ before ++ 32 ∷ b ∷ text → HasPut old new before after tokens
+put_within old new before after tokens b text is begun (same, column, width) fits here =
+    let line = b ∷ text in
+    put_at_once old new before after tokens b text is begun fits
+    (from_added old new before after (line ∷ []) begun same width
+    (λ more.
+    ap (λ x. x ++ added old.width new.column more) here
+    ∙ ap (λ n. (before ++ 32 ∷ line) ++ added old.width n more) column
+    ∙ append_assoc before (32 ∷ line) (added old.width (old.column + 1 + length line) more)
+    ∙ ap (λ x. before ++ x) (sym (in_one_line old.width old.column line [] more fits))))
 
 pub put_line : (old new : LineWrapper) (before after : List ℕ) (tokens : List (List ℕ))
     (first : List ℕ) (rest : List (List ℕ)) → tokens ≡ first ∷ rest → old.begun ≡ true

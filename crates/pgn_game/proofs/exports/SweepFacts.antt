@@ -6,7 +6,7 @@ use Rattle.std.proofs.Common.{inl, inr, ◌++◌, drop, replicate, Option, Some,
 use Rattle.std.proofs.lemmas.Bool.{cases_lt}
 use Rattle.std.proofs.lemmas.Grind.{get_or_default_zero}
 use Rattle.std.proofs.lemmas.List.{get_or-map, get_or_past, get_or_append_left, get_or-drop}
-use Rattle.std.proofs.lemmas.List.{get_or-append_right, get_or-replicate}
+use Rattle.std.proofs.lemmas.List.{get_or-append_right, get_or-replicate, length-map}
 use Rattle.std.proofs.lemmas.Simd.{map-map}
 use Rattle.std.proofs.lemmas.Nat.{leading_top}
 use Rattle.std.proofs.lemmas.Nat.Bits.{bit_at-zero, bit_at_above}
@@ -33,11 +33,19 @@ top_of : (t : Bool) → top 7 (cond t 255 0) ≡ t
 top_of true = refl
 top_of false = refl
 
-pub hit_lanes : (byte : ℕ) (v z : List ℕ) → length v ≡ 64 → z ≡ map (λ x. hit x byte) v
-    → AreLanes 64 (λ b. b == byte) v (mask_l (map (top 7) z) % 2 ^ 64)
-hit_lanes byte v z long e =
-    each_lane 64 (omega arith) (λ x. hit x byte) (λ b. b == byte) v z long e
-    (λ x. top_of (eqb x byte))
+pub hit_lanes : (n : ℕ) → n ≤ 64 → (byte : ℕ) (v z : List ℕ) → length v ≡ n
+    → z ≡ map (λ x. hit x byte) v
+    → AreLanes n (λ b. b == byte) v (mask_l (map (top 7) z) % 2 ^ 64)
+hit_lanes n short byte v z long e =
+    each_lane n short (λ x. hit x byte) (λ b. b == byte) v z long e (λ x. top_of (eqb x byte))
+
+-- a mask has no bit past its lanes
+pub past_lanes : (n : ℕ) (f : ℕ → ℕ) (v z : List ℕ) → length v ≡ n → z ≡ map f v → (i : ℕ) → n ≤ i
+    → i < 64 → has_bit (mask_l (map (top 7) z) % 2 ^ 64) i ≡ false
+past_lanes n f v z long e i past h =
+    bit-mod _ i h ∙ bit-mask_l (map (top 7) z) i
+    ∙ get_or_past (map (top 7) z) i false
+    (omega (arith, past, length-map z (top 7), ap length e, length-map v f, long))
 
 -- ---- bytes that may not stand where they do
 
@@ -162,47 +170,58 @@ last_is word bits end some fit low high place is =
 
 -- ---- the text in 64 bytes
 
-pub padded_is : (text new : List ℕ) → new ≡ text → length text < 64 → (i : ℕ) → i < 64
-    → get_or (new ++ drop (length text) (replicate 64 37)) i 0 ≡ get_or text i 37
-padded_is text new is short i lt =
-    ap (λ xs. get_or (xs ++ drop (length text) (replicate 64 37)) i 0) is
+pub padded_is : (n : ℕ) (text new : List ℕ) → new ≡ text → length text < n → (i : ℕ) → i < n
+    → get_or (new ++ drop (length text) (replicate n 37)) i 0 ≡ get_or text i 37
+padded_is n text new is short i lt =
+    ap (λ xs. get_or (xs ++ drop (length text) (replicate n 37)) i 0) is
     ∙ elim (cases_lt i (length text)) [
-      | inl inside ↦ get_or_append_left text (drop (length text) (replicate 64 37)) 0 i inside
+      | inl inside ↦ get_or_append_left text (drop (length text) (replicate n 37)) 0 i inside
           ∙ sym (get_or_default_zero text i 37 inside)
       | inr past ↦
-          get_or-append_right text (drop (length text) (replicate 64 37)) (length text) i 0 refl
+          get_or-append_right text (drop (length text) (replicate n 37)) (length text) i 0 refl
           past
-          ∙ get_or-drop (length text) (replicate 64 37) (i - length text) 0
-          ∙ get_or-replicate 64 (length text + (i - length text)) 37 0 (omega arith)
+          ∙ get_or-drop (length text) (replicate n 37) (i - length text) 0
+          ∙ get_or-replicate n (length text + (i - length text)) 37 0 (omega (arith, lt, past))
           ∙ sym (get_or_past text i 37 past)
     ]
 
-pub even_text : (text : List ℕ) (o b p k l found : ℕ) → length text < 64
-    → ((i : ℕ) → i < 64 → has_bit o i ≡ is_odd (get_or text i 37))
-    → ((i : ℕ) → i < 64 → has_bit b i ≡ (get_or text i 37 == 32))
-    → ((i : ℕ) → i < 64 → has_bit p i ≡ (get_or text i 37 == 37))
-    → ((i : ℕ) → i < 64 → has_bit k i ≡ (get_or text i 37 == 91))
-    → ((i : ℕ) → i < 64 → has_bit l i ≡ (get_or text i 37 == 69)) → found ≡ 0
+-- blanks are marked in all lanes, and past these the text has none
+pub all_blanks : (n : ℕ) (text : List ℕ) (word : ℕ) → length text < n
+    → ((i : ℕ) → i < n → has_bit word i ≡ (get_or text i 37 == 32))
+    → ((i : ℕ) → n ≤ i → i < 64 → has_bit word i ≡ false) → AreBlanks text word
+all_blanks n text word short lanes past i h = elim (cases_lt i n) [
+  | inl here ↦ lanes i here
+  | inr over ↦ past i over h
+      ∙ sym (ap (λ b. b == 32) (get_or_past text i 37 (omega (arith, short, over))))
+]
+
+pub even_text : (n : ℕ) → n ≤ 64 → (text : List ℕ) (o b p k l found : ℕ) → length text < n
+    → ((i : ℕ) → i < n → has_bit o i ≡ is_odd (get_or text i 37))
+    → ((i : ℕ) → i < n → has_bit b i ≡ (get_or text i 37 == 32))
+    → ((i : ℕ) → i < n → has_bit p i ≡ (get_or text i 37 == 37))
+    → ((i : ℕ) → i < n → has_bit k i ≡ (get_or text i 37 == 91))
+    → ((i : ℕ) → i < n → has_bit l i ≡ (get_or text i 37 == 69)) → found ≡ 0
     → (has_bit found 0 ≡ false → (has_bit o 0 ≡ false) × ((has_bit b 0 || has_bit p 0) ≡ false))
     → ((i : ℕ) → suc i < 64 → has_bit found (suc i) ≡ false
     → (has_bit o (suc i) ≡ false)
     × ((has_bit b i && (has_bit b (suc i) || has_bit p (suc i))) ≡ false)
     × ((has_bit k i && has_bit l (suc i)) ≡ false))
     → reads_on 32 text ≡ true
-even_text text o b p k l found short odd blanks percents brackets letters none first next =
+even_text n lanes text o b p k l found short odd blanks percents brackets letters none first
+    next =
     read_all 32 text each
   where
     each : (i : ℕ) → i < length text + 1
         → follows (get_or (32 ∷ text) i 37) (get_or text i 37) ≡ true
     each zero lt =
-        let here : 0 < 64 = omega arith in
+        let here : 0 < n = omega (arith, short) in
         let at = first (no_bit found 0 none) in
         follows_first (get_or text 0 37) (sym (odd 0 here) ∙ at.0)
         (ap₂ (λ x y. x || y) (sym (blanks 0 here)) (sym (percents 0 here)) ∙ at.1)
     each (suc i) lt =
-        let here : suc i < 64 = omega arith in
-        let before : i < 64 = omega arith in
-        let at = next i here (no_bit found (suc i) none) in
+        let here : suc i < n = omega (arith, lt, short) in
+        let before : i < n = omega (arith, here) in
+        let at = next i (omega (arith, here, lanes)) (no_bit found (suc i) none) in
         follows_next (get_or text i 37) (get_or text (suc i) 37) (sym (odd (suc i) here) ∙ at.0)
         (ap₂ (λ x y. x && y) (sym (blanks i before))
         (ap₂ (λ x y. x || y) (sym (blanks (suc i) here)) (sym (percents (suc i) here))) ∙ at.1)

@@ -1,6 +1,7 @@
 //! Comments as tokens.
 ghost use Rattle.std.specs.Prelude.{◌≡◌, ◌+◌, ◌++◌, ◌∷◌, ◌<◌, ◌≤◌, ℕ, Bool, List, [], length, map};
 ghost use Rattle.std.specs.Prelude.{OnOk, IfOk, IfSome, IsTrue, true, false, Some, None, ◌-◌};
+ghost use Rattle.std.specs.Prelude.{take, drop};
 ghost use Rattle.pgn_text.specs.Public.Bytes.{is_white};
 ghost use Rattle.pgn_game.specs.Public.Comments.{words_in, unbraced, later_word, closed};
 ghost use Rattle.pgn_game.specs.Public.Comments.{begins_command, closes, leaves_open, in_command};
@@ -268,7 +269,7 @@ fn put_spaced(wrapper: &mut LineWrapper, out: &mut Vec<u8>, text: &[u8]) -> Resu
     ensures kept { (some : List ℕ) × (out.new.items ≡ out.old.items ++ some) }
     ensures width { wrapper.new.width ≡ wrapper.old.width }
 {
-    wrapper.start(out, text.len() + 2)?;
+    wrapper.start_within(out, text.len() + 2)?;
     out.push(b'{')?;
     out.extend_from_slice(text)?;
     out.push(b'}')?;
@@ -309,6 +310,20 @@ fn put_in_line(wrapper: &mut LineWrapper, out: &mut Vec<u8>, text: &[u8]) -> Res
     Ok(())
 }
 
+/// Appends the text, with a line feed in place of the byte there.
+#[inline(always)]
+fn push_parted(out: &mut Vec<u8>, text: &[u8], place: usize) -> Result<(), AllocError>
+    requires { place < length text.now }
+    ensures text { OnOk result (out.new.items
+        ≡ out.old.items ++ (take place text.now ++ 10 ∷ drop (place + 1) text.now)) }
+    ensures kept { (some : List ℕ) × (out.new.items ≡ out.old.items ++ some) }
+{
+    let at = out.len() + place;
+    out.extend_from_slice(text)?;
+    out[at] = b'\n';
+    Ok(())
+}
+
 /// Writes a comment of even words: those before the blank in the line that is begun, and those
 /// after it in the next.
 fn put_in_two_lines(
@@ -332,10 +347,8 @@ fn put_in_two_lines(
 {
     wrapper.start_within(out, blank + 1)?;
     out.push(b'{')?;
-    out.extend_from_slice(&text[..blank])?;
-    let rest = &text[blank + 1..];
-    wrapper.start_line(out, rest.len() + 1)?;
-    out.extend_from_slice(rest)?;
+    push_parted(out, text, blank)?;
+    wrapper.go_on_in_next(text.len() - blank);
     out.push(b'}')?;
     Ok(())
 }

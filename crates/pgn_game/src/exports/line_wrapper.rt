@@ -94,6 +94,15 @@ impl LineWrapper {
         Ok(())
     }
 
+    /// The token that was begun goes on in a line of its own, where it has so many bytes.
+    #[inline(always)]
+    pub(crate) fn go_on_in_next(&mut self, size: usize)
+        ensures { (self.new.begun ≡ self.old.begun) × (self.new.column ≡ size)
+            × (self.new.width ≡ self.old.width) }
+    {
+        self.column = size;
+    }
+
     /// Begins a token of so many bytes after the others: they are to follow.
     #[inline(always)]
     pub(crate) fn start(&mut self, out: &mut Vec<u8>, size: usize) -> Result<(), AllocError>

@@ -9,19 +9,22 @@ use std::simd::prelude::*;
 
 /// Where the byte stands.
 #[inline(always)]
-fn places_of(bytes: u8x64, byte: u8) -> u64
-    ensures { AreLanes 64 (λ b. b == byte) bytes result }
+fn places_of<const N: usize>(bytes: Simd<u8, N>, byte: u8) -> u64
+    requires { N ≤ 64 }
+    ensures lanes { AreLanes N (λ b. b == byte) bytes.entry result }
+    ensures past { (i : ℕ) → N ≤ i → i < 64 → has_bit result i ≡ false }
 {
-    bytes.simd_eq(u8x64::splat(byte)).to_bitmask()
+    bytes.simd_eq(Simd::splat(byte)).to_bitmask()
 }
 
 /// Where closing braces stand, and white space other than blanks.
 #[inline(always)]
-fn odd_places(bytes: u8x64) -> u64
-    ensures { AreLanes 64 is_odd bytes result }
+fn odd_places<const N: usize>(bytes: Simd<u8, N>) -> u64
+    requires { N ≤ 64 }
+    ensures { AreLanes N is_odd bytes.entry result }
 {
-    (bytes.simd_eq(u8x64::splat(b'}'))
-        | (bytes - u8x64::splat(9)).simd_lt(u8x64::splat(5))).to_bitmask()
+    (bytes.simd_eq(Simd::splat(b'}'))
+        | (bytes - Simd::splat(9)).simd_lt(Simd::splat(5))).to_bitmask()
 }
 
 /// The places of bytes that may not stand where they do in words which are written as they are,
@@ -41,23 +44,24 @@ fn strays(odd: u64, blanks: u64, percents: u64, brackets: u64, letters: u64) -> 
 
 /// The text, with percent signs after it.
 #[inline(always)]
-fn padded(text: &[u8]) -> u8x64
-    requires { length text.now < 64 }
-    ensures { (i : ℕ) → i < 64 → get_or result i 0 ≡ get_or text.now i 37 }
+fn padded<const N: usize>(text: &[u8]) -> Simd<u8, N>
+    requires { length text.now < N }
+    ensures { (i : ℕ) → i < N → get_or result i 0 ≡ get_or text.now i 37 }
 {
-    let mut bytes = [b'%'; 64];
+    let mut bytes = [b'%'; N];
     bytes[..text.len()].copy_from_slice(text);
-    u8x64::from_array(bytes)
+    Simd::from_array(bytes)
 }
 
-/// The places of the blanks of a text, if it is words that are written as they are, with one blank
-/// between each two.
+/// The places of the blanks of a text of fewer than N bytes, if it is words that are written as
+/// they are, with one blank between each two.
 #[inline(always)]
-pub(crate) fn blanks_of(text: &[u8]) -> Option<u64>
-    requires { length text.now < 64 }
+fn blanks_within<const N: usize>(text: &[u8]) -> Option<u64>
+    requires few { length text.now < N }
+    requires lanes { N ≤ 64 }
     ensures { IfSome result (λ blanks. (is_even text.now ≡ true) × AreBlanks text.now blanks) }
 {
-    let bytes = padded(text);
+    let bytes = padded::<N>(text);
     let blanks = places_of(bytes, b' ');
     let found = strays(
         odd_places(bytes),
@@ -70,6 +74,19 @@ pub(crate) fn blanks_of(text: &[u8]) -> Option<u64>
         return None;
     }
     Some(blanks)
+}
+
+/// The places of the blanks of a text, if it is words that are written as they are, with one blank
+/// between each two. Most comments are within 32 bytes.
+#[inline(always)]
+pub(crate) fn blanks_of(text: &[u8]) -> Option<u64>
+    requires { length text.now < 64 }
+    ensures { IfSome result (λ blanks. (is_even text.now ≡ true) × AreBlanks text.now blanks) }
+{
+    if text.len() < 32 {
+        return blanks_within::<32>(text);
+    }
+    blanks_within::<64>(text)
 }
 
 /// The word's bits before the place.

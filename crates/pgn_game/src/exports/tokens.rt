@@ -64,6 +64,25 @@ fn put_count(
     put_digits(wrapper, out, buffer.format(number).as_bytes(), end)
 }
 
+/// Writes a number with a point after it, as one token.
+#[inline(always)]
+fn put_point(wrapper: &mut LineWrapper, out: &mut Vec<u8>, number: u32) -> Result<(), AllocError>
+    ensures text { OnOk result
+        (HasPut wrapper.old wrapper.new out.old.items out.new.items
+        ((decimal number ++ 46 ∷ []) ∷ [])) }
+    ensures kept { (some : List ℕ) × (out.new.items ≡ out.old.items ++ some) }
+    ensures width { wrapper.new.width ≡ wrapper.old.width }
+{
+    if number < 10 {
+        return wrapper.put(out, &[b'0' + number as u8, b'.']);
+    }
+    if number < 100 {
+        let digits = [b'0' + (number / 10) as u8, b'0' + (number % 10) as u8, b'.'];
+        return wrapper.put(out, &digits);
+    }
+    put_count(wrapper, out, number, b".")
+}
+
 /// Writes the number of a move of the side, if it is to have one: White's always, Black's where it
 /// stands apart from the move before it.
 #[inline(always)]
@@ -81,7 +100,7 @@ pub(crate) fn put_number(
     ensures width { wrapper.new.width ≡ wrapper.old.width }
 {
     match side {
-        Side::White => put_count(wrapper, out, number, b"."),
+        Side::White => put_point(wrapper, out, number),
         Side::Black => {
             if apart {
                 return put_count(wrapper, out, number, b"...");
