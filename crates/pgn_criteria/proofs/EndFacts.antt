@@ -30,7 +30,7 @@ above_both [] y first other = other
 above_both (b ∷ x) y first other = (first.0, above_both x y first.1 other)
 
 -- a byte above the marks is none
-no_mark : (b : ℕ) → 43 < b → is_check_sign b ≡ false
+pub no_mark : (b : ℕ) → 43 < b → is_check_sign b ≡ false
 no_mark b above = grind (arith, nat_tests, above)
 
 mark_is_none : (P : State) (mark : List ℕ) → IsCheckSign P mark → without_check_signs mark ≡ []
@@ -46,7 +46,7 @@ bare_body P (b ∷ body) mark above is =
     else b ∷ without_check_signs (body ++ mark)) (no_mark b above.0)
     ∙ ap (λ x. b ∷ x) (bare_body P body mark above.1 is)
 
-above_kind : (piece : Kind) → 43 < kind_letter piece
+pub above_kind : (piece : Kind) → 43 < kind_letter piece
 above_kind King = omega arith
 above_kind _ = omega arith
 

@@ -19,3 +19,4 @@ pub mod Counted
 pub mod Arrivals
 pub mod Told
 pub mod SeenPlies
+pub mod CodedTexts

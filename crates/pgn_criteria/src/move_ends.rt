@@ -1,7 +1,9 @@
 //! What the text of a move may begin and end with, known from the move before its text is written.
-ghost use Rattle.std.specs.Prelude.{◌≡◌};
+ghost use Rattle.std.specs.Prelude.{◌≡◌, Some};
 ghost use Rattle.chess.specs.Public.Letters.{kind_letter};
+ghost use Rattle.chess.specs.Public.Placements.{man_at};
 ghost use Rattle.chess.specs.Public.Positions.{State};
+ghost use Rattle.chess.specs.declared.board.man.Man.{Man};
 ghost use Rattle.pgn_criteria.specs.Private.MoveEnds.{BeginsWith, EndsWith, HasByte, RulesOut};
 ghost use Rattle.pgn_criteria.specs.Public.MoveTexts.{IsLike};
 
@@ -22,26 +24,34 @@ pub(crate) fn kind_letter(kind: Kind) -> u8
     }
 }
 
-/// Whether the text of the move may begin with the byte: the letter of the man that moves, or the
+/// Whether the text of the move of a man of that kind may begin with the byte: his letter, or the
 /// file of a pawn.
-fn may_begin_with(position: &GamePosition, m: &Move, byte: u8) -> bool
-    ensures { RulesOut result position.now m.now (BeginsWith byte) }
+pub(crate) fn may_begin_by(kind: Kind, m: &Move, byte: u8) -> bool
+    ensures { (P : State) (man : Man) → man_at P.men m.now.from ≡ Some man → man.kind ≡ kind
+        → RulesOut result P m.now (BeginsWith byte) }
 {
     if m.castle.is_some() {
         return byte == b'O';
     }
-    let Some(man) = position.at(m.from) else {
-        return false;
-    };
-    match man.kind {
+    match kind {
         Kind::Pawn => byte == 96 + m.from.file() || byte == 96 + m.to.file(),
         kind => byte == kind_letter(kind),
     }
 }
 
+/// Whether the text of the move may begin with the byte, by the man that moves.
+fn may_begin_with(position: &GamePosition, m: &Move, byte: u8) -> bool
+    ensures { RulesOut result position.now m.now (BeginsWith byte) }
+{
+    match position.at(m.from) {
+        Some(man) => may_begin_by(man.kind, m, byte),
+        None => false,
+    }
+}
+
 /// Whether the text of the move may end with the byte: the rank that it goes to, or the letter of
 /// the man that a pawn becomes.
-fn may_end_with(m: &Move, byte: u8) -> bool
+pub(crate) fn may_end_with(m: &Move, byte: u8) -> bool
     ensures { (P : State) → RulesOut result P m.now (EndsWith byte) }
 {
     if m.castle.is_some() {

@@ -1,12 +1,14 @@
 //! A walk over plies of which each is told by three bytes: the men are moved by them, with no
 //! question to the Laws.
-ghost use Rattle.std.specs.Prelude.{◌≡◌, IsTrue};
+ghost use Rattle.std.specs.Prelude.{◌≡◌, IsTrue, is_some};
+ghost use Rattle.chess.specs.Public.Placements.{man_at};
 ghost use Rattle.chess.specs.Public.Positions.{rook_from, rook_to};
 ghost use Rattle.pgn_game.specs.Public.PlyCodes.{code_of};
 ghost use Rattle.pgn_criteria.specs.Public.Walks.{Sight, stepped};
+ghost use Rattle.pgn_criteria.specs.Private.CodedTexts.{IsAloneIn};
 
 use crate::seen::Seen;
-use chess::{Board, Kind, Man, Side, Square, SquareSet, Wing};
+use chess::{Board, Kind, Mailbox, Man, Side, Square, SquareSet, Wing};
 use pgn_game::pack::{numbered_castle, numbered_man};
 use std::marker::Model;
 
@@ -56,6 +58,23 @@ pub(crate) fn rook_arrives(side: Side, wing: Wing) -> Square
     }
 }
 
+/// A board of another kind with the same men.
+fn board_like<B: Board, C: Board>(board: &B) -> C
+    ensures { C.men result ≡ B.men board.now }
+{
+    let mut own = C::empty();
+    for index in 0u8..64 {
+        let square = Square::of_index(index);
+        let man = if board.is_empty(square) {
+            None
+        } else {
+            board.at(square)
+        };
+        own.put(square, man);
+    }
+    own
+}
+
 impl<B: Board> Walk<B> {
     /// A walk that begins with this board, this side to move and these marks of it.
     pub fn new(board: B, turn: Side, check: bool, stuck: bool) -> Self
@@ -78,6 +97,40 @@ impl<B: Board> Walk<B> {
             turn: self.turn,
             check: self.check,
             stuck: self.stuck,
+        }
+    }
+
+    /// The same walk over a board of cells.
+    pub(crate) fn by_cells(&self) -> Walk<Mailbox>
+        ensures { result ≡ self.now }
+    {
+        Walk {
+            board: board_like(&self.board),
+            turn: self.turn,
+            check: self.check,
+            stuck: self.stuck,
+        }
+    }
+
+    /// Whether a man stands on the square.
+    #[inline(always)]
+    pub(crate) fn has_man(&self, square: Square) -> bool
+        ensures { result ≡ is_some (man_at self.now.men square) }
+    {
+        !self.board.is_empty(square)
+    }
+
+    /// Whether there is no other such man than the one on `from` who attacks `to`, and of kings no
+    /// other at all.
+    pub(crate) fn is_alone(&self, man: Man, from: Square, to: Square) -> bool
+        ensures { IsTrue result → IsAloneIn self.now.men man from to }
+    {
+        Seen::invariant(self);
+        let mut others = self.board.squares_of(man);
+        others.remove(from);
+        match man.kind {
+            Kind::King => others.is_empty(),
+            _ => self.board.attackers_from(man, to, others).is_empty(),
         }
     }
 
