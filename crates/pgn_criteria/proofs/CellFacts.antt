@@ -1,5 +1,6 @@
 -- A placement that is given square by square.
-use Rattle.pgn_criteria.proofs.Common.{◌≡◌, ◌+◌, ◌∙◌, ℕ, suc, Option, Some, None, ap, arith, inl, inr}
+use Rattle.pgn_criteria.proofs.Common.{◌≡◌, ◌+◌, ◌∙◌, ℕ, suc, Option, Some, None, ap, arith, inl}
+use Rattle.pgn_criteria.proofs.Common.{inr}
 use Rattle.pgn_criteria.proofs.Common.{subst, sym, AreOnBoard, IsOnBoard, Man, Place, Placement}
 use Rattle.pgn_criteria.proofs.Common.{man_at, on_board_or_not, square_at, square_at-index_of}
 use Rattle.pgn_criteria.proofs.Common.{refl, with_man}

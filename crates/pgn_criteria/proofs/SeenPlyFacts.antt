@@ -13,11 +13,14 @@ use Rattle.pgn_game.specs.Public.PlyCodes.{AreCodes, code_of}
 use Rattle.pgn_criteria.specs.Public.Prefilters.{IsPlayedBy}
 use Rattle.pgn_criteria.specs.Public.Walks.{Sight, IsSightOf, stepped}
 use Rattle.pgn_criteria.specs.Private.SeenPlies.{Fits, IsToldTo, TellsSeen}
-use Rattle.pgn_criteria.specs.Private.Stages.{AllOfPly}
-use Rattle.pgn_criteria.specs.Private.Told.{AreTold}
+use Rattle.pgn_criteria.specs.Private.Counted.{IsBesidePlies}
+use Rattle.pgn_criteria.specs.Private.Told.{AllAbout, AreTold, IsBeside, SaysAbout}
+use Rattle.pgn_criteria.specs.declared.played.About.TheVariants as about
 use Rattle.pgn_criteria.proofs.CodedLines.{played_count}
 use Rattle.pgn_criteria.proofs.StandFacts.{three, below}
 use Rattle.pgn_criteria.proofs.ToldFacts.{told_within}
+use Rattle.pgn_criteria.proofs.TurnAbout.{all_parted}
+use Rattle.pgn_criteria.proofs.Common.{AllClaims, MoveClaim, Next, Played, Setup, Stated}
 use Rattle.pgn_criteria.proofs.WalkFacts.{seen_said, step_shows_next_position}
 
 -- the code that the first three bytes spell
@@ -76,43 +79,73 @@ module _ (conditions : List (PositionCondition (List ℕ))) where
       (tells_there (after P m) moves (stepped s c) rest more
       (step_shows_next_position P m c s legal.0.pseudo_legal code sight) legal.1 are on ply Q here)
 
--- so the plies of a game are told at which an alternative fits that says nothing of moves
-module _ (asked : Conditions) (free : asked.moves ≡ []) (P : State) (s : Sight)
+-- at the ply a position stands at which the conditions hold
+abbrev pub HoldAt : Replay → List (PositionCondition (List ℕ)) → ℕ → Type 0
+HoldAt replay conditions ply =
+    (P : State) × (slice_get replay.positions ply ≡ Some P) × PositionsHold P conditions
+
+-- so the plies of a game are told at whose positions conditions hold
+module _ (conditions : List (PositionCondition (List ℕ))) (P : State) (s : Sight)
     (codes : List PlyCode) (replay : Replay) (sight : IsSightOf P s)
     (by : IsPlayedBy P codes replay) where
-  fits_free : (ply : ℕ) → AllOfPly replay ply asked
-  fits_free ply = rw free tt
-
-  tells_here : (told : List Bool) → TellsSeen asked.positions s codes told → (ply : ℕ) (Q : State)
+  tells_here : (told : List Bool) → TellsSeen conditions s codes told → (ply : ℕ) (Q : State)
       → slice_get replay.positions ply ≡ Some Q
-      → IsTrue (get_or told ply false) ↔ PositionsHold Q asked.positions
+      → IsTrue (get_or told ply false) ↔ PositionsHold Q conditions
   tells_here told tells ply Q here =
-      tells_there asked.positions P replay.played s codes told sight by.line.legal by.told tells
+      tells_there conditions P replay.played s codes told sight by.line.legal by.told tells
       ply Q (ap (λ ps. slice_get ps ply) (sym by.line.positions) ∙ here)
 
-  pub tells_all : (told : List Bool) → TellsSeen asked.positions s codes told
+  tells_all : (told : List Bool) → TellsSeen conditions s codes told
       → length told ≡ length replay.positions
   tells_all told tells =
-      tells_each asked.positions P replay.played s codes told by.told tells
+      tells_each conditions P replay.played s codes told by.told tells
       ∙ ap length (sym by.line.positions)
 
-  pub tells_line : (told : List Bool) → TellsSeen asked.positions s codes told
-      → AreTold (FitsAt replay asked) told
+  pub tells_line : (told : List Bool) → TellsSeen conditions s codes told
+      → AreTold (HoldAt replay conditions) told
   tells_line told tells ply = elim (slice_get_cases replay.positions ply).1 [
     | inl (Q, within, here, same) ↦
         let there = tells_here told tells ply Q here in (
-          λ t. (Q, here, there.0 t, fits_free ply),
-          λ fits. there.1
-              (subst (λ R. PositionsHold R asked.positions)
-              (same_Some fits.0 Q (sym fits.1 ∙ here)) fits.2),
+          λ t. (Q, here, there.0 t),
+          λ hold. there.1
+              (subst (λ R. PositionsHold R conditions)
+              (same_Some hold.0 Q (sym hold.1 ∙ here)) hold.2),
         )
     | inr (past, none) ↦ (
       λ t. let within = told_within told ply t in let size = tells_all told tells in
           absurd (omega (arith, within, size, past)),
-      λ fits. let within = slice_get_within replay.positions ply fits.0 fits.1 in
+      λ hold. let within = slice_get_within replay.positions ply hold.0 hold.1 in
           absurd (omega (arith, within, past)),
     )
   ]
+
+-- and where what it says of the moves beside them is so, an alternative fits that has no `position`
+module _ (replay : Replay) (ply : ℕ) where
+  none_here : (moves : List (Stated (MoveClaim (List ℕ)))) → AllClaims IsBesidePlies moves
+      → AllAbout about.Here replay ply moves
+  none_here [] beside = tt
+  none_here (first ∷ more) beside =
+      (still first.is_denied first.claim beside.0, none_here more beside.1)
+    where
+      still : (denied : Bool) (claim : MoveClaim (List ℕ)) → IsBesidePlies claim
+          → SaysAbout about.Here replay ply denied claim
+      still denied (Setup setup) is = absurd is
+      still denied (Next word) is = tt
+      still denied (Played word) is = tt
+
+  pub fits_beside : (asked : Conditions) → AllClaims IsBesidePlies asked.moves
+      → FitsAt replay asked ply
+      ↔ (HoldAt replay asked.positions ply × IsBeside replay ply asked.moves)
+  fits_beside asked beside =
+      let parts = all_parted replay ply asked.moves in (
+        λ fits. let said = parts.0 fits.3 in ((fits.0, fits.1, fits.2), (said.1, said.2)),
+        λ both. (
+          both.0.0,
+          both.0.1,
+          both.0.2,
+          parts.1 (none_here asked.moves beside, both.1.0, both.1.1),
+        ),
+      )
 
 -- one more ply is told, and the last
 module _ (conditions : List (PositionCondition (List ℕ))) (start s : Sight) (all left : List ℕ)

@@ -36,6 +36,7 @@ use crate::meets::{
 use crate::mirror::{all_mirrored, are_fixed};
 use crate::numbers::numbers_are_shown;
 use crate::plan::Plan;
+use crate::played::are_beside_plies;
 use crate::prefilter::Prefilter;
 use crate::seen::Seen;
 use crate::spans::{are_no_counts, spans_stand};
@@ -372,12 +373,11 @@ impl Alternative {
         are_free_of_words(&self.games)
     }
 
-    /// Whether none of the conditions speaks of moves but by their number, though it may of several
-    /// plies.
+    /// Whether none of the conditions speaks of the first moves of the game, or has `position`.
     pub(crate) fn is_of_seen(&self) -> bool
         ensures { IsTrue result ↔ AreOfSeen self.now }
     {
-        self.moves.is_empty() && self.has_no_words()
+        are_beside_plies(&self.moves) && self.has_no_words()
     }
 
     /// Whether none of the conditions speaks of the first moves of the game, or of several plies.

@@ -10,6 +10,7 @@ ghost use Rattle.pgn_game.specs.Public.Replays.{Replay, IsReplay, fault_of};
 ghost use Rattle.pgn_game.specs.Public.Starts.{fen_tag};
 ghost use Rattle.pgn_game.specs.declared.replays.replayer.Lines.TheVariants.{Main};
 ghost use Rattle.pgn_criteria.specs.Public.Meeting.{Heading, heading_of, AreMet, Meets};
+ghost use Rattle.pgn_criteria.specs.Private.Counted.{IsBesidePlies};
 ghost use Rattle.pgn_criteria.specs.Private.Stages.{AllClaims, AllOfGame, AreSoMany, EachIs};
 ghost use Rattle.pgn_criteria.specs.Private.Stages.{FitsAbout};
 ghost use Rattle.pgn_criteria.specs.Private.Stages.{FitsAt, move_seen, stated};
@@ -49,6 +50,19 @@ fn are_setups(conditions: &[Stated<MoveClaim<Vec<u8>>>]) -> bool
 {
     for condition in conditions {
         if !matches!(condition.claim, MoveClaim::Setup(_)) {
+            return false;
+        }
+    }
+    true
+}
+
+/// Whether none of them is `position`.
+pub(crate) fn are_beside_plies(conditions: &[Stated<MoveClaim<Vec<u8>>>]) -> bool
+    ensures { IsTrue result ↔ AllClaims IsBesidePlies
+        (map (stated (move_seen (λ text. text.items))) conditions.now) }
+{
+    for condition in conditions {
+        if matches!(condition.claim, MoveClaim::Setup(_)) {
             return false;
         }
     }

@@ -1,8 +1,12 @@
 //! The plies of a packed game that meet criteria, told on a walk over the codes of its plies.
-ghost use Rattle.std.specs.Prelude.{◌≡◌, ◌↔◌, ◌⊎◌, ◌+◌, ◌/◌, ◌<◌, [], ℕ, length, get_or, false};
-ghost use Rattle.std.specs.Prelude.{IsTrue, IfOk, IfSome, OnOk};
+ghost use Rattle.std.specs.List.{slice_get};
+ghost use Rattle.std.specs.Prelude.{◌≡◌, ◌↔◌, ◌⊎◌, ◌+◌, ◌/◌, ◌<◌, ℕ, List, length, get_or};
+ghost use Rattle.std.specs.Prelude.{true, false, map, IsTrue, IfOk, IfSome};
 ghost use Rattle.chess.specs.Public.Placements.{Placement};
 ghost use Rattle.chess.specs.Public.Positions.{State};
+ghost use Rattle.chess.specs.declared.moves.Move.{Move};
+ghost use Rattle.pgn_game.specs.Public.CodeLines.{AreLegalMoves};
+ghost use Rattle.pgn_game.specs.Public.PlyCodes.{AreCodes};
 ghost use Rattle.pgn_game.specs.Public.PackedGames.{PackedGame, IsPacked, FitsRecord};
 ghost use Rattle.pgn_game.specs.Public.PackReading.{IsRawOfGame, raw_of};
 ghost use Rattle.pgn_game.specs.Public.Replays.{Replay};
@@ -10,19 +14,24 @@ ghost use Rattle.pgn_text.specs.Public.GameTexts.{GameText};
 ghost use Rattle.pgn_criteria.specs.Public.Meeting.{AreMet, heading_of};
 ghost use Rattle.pgn_criteria.specs.Public.Prefilters.{IsPlayedBy, codes_in};
 ghost use Rattle.pgn_criteria.specs.Public.Walks.{IsSightOf};
+ghost use Rattle.pgn_criteria.specs.Private.Counted.{IsBesidePlies};
 ghost use Rattle.pgn_criteria.specs.Private.Marks.{AreMarksOf};
 ghost use Rattle.pgn_criteria.specs.Private.SeenPlies.{TellsSeen};
-ghost use Rattle.pgn_criteria.specs.Private.Stages.{AllOfSeen, FitsAbout};
+ghost use Rattle.pgn_criteria.specs.Private.Stages.{AllClaims, AllOfSeen, FitsAbout, move_seen};
+ghost use Rattle.pgn_criteria.specs.Private.Stages.{stated};
+ghost use Rattle.pgn_criteria.specs.Private.Told.{AllAbout, IsAbout, IsBeside, IsTold, SaysAbout};
 
 use crate::alternative::Alternative;
 use crate::by_marks::MarkSet;
+use crate::coded::told_some_like;
+use crate::condition::{MoveClaim, Stated};
 use crate::meets::Criteria;
 use crate::met::no_plies;
-use crate::played::keep_spans;
+use crate::played::{About, keep_spans};
 use crate::seen::Seen;
 use crate::told::add_told;
 use crate::walk::Walk;
-use chess::Bits;
+use chess::{Bits, Mailbox};
 use pgn_game::pack::RawRecord;
 use std::alloc::{AllocError, Global};
 
@@ -82,30 +91,135 @@ fn seen_plies(
     }
 }
 
-/// Adds the plies at which all conditions of the alternative hold that it has on plies.
+/// Whether the condition is so, if it speaks of the next move or of the last one: of the first by
+/// these codes, of a line that the walk shows before it. It is `None` where that is not told.
+#[inline(always)]
+fn told_about(
+    condition: &Stated<MoveClaim<Vec<u8>>>,
+    about: About,
+    walk: &Walk<Mailbox>,
+    left: &[u8],
+) -> Option<bool>
+    ensures { IfSome result (λ is. (P : State) (moves : List Move) (replay : Replay) (ply : ℕ)
+        → IsSightOf P walk.now → AreLegalMoves P moves → AreCodes P moves (codes_in left.now)
+        → IsAbout about replay ply P (slice_get moves 0)
+        → IsTrue is ↔ SaysAbout about replay ply condition.now.is_denied
+        (move_seen (λ text. text.items) condition.now.claim)) }
+{
+    match about {
+        About::Here => None,
+        About::Next => match &condition.claim {
+            MoveClaim::Next(word) => Some(told_some_like(walk, left, word)? != condition.is_denied),
+            _ => Some(true),
+        },
+        About::Last => match &condition.claim {
+            MoveClaim::Played(word) => {
+                Some(told_some_like(walk, left, word)? != condition.is_denied)
+            }
+            _ => Some(true),
+        },
+    }
+}
+
+/// Whether that was so, and all conditions are that speak of the next move, or of the last one. It
+/// is `None` where that is not told.
+fn stays(
+    was: bool,
+    conditions: &[Stated<MoveClaim<Vec<u8>>>],
+    about: About,
+    walk: &Walk<Mailbox>,
+    left: &[u8],
+) -> Option<bool>
+    ensures { IfSome result (λ is. (P : State) (moves : List Move) (replay : Replay) (ply : ℕ)
+        → IsSightOf P walk.now → AreLegalMoves P moves → AreCodes P moves (codes_in left.now)
+        → IsAbout about replay ply P (slice_get moves 0)
+        → IsTrue is ↔ (IsTrue was × AllAbout about replay ply
+        (map (stated (move_seen (λ text. text.items))) conditions.now))) }
+{
+    if !was {
+        return Some(false);
+    }
+    for condition in conditions {
+        if !told_about(condition, about, walk, left)? {
+            return Some(false);
+        }
+    }
+    Some(true)
+}
+
+/// Leaves of the plies that are told those at which is so what the conditions say of the moves
+/// after and before them. Answers `false` where that is not told.
+fn keep_moves(
+    told: &mut [bool],
+    conditions: &[Stated<MoveClaim<Vec<u8>>>],
+    start: &Walk<Bits>,
+    plies: &[u8],
+) -> bool
+    requires { length told.old ≡ length plies.now / 3 + 1 }
+    ensures { result ≡ true → (P : State) (replay : Replay) → IsSightOf P start.now
+        → IsPlayedBy P (codes_in plies.now) replay → (ply : ℕ) → IsTold told.new ply
+        ↔ (IsTold told.old ply × IsBeside replay ply
+        (map (stated (move_seen (λ text. text.items))) conditions.now)) }
+{
+    if conditions.is_empty() {
+        return true;
+    }
+    let mut walk = start.by_cells();
+    let mut left = plies;
+    let mut ply = 0usize;
+    let Some(is) = stays(told[0], conditions, About::Last, &walk, &[]) else {
+        return false;
+    };
+    told[0] = is;
+    loop {
+        let Some(is) = stays(told[ply], conditions, About::Next, &walk, left) else {
+            return false;
+        };
+        told[ply] = is;
+        let [a, b, d, rest @ ..] = left else {
+            return true;
+        };
+        ply += 1;
+        let Some(is) = stays(told[ply], conditions, About::Last, &walk, left) else {
+            return false;
+        };
+        told[ply] = is;
+        walk.step(*a, *b, *d);
+        left = rest;
+    }
+}
+
+/// Adds the plies at which all conditions of the alternative hold that it has on plies. Answers
+/// `false`, and adds nothing, where that is not known.
 fn add_walked(
     alloc: Global,
     met: &mut [bool],
     alternative: &Alternative,
     start: &Walk<Bits>,
     plies: &[u8],
-) -> Result<(), AllocError>
-    ensures { OnOk result (alternative.now.moves ≡ [] → (P : State) (replay : Replay)
+) -> Result<bool, AllocError>
+    ensures { IfOk result (λ is. is ≡ true → AllClaims IsBesidePlies alternative.now.moves
+        → (P : State) (replay : Replay)
         → IsSightOf P start.now → IsPlayedBy P (codes_in plies.now) replay → (ply : ℕ)
         → ply < length met.old → IsTrue (get_or met.new ply false)
         ↔ (IsTrue (get_or met.old ply false) ⊎ FitsAbout replay alternative.now ply)) }
 {
     let mut told = seen_plies(alloc, alternative, start, plies)?;
+    if !keep_moves(&mut told, &alternative.moves, start, plies) {
+        return Ok(false);
+    }
     keep_spans(&mut told, alternative);
     add_told(met, &told);
-    Ok(())
+    Ok(true)
 }
 
 impl Criteria {
     /// For each ply of a packed game, from 0 to its last, whether its position meets the criteria.
-    /// The walk begins where the game does. No move is asked to be legal, and none is played. It is
-    /// `None` where an alternative of which tags, result and the number of plies hold speaks of
-    /// moves otherwise.
+    /// The walk begins where the game does. No move is asked to be legal, and none is played. What
+    /// `next` and `played` say is told from the codes of the plies. It is `None` where an
+    /// alternative of which tags, result and the number of plies hold has `moves` or `position`,
+    /// and where a word is like the text of a move or not by what distinguishes the man from
+    /// others.
     pub fn met_walked<'a>(
         &'a self,
         alloc: Global,
@@ -130,7 +244,9 @@ impl Criteria {
                 if !alternative.is_of_seen() {
                     return Ok(None);
                 }
-                add_walked(alloc, &mut met, alternative, start, plies)?;
+                if !add_walked(alloc, &mut met, alternative, start, plies)? {
+                    return Ok(None);
+                }
             }
         }
         Ok(Some(met))

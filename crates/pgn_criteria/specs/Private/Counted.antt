@@ -7,6 +7,8 @@ use Rattle.pgn_criteria.specs.Private.Stages.{AllClaims, SaysOfHeading}
 use Rattle.pgn_criteria.specs.declared.condition.Stated.{Stated}
 use Rattle.pgn_criteria.specs.declared.condition.GameClaim.{GameClaim}
 use Rattle.pgn_criteria.specs.declared.condition.GameClaim.TheVariants.{Moves, Plies}
+use Rattle.pgn_criteria.specs.declared.condition.MoveClaim.{MoveClaim}
+use Rattle.pgn_criteria.specs.declared.condition.MoveClaim.TheVariants.{Setup}
 
 -- what a condition says of the tags, the result and the number of plies
 abbrev pub SaysOfCounted : Heading → ℕ → Bool → GameClaim (List ℕ) → Type 0
@@ -28,9 +30,14 @@ IsFreeOfWords claim = Unit {0}
 abbrev pub AreFreeOfWords : Conditions → Type 0
 AreFreeOfWords asked = AllClaims IsFreeOfWords asked.games × (asked.moves ≡ []) × (asked.spans ≡ [])
 
--- none of the conditions speaks of moves but by their number, though it may of several plies
+-- the claim speaks of the move before or after a position
+abbrev pub IsBesidePlies : MoveClaim (List ℕ) → Type 0
+IsBesidePlies (Setup setup) = ⊥
+IsBesidePlies claim = Unit {0}
+
+-- none of the conditions speaks of the first moves by their texts, or has `position`
 abbrev pub AreOfSeen : Conditions → Type 0
-AreOfSeen asked = AllClaims IsFreeOfWords asked.games × (asked.moves ≡ [])
+AreOfSeen asked = AllClaims IsFreeOfWords asked.games × AllClaims IsBesidePlies asked.moves
 
 -- the conditions speak of the game but by the texts of its first moves, of single plies and of the
 -- moves beside them

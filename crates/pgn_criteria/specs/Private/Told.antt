@@ -44,6 +44,11 @@ AllAbout one replay ply [] = Unit {0}
 AllAbout one replay ply (first ∷ more) =
     SaysAbout one replay ply first.is_denied first.claim × AllAbout one replay ply more
 
+-- what all conditions say of the moves after and before a ply
+abbrev pub IsBeside : Replay → ℕ → List (Stated (MoveClaim (List ℕ))) → Type 0
+IsBeside replay ply moves =
+    AllAbout about.Next replay ply moves × AllAbout about.Last replay ply moves
+
 -- at a ply the conditions fit, as far as they speak of its position and of the move that led to it
 abbrev pub FitsBefore : Replay → Conditions → ℕ → Type 0
 FitsBefore replay asked ply = (P : State) × (slice_get replay.positions ply ≡ Some P)

@@ -10,7 +10,7 @@ use Rattle.pgn_criteria.proofs.MeetFacts.{good_from, alternatives_to}
 use Rattle.pgn_criteria.proofs.RecordHeadings.{raw_heading, text_heading}
 use Rattle.pgn_criteria.proofs.SeenPlyFacts.{positions_count}
 use Rattle.pgn_criteria.proofs.StageFacts.{met_added, met_dropped}
-use Rattle.pgn_criteria.proofs.meets.Criteria.met_walked.Goals.{then-is_of_counted+else-not-is_of_seen+in_ok-add_walked}
+use Rattle.pgn_criteria.proofs.meets.Criteria.met_walked.Goals.{then-is_of_counted+else-not-is_of_seen+in_ok-add_walked+else-not-branch}
 use Rattle.pgn_criteria.proofs.meets.Criteria.met_walked.Goals.{else-is_of_counted}
 use Rattle.pgn_criteria.proofs.meets.Criteria.met_walked.Goals as goal
 
@@ -39,7 +39,7 @@ loop-alternative-preserved c =
     played_count P c.args.record.now.plies replay by
     ∙ ap (λ (bs : List ℕ). length bs / 3) (sym is) in
     elim c.if-is_of_counted.branch [
-      | then-is_of_counted+else-not-is_of_seen+in_ok-add_walked w ↦
+      | then-is_of_counted+else-not-is_of_seen+in_ok-add_walked+else-not-branch w ↦
           let free = w.is_of_seen.ensures.0 w.if-not-is_of_seen.false in
           let new = w.add_walked.new.met in
           let whole : List Bool = take old.len (new ++ drop (length new) old.items) in
@@ -58,7 +58,7 @@ loop-alternative-preserved c =
                 (games_of_counted heading replay plies (size P replay by) own.games free.0
                 (c.is_of_counted.ensures.0 w.if-is_of_counted.true))
                 w.add_walked.auto.met
-                (w.in_ok-add_walked.ensures free.1 P replay sight
+                (w.in_ok-add_walked.ensures w.if-not-branch.false free.1 P replay sight
                 (subst (λ (bs : List ℕ). IsPlayedBy P (codes_in bs) replay) (sym is) by))
                 (subst (AreMet heading replay (take i all)) (sym w.deref_mut.ensures.value)
                 (c.loop-alternative.invariant.so_far P replay sight by))));

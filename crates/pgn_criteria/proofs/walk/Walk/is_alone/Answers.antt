@@ -21,4 +21,5 @@ returns-in_default g c is =
     (alone_there (g.B.Board.men c.self.inside.board) c.args.man c.args.from c.args.to
     c.squares_of-others.result c.remove.new.self (subst AreOnBoard (sym men) c.invariant.ensures)
     c.squares_of-others.ensures c.remove.ensures
-    c.attackers_from.result c.attackers_from.ensures (c.is_empty-in_default.ensures.0 is) c.in_default.not-King)
+    c.attackers_from.result c.attackers_from.ensures (c.is_empty-in_default.ensures.0 is)
+    c.in_default.not-King)
