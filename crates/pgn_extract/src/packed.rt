@@ -472,7 +472,7 @@ fn push_turned<'a>(
 }
 
 /// Adds the mark and the ply of each entry of a packed game by criteria, which is walked. Answers
-/// `false`, and adds nothing, where they speak of moves otherwise than by their number.
+/// `false`, and adds nothing, where the codes of its plies do not tell what they say.
 fn push_told<'a>(
     text: &mut Vec<u8>,
     context: RecordContext<'a, '_, 'a>,
@@ -501,9 +501,31 @@ fn push_told<'a>(
     Ok(true)
 }
 
+/// The same where all entries are asked for. A game of which the first alone is asked is better
+/// played up to there, so that `false` is answered.
+fn push_told_whole<'a>(
+    text: &mut Vec<u8>,
+    context: RecordContext<'a, '_, 'a>,
+    criteria: &'a Criteria,
+) -> Result<bool, PackedFault>
+    requires criteria { context.settings.now.criteria ≡ Some criteria.now }
+    requires shows { IsRawOfGame context.record.now }
+    ensures seen { IfOk result (λ seen. seen ≡ true
+        → ListsRecord (bare_aim context.entry.settings.now)
+        context.entry.record.now text.old.items text.new.items) }
+    ensures unseen { IfOk result (λ seen. seen ≡ false → text.new.items ≡ text.old.items) }
+    ensures err { IfErr result (λ fault. fault ≡ PackedFault.NoGame
+        → (text.new.items ≡ text.old.items) × HasNoText context.entry.record.now) }
+{
+    if context.settings.first {
+        return Ok(false);
+    }
+    push_told(text, context, criteria)
+}
+
 /// Adds the mark and the ply of each entry of a packed game by criteria on its moves or on several
-/// plies, if it may have one. It is walked where they speak of positions alone, played where they
-/// speak of single plies, and kept where they speak of moves at several plies.
+/// plies, if it may have one. It is walked where the codes of its plies tell what they say, played
+/// where they speak of single plies, and kept where they speak of moves at several plies.
 fn push_played<'a>(
     text: &mut Vec<u8>,
     context: RecordContext<'a, '_, 'a>,
@@ -521,6 +543,11 @@ fn push_played<'a>(
     match may_be_played(context, criteria) {
         Ok(true) => {}
         Ok(false) => return Ok(()),
+        Err(fault) => return Err(fault),
+    }
+    match push_told_whole(text, context, criteria) {
+        Ok(true) => return Ok(()),
+        Ok(false) => {}
         Err(fault) => return Err(fault),
     }
     match push_turned(text, context, criteria) {
