@@ -2,6 +2,7 @@ pub mod AnnotationFacts
 pub mod EachPly
 pub mod FieldFacts
 pub mod KeptLines
+pub mod KeptMoves
 pub mod PlayedFacts
 pub mod TenLines
 pub mod PlainValues

@@ -29,7 +29,7 @@ mod ten_lines;
 pub(crate) mod told;
 
 use crate::entries::finding::Finder;
-use crate::entries::kept::find_kept;
+use crate::entries::kept::find_asked;
 use crate::entries::line_maker::LineMaker;
 use crate::entries::played::{Anything, find_again, find_played};
 use crate::entries::row_game::RowGame;
@@ -79,10 +79,10 @@ fn finder_of<'a>(
 }
 
 /// Adds the lines of the entries of a game, or answers its fault. Each position is asked as it is
-/// reached, and none is kept, unless a row shows something of the whole main line. Criteria that
-/// speak of single moves or of several plies are asked first which plies meet them; where a line
-/// shows more than these, the main line is played again. One that is known to be sound is not
-/// played to its end once no more is looked for.
+/// reached, and none is kept. Where a row shows something of the whole main line, that is played
+/// first, and its moves are kept. Criteria that speak of single moves or of several plies are asked
+/// first which plies meet them; where a line shows more than these, the main line is played again.
+/// One that is known to be sound is not played to its end once no more is looked for.
 pub fn push_entries<'a>(
     text: &mut Vec<u8>,
     context: GameContext<'a>,
@@ -101,11 +101,8 @@ pub fn push_entries<'a>(
         ..
     } = context;
     let mut finder = finder_of(context, game, is_sound)?;
-    if finder.lines.needs_line() {
-        return find_kept(&finder, alloc, game, text);
-    }
     let Some(criteria) = &settings.criteria else {
-        return find_played(&finder, alloc, game, Anything, text);
+        return find_asked(&finder, alloc, game, Anything, text);
     };
     let Some(question) = criteria.watch(alloc, game)? else {
         if settings.line.is_bare() {
@@ -113,7 +110,7 @@ pub fn push_entries<'a>(
         }
         return find_again(&mut finder, alloc, criteria, game, text);
     };
-    find_played(&finder, alloc, game, question, text)
+    find_asked(&finder, alloc, game, question, text)
 }
 
 /// The least of so many plies within the bounds; none where none is.

@@ -1,19 +1,18 @@
 -- A line that is kept stands at a position of the game, and goes on by one ply.
 use Rattle.std.specs.Prelude.{get_or}
-use Rattle.std.proofs.lemmas.Option.{same_Some, slice_get-get_or}
+use Rattle.std.proofs.lemmas.Option.{slice_get-get_or}
 use Rattle.pgn_criteria.specs.Public.Meeting.{AreMet}
 use Rattle.pgn_extract.specs.Private.PlayedLines.{TellsOf}
 use Rattle.pgn_extract.proofs.Common.{◌≡◌, ◌↔◌, ◌+◌, ◌-◌, ◌<◌, ◌≤◌, ℕ, zero, suc, List, [], ◌∷◌}
 use Rattle.pgn_extract.proofs.Common.{◌++◌, length, Option, Some, Bool, true, false, IsTrue, refl}
 use Rattle.pgn_extract.proofs.Common.{sym, ap, ◌∙◌, subst, append_assoc, length-append, arith, None}
-use Rattle.pgn_extract.proofs.Common.{slice_get, after, IsLegal, State, Move, GameText, tag_in}
-use Rattle.pgn_extract.proofs.Common.{positions_from, main_words, Replay, IsReplay, fen_tag, Main}
-use Rattle.pgn_extract.proofs.Common.{line_legal, line_positions, heading_of, Heading, Aim}
+use Rattle.pgn_extract.proofs.Common.{slice_get, State, GameText, tag_in}
+use Rattle.pgn_extract.proofs.Common.{main_words, Replay, IsReplay, fen_tag, Main}
+use Rattle.pgn_extract.proofs.Common.{heading_of, Heading, Aim}
 use Rattle.pgn_extract.proofs.Common.{GameId, IsMet, IsWanted, IsEntry}
 use Rattle.pgn_extract.proofs.Common.{IsOfGame, GoesTo}
 use Rattle.pgn_extract.proofs.Common.{MeetsHere, HandsOn}
 use Rattle.pgn_extract.proofs.Common.{MatchOption, IsSan, Conditions}
-use Rattle.pgn_game.specs.Public.CodeLines.{AreLegalMoves, IsLegalLine}
 use Rattle.pgn_extract.specs.Private.KeptLines.{IsKeptWith}
 use Rattle.pgn_extract.specs.Private.Finding.{IsChosen}
 use Rattle.pgn_extract.specs.Private.Lines.{first_ply}
@@ -24,7 +23,7 @@ use Rattle.pgn_extract.proofs.OneMain.{one_main, stands_main}
 use Rattle.pgn_criteria.proofs.BeginningFacts.{met_alike}
 use Rattle.pgn_extract.specs.Private.Lines.{ShowsValue, Where}
 use Rattle.pgn_extract.specs.Public.Listing.{IsShownOf}
-use Rattle.pgn_extract.specs.Public.Rows.{IsPlyCell, IsMoveCell, IsAt, uci_cell}
+use Rattle.pgn_extract.specs.Public.Rows.{IsPlyCell, uci_cell}
 use Rattle.pgn_extract.specs.declared.rows.column.PlyColumn.{PlyColumn}
 use Rattle.pgn_extract.specs.declared.rows.column.PlyColumn.TheVariants.{Ply, OfPosition, Next}
 use Rattle.pgn_extract.specs.declared.rows.column.PlyColumn.TheVariants.{NextUci, OfLine}
@@ -38,45 +37,8 @@ met_there None heading kept other positions played ply met = tt
 met_there (Some alternatives) heading kept other positions played ply met =
     met_alike heading kept other positions played ply alternatives met
 
--- the value of the column of the move that is played there
-pub cell_played : (replay : Replay) (ply : ℕ) (P : State) (m : Move) (value : List ℕ)
-    → slice_get replay.positions ply ≡ Some P
-    → slice_get replay.played ply ≡ Some m → IsSan P m value → IsMoveCell replay ply value
-cell_played replay ply P m value here played san =
-    subst (λ (o : Option Move).
-    MatchOption o (value ≡ []) (λ n. IsAt replay ply (λ Q. IsSan Q n value))) (sym played)
-    (P, here, san)
-
--- each move of a legal line is legal in the position before it
-pub legal_at : (start : State) (moves : List Move) (n : ℕ) (P : State) (m : Move)
-    → AreLegalMoves start moves
-    → slice_get (positions_from start moves) n ≡ Some P → slice_get moves n ≡ Some m → IsLegal P m
-legal_at start [] n P m legal here is = absurd (cc)
-legal_at start (k ∷ moves) zero P m legal here is =
-    subst (λ Q. IsLegal Q m) (same_Some start P here)
-    (subst (IsLegal start) (same_Some k m is) legal.0)
-legal_at start (k ∷ moves) (suc n) P m legal here is =
-    legal_at (after start k) moves n P m legal.1 here is
-
-pub legal_there : (start : State) (replay : Replay) → IsLegalLine start replay
-    → (n : ℕ) (P : State) (m : Move)
-    → slice_get replay.positions n ≡ Some P → slice_get replay.played n ≡ Some m → IsLegal P m
-legal_there start replay line n P m here is =
-    legal_at start replay.played n P m line.legal (ap (λ ps. slice_get ps n) (sym line.positions)
-    ∙ here) is
-
 module _ (game : GameText) (kept : Replay)
     (is : IsReplay Main (tag_in fen_tag game.tags) game.elements kept) where
-  pub legal_line : (start : State) × IsLegalLine start kept
-  legal_line = (
-    is.start,
-    record {
-      legal = line_legal is.start (main_words game.elements 0) kept.positions kept.played is.line;
-      positions =
-          line_positions is.start (main_words game.elements 0) kept.positions kept.played is.line;
-    },
-  )
-
   pub begins_kept : (met : List Bool) (aim : Aim) → length met ≡ length kept.positions
       → ((n : ℕ) (r : Bool) → slice_get met n ≡ Some r
       → IsTrue r ↔ IsMet aim.criteria (heading_of game) kept n)

@@ -1,21 +1,19 @@
 -- What rows show of a main line that is kept, and which lines show it.
-use Rattle.std.specs.Prelude.{Option, None, zero, suc, replicate, decimal, not}
+use Rattle.std.specs.Prelude.{None, zero, suc, replicate, decimal, not}
 use Rattle.std.proofs.lemmas.Bool.{and_parts, false≢true, or_parts}
-use Rattle.std.proofs.lemmas.Option.{get_or_from_slice_get, slice_get_within}
 use Rattle.std.proofs.lemmas.List.{length-replicate}
-use Rattle.pgn_extract.proofs.Common.{◌≡◌, ◌+◌, ◌<◌, ◌≤◌, ℕ, Bool, true, false, List, [], ◌∷◌, ◌++◌}
-use Rattle.pgn_extract.proofs.Common.{length, refl, sym, ap, ◌∙◌, subst, arith, get_or, take}
-use Rattle.pgn_extract.proofs.Common.{append_assoc, append-nil, length-append, IsTrue}
+use Rattle.pgn_extract.proofs.Common.{◌≡◌, ◌+◌, ◌<◌, ℕ, Bool, true, false, List, [], ◌∷◌, ◌++◌}
+use Rattle.pgn_extract.proofs.Common.{length, refl, sym, ap, ◌∙◌, subst, arith, get_or}
+use Rattle.pgn_extract.proofs.Common.{length-append, IsTrue}
 use Rattle.pgn_extract.proofs.Common.{MatchOption, slice_get, same_Some, State, Move, Some}
-use Rattle.pgn_extract.proofs.Common.{after, Replay, Heading, positions_from}
-use Rattle.pgn_game.specs.Public.CodeLines.{IsLegalLine}
+use Rattle.pgn_extract.proofs.Common.{Replay, Heading}
 use Rattle.pgn_game.specs.Public.GameLines.{AreMoveTexts, IsMoveText}
 use Rattle.pgn_game.specs.declared.exports.notation.Notation.{Notation}
 use Rattle.pgn_extract.specs.Private.KeptLines.{AreReported}
 use Rattle.pgn_extract.specs.Private.Lines.{IsEnoughFor, keeps_line, is_bare, made_line}
 use Rattle.pgn_extract.specs.Private.RowTexts.{IsPlainValue, EachColumn, need_line, needs_line}
 use Rattle.pgn_extract.specs.Private.RowTexts.{IsShownWith, part_needs_line}
-use Rattle.pgn_extract.specs.Public.Rows.{IsAt, IsMoveIn, IsLastCell, AreMovesCell, IsLineCell}
+use Rattle.pgn_extract.specs.Public.Rows.{IsMoveIn, IsLastCell, IsLineCell}
 use Rattle.pgn_extract.specs.declared.entries.line_maker.LineMaker.{LineMaker}
 use Rattle.pgn_extract.specs.declared.entries.line_maker.LineMaker.TheVariants as maker
 use Rattle.pgn_extract.specs.declared.entries.row_maker.PartColumn.{PartColumn}
@@ -24,9 +22,7 @@ use Rattle.pgn_extract.specs.declared.entries.row_maker.RowPart.{RowPart}
 use Rattle.pgn_extract.specs.declared.rows.column.LineColumn.{LineColumn}
 use Rattle.pgn_extract.specs.declared.rows.column.LineColumn.TheVariants.{Plies, Last, Moves}
 use Rattle.pgn_extract.specs.declared.rows.column.PlyColumn.{PlyColumn}
-use Rattle.pgn_extract.proofs.MoveCells.{first_position}
 use Rattle.pgn_extract.proofs.entries.PlainTexts.{plain_append}
-use Rattle.pgn_extract.proofs.entries.RowMaking.{part_taken}
 
 -- Which lines show the columns of a maker.
 
@@ -106,25 +102,6 @@ all_reported replay plies met heading size is = record {
 
 -- Texts of moves.
 
-pub move_in : (notation : Notation) (replay : Replay) (ply : ℕ) (m : Move) (value : List ℕ)
-    → slice_get replay.played ply ≡ Some m
-    → IsAt replay ply (λ P. IsMoveText notation P m value) → IsMoveIn notation replay ply value
-move_in notation replay ply m value played at =
-    subst (λ (o : Option Move).
-    MatchOption o (value ≡ []) (λ n. IsAt replay ply (λ P. IsMoveText notation P n value)))
-    (sym played) at
-
-none_at : (notation : Notation) (replay : Replay) (ply : ℕ) (value : List ℕ)
-    → slice_get replay.played ply ≡ None → value ≡ [] → IsMoveIn notation replay ply value
-none_at notation replay ply value none empty =
-    subst (λ (o : Option Move).
-    MatchOption o (value ≡ []) (λ n. IsAt replay ply (λ P. IsMoveText notation P n value)))
-    (sym none) empty
-
-pub none_in : (notation : Notation) (replay : Replay) (ply : ℕ)
-    → slice_get replay.played ply ≡ None → IsMoveIn notation replay ply []
-none_in notation replay ply none = none_at notation replay ply [] none refl
-
 -- the move before a ply led to it
 pub led_to : (notation : Notation) (replay : Replay) (before ply : ℕ) (value : List ℕ)
     → ply ≡ before + 1 → IsMoveIn notation replay before value
@@ -133,98 +110,6 @@ led_to notation replay before zero value is of = absurd (omega (arith, is))
 led_to notation replay before (suc n) value is of =
     let same : before ≡ n = omega (arith, is) in
     subst (λ k. IsMoveIn notation replay k value) same of
-
-pub none_led : (notation : Notation) (replay : Replay) (ply : ℕ) → ply ≡ 0
-    → IsLastCell notation replay ply []
-none_led notation replay zero is = refl
-none_led notation replay (suc n) is = absurd (omega (arith, is))
-
--- one more move
-texts_push : (notation : Notation) (start : State) (before : List Move) (m : Move)
-    (text own : List ℕ) (P : State) → AreMoveTexts notation start before text
-    → slice_get (positions_from start before) (length before) ≡ Some P
-    → IsMoveText notation P m own
-    → AreMoveTexts notation start (before ++ m ∷ []) (text ++ 32 ∷ own)
-texts_push notation start [] m text own P are here of = (
-  own,
-  [],
-  ap (λ t. t ++ 32 ∷ own) are ∙ ap (λ t. 32 ∷ t) (sym (append-nil own)),
-  subst (λ Q. IsMoveText notation Q m own) (sym (same_Some start P here)) of,
-  refl,
-)
-texts_push notation start (k ∷ before) m text own P (first, rest, parted, is, more) here of = (
-  first,
-  rest ++ 32 ∷ own,
-  ap (λ t. t ++ 32 ∷ own) parted ∙ ap (λ t. 32 ∷ t) (append_assoc first rest (32 ∷ own)),
-  is,
-  texts_push notation (after start k) before m rest own P more here of,
-)
-
-taken_position : (start : State) (moves : List Move) (i : ℕ) (P : State) → i ≤ length moves
-    → slice_get (positions_from start moves) i ≡ Some P
-    → slice_get (positions_from start (take i moves)) (length (take i moves)) ≡ Some P
-taken_position start [] zero P within here = here
-taken_position start [] (suc i) P within here = absurd (omega (arith, within))
-taken_position start (k ∷ moves) zero P within here = here
-taken_position start (k ∷ moves) (suc i) P within here =
-    taken_position (after start k) moves i P (omega (arith, within)) here
-
--- these are so many first moves of the replay, without the blank before the first
-abbrev pub AreFirstMoves : Notation → Replay → ℕ → List ℕ → Type 0
-AreFirstMoves notation replay count value =
-    (start : State) → IsLegalLine start replay
-    → AreMoveTexts notation start (take count replay.played) (32 ∷ value)
-
-pub moves_more : (notation : Notation) (replay : Replay) (i : ℕ) (m : Move)
-    (value own : List ℕ) → AreFirstMoves notation replay i value
-    → slice_get replay.played i ≡ Some m → IsAt replay i (λ P. IsMoveText notation P m own)
-    → AreFirstMoves notation replay (i + 1) (value ++ 32 ∷ own)
-moves_more notation replay i m value own so_far played (P, here, of) start line =
-    let within = slice_get_within replay.played i m played in
-    let next = part_taken replay.played i m within
-    (sym (get_or_from_slice_get replay.played i m m played)) in
-    let there = ap (λ ps. slice_get ps i) (sym line.positions) ∙ here in
-    subst (λ ms. AreMoveTexts notation start ms (32 ∷ value ++ 32 ∷ own)) (sym next)
-    (texts_push notation start (take i replay.played) m (32 ∷ value) own P (so_far start line)
-    (taken_position start replay.played i P (omega (arith, within)) there) of)
-
-pub first_move : (notation : Notation) (replay : Replay) (m : Move) (own : List ℕ)
-    → slice_get replay.played 0 ≡ Some m → IsAt replay 0 (λ P. IsMoveText notation P m own)
-    → AreFirstMoves notation replay 1 own
-first_move notation replay m own played (P, here, of) start line =
-    let within = slice_get_within replay.played 0 m played in
-    let next = part_taken replay.played 0 m within
-    (sym (get_or_from_slice_get replay.played 0 m m played)) in
-    let there = ap (λ ps. slice_get ps 0) (sym line.positions) ∙ here in
-    subst (λ ms. AreMoveTexts notation start ms (32 ∷ own)) (sym next)
-    (texts_push notation start (take 0 replay.played) m [] own P (no_texts replay.played)
-    (taken_position start replay.played 0 P (omega arith) there) of)
-  where
-    no_texts : (moves : List Move) → AreMoveTexts notation start (take 0 moves) []
-    no_texts [] = refl
-    no_texts (k ∷ moves) = refl
-
-pub all_moves : (notation : Notation) (replay : Replay) (start : State) (value : List ℕ)
-    → IsLegalLine start replay → AreMoveTexts notation start replay.played (32 ∷ value)
-    → AreMovesCell notation replay value
-all_moves notation replay start value line are = (
-  start,
-  ap (λ ps. slice_get ps 0) line.positions ∙ first_position start replay.played,
-  (32 ∷ value, are, refl),
-)
-
-no_move : (notation : Notation) (start : State) (moves : List Move) → length moves ≡ 0
-    → AreMoveTexts notation start moves []
-no_move notation start [] none = refl
-no_move notation start (k ∷ moves) none = absurd (omega (arith, none))
-
-pub no_moves : (notation : Notation) (replay : Replay) (start : State)
-    → IsLegalLine start replay → length replay.played ≡ 0 → AreMovesCell notation replay []
-no_moves notation replay start line none = (
-  start,
-  ap (λ ps. slice_get ps 0) line.positions ∙ first_position start replay.played,
-  ([], no_move notation start replay.played none, refl),
-)
 
 -- Replays with the same positions and moves show the same.
 

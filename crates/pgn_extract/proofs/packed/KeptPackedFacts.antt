@@ -11,7 +11,12 @@ use Rattle.pgn_extract.specs.Public.Rows.{IsOpeningBy}
 use Rattle.pgn_game.specs.Public.CodeLines.{AreLegalMoves, IsLegalLine}
 use Rattle.pgn_game.proofs.OneReplay.{line_head}
 use Rattle.pgn_extract.specs.Private.KeptPacked.{IsStartOf, IsKeptOf}
+use Rattle.pgn_extract.proofs.Common.{slice_get, IsReplay}
+use Rattle.pgn_extract.specs.Private.KeptLines.{replay_of}
+use Rattle.pgn_extract.proofs.MoveCells.{first_position}
 use Rattle.pgn_extract.proofs.OneMain.{one_main}
+use Rattle.pgn_extract.proofs.PackedFacts.{line_begins}
+use Rattle.pgn_extract.proofs.entries.KeptMoves.{replayed_moves}
 
 module _ {raw : RawRecord} {game : GameText} {replay : Replay} {packed : PackedGame}
     (own : IsOfRecord raw game replay packed) (start : State)
@@ -91,3 +96,30 @@ opening_of raw start lines opening bytes same is found game replay packed own =
     let line = each_line own start (is game replay packed own) replay (Main, own.is_replay) in
     subst (λ ps. IsOpeningIn (ends_of lines) ps opening) (sym line.0.positions)
     (found replay.played (subst (λ b. IsCodedLine start b replay.played) (sym same) line.1))
+
+-- a line that is kept by these moves, which are its own
+pub kept_moves : (raw : RawRecord) (kept : Replay) → IsKeptOf raw kept → (start : State)
+    → slice_get kept.positions 0 ≡ Some start → (moves : List Move) → moves ≡ kept.played
+    → AreLegalMoves start moves × (kept.positions ≡ positions_from start moves)
+kept_moves raw kept is start here moves same =
+    let first : is.start ≡ start =
+    same_Some is.start start
+    (sym (ap (λ ps. slice_get ps 0) is.line.positions ∙ first_position is.start kept.played)
+    ∙ here) in (
+      subst (λ P. AreLegalMoves P moves) first
+          (subst (AreLegalMoves is.start) (sym same) is.line.legal),
+      is.line.positions ∙ ap (λ P. positions_from P kept.played) first
+          ∙ ap (positions_from start) (sym same),
+    )
+
+pub kept_is : (game : GameText) (kept : Replay)
+    → IsReplay Main (tag_in fen_tag game.tags) game.elements kept → (start : State)
+    → slice_get kept.positions 0 ≡ Some start → (moves : List Move) → moves ≡ kept.played
+    → kept ≡ replay_of start moves
+kept_is game kept is start here moves same =
+    let (rest, begins) =
+    line_begins is.start (main_words game.elements 0) kept.positions kept.played is.line in
+    let first : is.start ≡ start =
+    same_Some is.start start (sym (ap (λ ps. slice_get ps 0) begins) ∙ here) in
+    replayed_moves game kept is ∙ ap (λ P. replay_of P kept.played) first
+    ∙ ap (replay_of start) (sym same)

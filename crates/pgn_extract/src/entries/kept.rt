@@ -1,129 +1,195 @@
-//! The entries of a game whose rows show what is known of its whole main line: that is replayed and
-//! kept, and then looked through.
-ghost use Rattle.std.specs.Prelude.{◌≡◌, ◌≤◌, ◌<◌, ◌+◌, ◌-◌, ◌++◌, [], List, ℕ, MatchResult};
-ghost use Rattle.std.specs.Prelude.{Option, IfErr, IfOk, IfSome, Some, None, OnOk, length, refl};
+//! The entries of a game whose rows show what is known of its whole main line: that is played and
+//! its moves are kept, and then it is looked through.
+ghost use Rattle.std.specs.Prelude.{◌≡◌, ◌<◌, ◌+◌, ◌-◌, ◌⊎◌, ◌++◌, ◌∷◌, [], List, ℕ, true};
+ghost use Rattle.std.specs.Prelude.{MatchResult, Option, IfErr, IfOk, IfSome, None, Some, OnOk};
+ghost use Rattle.std.specs.Prelude.{length, refl};
+ghost use Rattle.std.specs.List.{slice_get};
 ghost use Rattle.chess.specs.Public.Positions.{State};
+ghost use Rattle.pgn_game.specs.Public.CodeLines.{AreLegalMoves, positions_from};
 ghost use Rattle.pgn_text.specs.Public.GameTexts.{tag_in};
-ghost use Rattle.pgn_game.specs.Public.CodeLines.{IsLegalLine};
 ghost use Rattle.pgn_game.specs.Public.Faults.{IsFault};
-ghost use Rattle.pgn_game.specs.Public.Replays.{fault_of};
-ghost use Rattle.pgn_criteria.specs.Public.Meeting.{Heading, heading_of};
+ghost use Rattle.pgn_game.specs.Public.Replays.{IsSoundGame, Replay, fault_of};
+ghost use Rattle.pgn_criteria.specs.Public.Meeting.{Heading};
 ghost use Rattle.pgn_game.specs.Public.Openings.{NamedLine};
 ghost use Rattle.pgn_game.specs.Public.Starts.{fen_tag};
 ghost use Rattle.pgn_game.specs.declared.replays.replayer.Lines.TheVariants.{Main};
-ghost use Rattle.pgn_extract.specs.Public.Aims.{Aim, GameId};
-ghost use Rattle.pgn_extract.specs.Private.Finding.{IsOfGame, StopsAtFault};
-ghost use Rattle.pgn_extract.specs.Private.KeptLines.{AreReported, IsKeptWith};
-ghost use Rattle.pgn_extract.specs.Private.RowTexts.{IsPlainValue};
+ghost use Rattle.pgn_extract.specs.Public.Aims.{Aim, GameId, aim_of};
+ghost use Rattle.pgn_extract.specs.Private.Finding.{StopsAtFault};
+ghost use Rattle.pgn_extract.specs.Private.KeptLines.{AreFirst, AreReported, IsKeptWith};
+ghost use Rattle.pgn_extract.specs.Private.KeptLines.{IsReached, line_of};
 ghost use Rattle.pgn_extract.specs.Private.Lines.{aim_with, HandsOn, MakesLines, marked_lines};
-ghost use Rattle.pgn_extract.specs.Public.Rows.{IsMoveCell, uci_cell};
-ghost use Rattle.std.specs.List.{slice_get};
 
 use crate::entries::finding::Finder;
 use crate::entries::line::Line;
-use crate::entries::line_value::push_line_value;
-use crate::entries::played::push_position_value;
+use crate::entries::line_value::{push_line_value, push_played};
+use crate::entries::played::{Question, find_played, push_position_value};
 use crate::output::texts::push_number;
 use crate::rows::column::PlyColumn;
-use crate::rows::uci::push_uci;
-use chess::san;
-use pgn_criteria::Criteria;
-use pgn_game::{GameFault, Lines, Replayed, replay};
+use chess::Move;
+use pgn_game::{GameFault, GamePosition, MainLine, Notation};
 use pgn_text::RawGame;
 use std::alloc::{AllocError, Global};
 
-/// Appends the text of the move that is played after so many plies, and nothing where none is.
-fn push_played_value(text: &mut Vec<u8>, replayed: &Replayed, ply: usize) -> Result<(), AllocError>
-    requires within { ply ≤ length replayed.now.played }
-    requires legal { (start : State) × IsLegalLine start replayed.now }
-    ensures { OnOk result ((value : List ℕ) × IsPlainValue value
-        × IsMoveCell replayed.now ply value
-        × (text.new.items ≡ text.old.items ++ value)) }
-{
-    if ply == replayed.plies() {
-        return Ok(());
-    }
-    let position = replayed.position(ply);
-    position.invariant();
-    text.extend_from_slice(san(position, replayed.played(ply)).as_bytes())?;
-    Ok(())
-}
+/// So many positions of a main line are kept; a later one is played from the one before it.
+const MOST: usize = 4096;
 
-/// Appends the move that is played after so many plies as `--uci` writes it, and nothing where none
-/// is.
-fn push_played_uci(text: &mut Vec<u8>, replayed: &Replayed, ply: usize) -> Result<(), AllocError>
-    requires within { ply ≤ length replayed.now.played }
-    requires legal { (start : State) × IsLegalLine start replayed.now }
-    ensures { OnOk result ((value : List ℕ) × IsPlainValue value
-        × (value ≡ uci_cell (slice_get replayed.now.played ply))
-        × (text.new.items ≡ text.old.items ++ value)) }
-{
-    if ply == replayed.plies() {
-        return Ok(());
-    }
-    push_uci(text, replayed.played(ply))
-}
-
-/// A main line that is kept, with what is known of each of its positions: whether it is met.
+/// A main line of which the moves are kept, and the first positions, with what is known of each:
+/// whether it is met. A ply of it is reached: where it is past the first positions, its own is kept
+/// and the one before that.
 #[derive(Drop)]
 pub(crate) struct Kept {
-    pub(crate) replayed: Replayed,
+    pub(crate) start: GamePosition,
+    pub(crate) played: Vec<Move>,
     pub(crate) met: Vec<bool>,
+    pub(crate) first: Vec<GamePosition>,
+    pub(crate) before: GamePosition,
+    pub(crate) here: GamePosition,
     pub(crate) ply: usize,
-    ghost within: { ply < length met.items },
-    ghost sized: { length met.items ≡ length replayed.played + 1 },
 }
 
-/// Each position of the main line is met, where there are no criteria.
-pub(crate) fn all_met(alloc: Global, replayed: &Replayed) -> Result<Vec<bool>, AllocError>
-    ensures { IfOk result (λ met. (heading : Heading)
-        → AreReported None heading replayed.now met.items) }
+/// Each position of a main line with so many plies is met, where there are no criteria.
+pub(crate) fn all_met(alloc: Global, plies: usize) -> Result<Vec<bool>, AllocError>
+    ensures { IfOk result (λ met. (heading : Heading) (replay : Replay)
+        → length replay.positions ≡ plies + 1 → AreReported None heading replay met.items) }
 {
-    let mut met = vec![in alloc; true; replayed.plies()]?;
+    let mut met = vec![in alloc; true; plies]?;
     met.push(true)?;
     Ok(met)
 }
 
-/// For each position of the main line whether it meets the criteria.
-fn met_plies<'a>(
-    alloc: Global,
-    criteria: &'a Option<Criteria>,
-    game: &RawGame<'a>,
-    replayed: &Replayed,
-) -> Result<Vec<bool>, AllocError>
-    requires { IsOfGame game.now replayed.now }
-    ensures { IfOk result (λ met.
-        AreReported criteria.now (heading_of game.now) replayed.now met.items) }
+/// Adds whether one more position is met.
+#[inline(always)]
+fn add_met(met: &mut Vec<bool>, is: bool) -> Result<(), AllocError>
+    ensures { OnOk result (met.new.items ≡ met.old.items ++ is ∷ []) }
 {
-    match criteria {
-        Some(criteria) => criteria.met_plies(alloc, game, replayed),
-        None => all_met(alloc, replayed),
+    met.push(is)?;
+    Ok(())
+}
+
+/// Adds one more move.
+#[inline(always)]
+fn add_move(played: &mut Vec<Move>, m: Move) -> Result<(), AllocError>
+    ensures { OnOk result (played.new.items ≡ played.old.items ++ m ∷ []) }
+{
+    played.push(m)?;
+    Ok(())
+}
+
+/// Adds the position after so many plies, where it is one of the first and follows those before it.
+#[inline(always)]
+pub(crate) fn keep_first(
+    first: &mut Vec<GamePosition>,
+    ply: usize,
+    position: &GamePosition,
+) -> Result<(), AllocError>
+    ensures { OnOk result ((n : ℕ) (P : State) → slice_get first.new.items n ≡ Some P
+        → (slice_get first.old.items n ≡ Some P) ⊎ ((n ≡ ply) × (P ≡ position.now))) }
+{
+    if ply < MOST && first.len() == ply {
+        first.push(position.copy())?;
     }
+    Ok(())
 }
 
 impl Kept {
-    /// The main line of the game, or its fault.
-    pub(crate) fn of_game<'a>(
+    /// The line from the position by these moves, before the first of them. These are the first of
+    /// its positions.
+    pub(crate) fn begin(
+        start: GamePosition,
+        played: Vec<Move>,
+        met: Vec<bool>,
+        first: Vec<GamePosition>,
+    ) -> Self
+        requires sized { length met.items ≡ length played.items + 1 }
+        requires legal { AreLegalMoves start played.items }
+        requires first { AreFirst first.items (positions_from start played.items) }
+        ensures reached { IsReached result }
+        ensures line { (result.start ≡ start) × (result.played.items ≡ played.items)
+            × (result.met.items ≡ met.items) × (result.ply ≡ 0) }
+    {
+        let before = start.copy();
+        let here = start.copy();
+        Kept {
+            start,
+            played,
+            met,
+            first,
+            before,
+            here,
+            ply: 0,
+        }
+    }
+
+    /// The position at the ply that is reached.
+    #[inline(always)]
+    pub(crate) fn position(&self) -> &GamePosition
+        requires { IsReached self.now }
+        ensures { slice_get (line_of self.now).positions self.now.ply ≡ Some result.now }
+    {
+        if self.ply < self.first.len() {
+            return &self.first[self.ply];
+        }
+        &self.here
+    }
+
+    /// The position before it.
+    #[inline(always)]
+    pub(crate) fn last_position(&self) -> &GamePosition
+        requires reached { IsReached self.now }
+        requires some { 0 < self.now.ply }
+        ensures { slice_get (line_of self.now).positions (self.now.ply - 1) ≡ Some result.now }
+    {
+        if self.ply - 1 < self.first.len() {
+            return &self.first[self.ply - 1];
+        }
+        &self.before
+    }
+
+    /// Plays the next move.
+    #[inline(never)]
+    fn play_next(&mut self)
+        requires reached { IsReached self.old }
+        requires more { self.old.ply < length self.old.played.items }
+        ensures reached { IsReached self.new }
+        ensures line { (line_of self.new ≡ line_of self.old)
+            × (self.new.met.items ≡ self.old.met.items) × (self.new.ply ≡ self.old.ply + 1) }
+    {
+        let from = self.position().copy();
+        self.here = from.play(self.played[self.ply]);
+        self.before = from;
+        self.ply += 1;
+    }
+
+    /// The main line of the game, of which each position is asked this as it is reached; or its
+    /// fault.
+    pub(crate) fn of_game<'a, Q: Question>(
         alloc: Global,
-        criteria: &'a Option<Criteria>,
         game: &RawGame<'a>,
+        question: &Q,
     ) -> Result<Self, GameFault<'a>>
         ensures { MatchResult result
-            (λ line. ((start : State) × IsLegalLine start line.replayed)
-            × ((aim : Aim) → aim.criteria ≡ criteria.now
-            → (P : State) × IsKeptWith line.replayed line.met.items line.ply aim game.now [] P))
+            (λ line. IsReached line × ((aim : Aim) → Q.Asks question.now aim.criteria game.now
+            → (P : State) × IsKeptWith (line_of line) line.met.items line.ply aim game.now [] P))
             (λ fault.
             IfSome (fault_of fault)
             (IsFault Main (tag_in fen_tag game.now.tags) game.now.elements)) }
     {
-        let replayed = replay(alloc, game, Lines::Main)?;
-        let met = met_plies(alloc, criteria, game, &replayed)?;
-        pgn_game::laws::one_legal_move();
-        Ok(Kept {
-            replayed,
-            met,
-            ply: 0,
-        })
+        let mut line = MainLine::begin(alloc, game)?;
+        let most = game.elements().len();
+        let mut played = Vec::with_capacity(alloc, most)?;
+        let mut met = Vec::with_capacity(alloc, most.saturating_add(1))?;
+        let mut first = Vec::new(alloc);
+        let start = line.position().copy();
+        let mut before = line.position().copy();
+        loop {
+            keep_first(&mut first, line.plies(), line.position())?;
+            add_met(&mut met, question.is_met(line.plies(), line.position()))?;
+            let next = line.advance_from(&mut before)?;
+            let Some(m) = next else {
+                return Ok(Kept::begin(start, played, met, first));
+            };
+            add_move(&mut played, m)?;
+        }
     }
 }
 
@@ -131,9 +197,9 @@ impl Line for Kept {
     type Fault = AllocError;
 
     ghost At = { λ own aim game before P.
-        IsKeptWith own.replayed own.met.items own.ply aim game before P };
+        IsKeptWith (line_of own) own.met.items own.ply aim game before P };
 
-    ghost Valid = { λ own. (start : State) × IsLegalLine start own.replayed };
+    ghost Valid = { λ own. IsReached own };
 
     ghost Shows = { λ column. Unit {0} };
 
@@ -154,12 +220,14 @@ impl Line for Kept {
     fn push_value(&self, text: &mut Vec<u8>, column: PlyColumn) -> Result<(), AllocError> {
         match column {
             PlyColumn::Ply => push_number(text, self.ply),
-            PlyColumn::OfPosition(own) => {
-                push_position_value(text, self.replayed.position(self.ply), own)
+            PlyColumn::OfPosition(own) => push_position_value(text, self.position(), own),
+            PlyColumn::Next => {
+                push_played(text, self.position(), &self.played, self.ply, Notation::San)
             }
-            PlyColumn::Next => push_played_value(text, &self.replayed, self.ply),
-            PlyColumn::NextUci => push_played_uci(text, &self.replayed, self.ply),
-            PlyColumn::OfLine(own) => push_line_value(text, &self.replayed, self.ply, own),
+            PlyColumn::NextUci => {
+                push_played(text, self.position(), &self.played, self.ply, Notation::Uci)
+            }
+            PlyColumn::OfLine(own) => push_line_value(text, self, own),
         }
     }
 
@@ -168,6 +236,10 @@ impl Line for Kept {
         let next = self.ply + 1;
         if !is_open || next == self.met.len() {
             return Ok(false);
+        }
+        if next >= self.first.len() {
+            self.play_next();
+            return Ok(true);
         }
         self.ply = next;
         Ok(true)
@@ -178,13 +250,16 @@ impl Line for Kept {
     ghost memory = { λ error fault from. refl };
 }
 
-/// Replays and keeps the main line of the game, and adds the lines of its entries.
-pub(crate) fn find_kept<'a>(
-    finder: &Finder<'a>,
+/// Plays the main line of the game and keeps its moves, and adds the lines of its entries.
+#[inline(never)]
+fn find_kept<'a, Q: Question>(
+    finder: &Finder<'_>,
     alloc: Global,
     game: &RawGame<'a>,
+    question: &Q,
     text: &mut Vec<u8>,
 ) -> Result<(), GameFault<'a>>
+    requires asks { Q.Asks question.now (aim_of finder.now.settings.now).criteria game.now }
     ensures found { OnOk result ((name : Option (List ℕ))
         (openings : Option (List NamedLine)) (id : GameId)
         → MakesLines finder.now.lines name openings id game.now
@@ -193,7 +268,33 @@ pub(crate) fn find_kept<'a>(
     ensures fault { IfErr result (λ fault.
         IfSome (fault_of fault) (StopsAtFault game.now text.old.items text.new.items)) }
 {
-    let mut line = Kept::of_game(alloc, &finder.settings.criteria, game)?;
+    let mut line = Kept::of_game(alloc, game, question)?;
     finder.find(&mut line, text, true)?;
     Ok(())
+}
+
+/// Plays the main line of the game, and adds the lines of its entries. Its moves are kept only
+/// where a row shows something of the whole line.
+pub(crate) fn find_asked<'a, Q: Question>(
+    finder: &Finder<'_>,
+    alloc: Global,
+    game: &RawGame<'a>,
+    question: Q,
+    text: &mut Vec<u8>,
+) -> Result<(), GameFault<'a>>
+    requires asks { Q.Asks question (aim_of finder.now.settings.now).criteria game.now }
+    requires sound { finder.now.is_sound ≡ true
+        → IsSoundGame Main (tag_in fen_tag game.now.tags) game.now.elements }
+    ensures found { OnOk result ((name : Option (List ℕ))
+        (openings : Option (List NamedLine)) (id : GameId)
+        → MakesLines finder.now.lines name openings id game.now
+        → HandsOn (aim_with finder.now name openings) id game.now
+        (λ got. text.new.items ≡ text.old.items ++ marked_lines finder.now.mark.items got)) }
+    ensures fault { IfErr result (λ fault.
+        IfSome (fault_of fault) (StopsAtFault game.now text.old.items text.new.items)) }
+{
+    if finder.lines.needs_line() {
+        return find_kept(finder, alloc, game, &question, text);
+    }
+    find_played(finder, alloc, game, question, text)
 }

@@ -1,21 +1,23 @@
 //! What rows show of a main line that is kept: its move before a ply, and all of them.
-ghost use Rattle.std.specs.Prelude.{◌≡◌, ◌≤◌, ◌<◌, ◌++◌, List, ℕ, Some, OnOk, length};
+ghost use Rattle.std.specs.Prelude.{◌≡◌, ◌≤◌, ◌++◌, [], List, ℕ, MatchOption, OnOk, IfSome, length};
 ghost use Rattle.std.specs.List.{slice_get};
-ghost use Rattle.chess.specs.Public.Moves.{IsLegal};
+ghost use Rattle.chess.specs.Public.Moves.{IsLegal, after};
 ghost use Rattle.chess.specs.Public.Positions.{State};
 ghost use Rattle.chess.specs.Public.San.{IsSan};
-ghost use Rattle.chess.specs.declared.moves.Move.{Move};
-ghost use Rattle.pgn_game.specs.Public.CodeLines.{IsLegalLine};
+ghost use Rattle.pgn_game.specs.Public.CodeLines.{AreLegalMoves};
 ghost use Rattle.pgn_game.specs.Public.GameLines.{IsMoveText};
+ghost use Rattle.pgn_game.specs.declared.exports.notation.Notation.TheVariants.{San, Uci};
+ghost use Rattle.pgn_extract.specs.Private.KeptLines.{IsReached, line_of, replay_of};
 ghost use Rattle.pgn_extract.specs.Private.RowTexts.{IsPlainValue};
-ghost use Rattle.pgn_extract.specs.Public.Rows.{IsAt, IsLastCell, AreMovesCell};
+ghost use Rattle.pgn_extract.specs.Public.Rows.{IsLastCell, AreMovesCell};
 ghost use Rattle.pgn_extract.specs.Public.Rows.{IsLineCell};
 
+use crate::entries::kept::Kept;
 use crate::output::texts::{push_blank, push_number};
 use crate::rows::column::LineColumn;
 use crate::rows::uci::push_uci;
-use chess::{Move, san};
-use pgn_game::{GamePosition, Notation, Replayed};
+use chess::{Move, play_san, san};
+use pgn_game::{GamePosition, Notation};
 use std::alloc::AllocError;
 
 /// Appends the standard text of a move of the position.
@@ -29,22 +31,26 @@ fn push_san(text: &mut Vec<u8>, position: &GamePosition, m: Move) -> Result<(), 
     Ok(())
 }
 
-/// Appends the move that is played after so many plies, in a notation.
-fn push_move(
+/// Appends the move that is played in the position after so many plies, in a notation, and nothing
+/// where none is.
+pub(crate) fn push_played(
     text: &mut Vec<u8>,
-    replayed: &Replayed,
+    position: &GamePosition,
+    played: &[Move],
     ply: usize,
     notation: Notation,
 ) -> Result<(), AllocError>
-    requires within { ply < length replayed.now.played }
-    requires legal { (start : State) × IsLegalLine start replayed.now }
+    requires within { ply ≤ length played.now }
+    requires legal { IfSome (slice_get played.now ply) (IsLegal position.now) }
     ensures { OnOk result ((value : List ℕ) × IsPlainValue value
-        × (m : Move) × (slice_get replayed.now.played ply ≡ Some m)
-        × IsAt replayed.now ply (λ position. IsMoveText notation position m value)
+        × MatchOption (slice_get played.now ply) (value ≡ [])
+        (λ m. IsMoveText notation position.now m value)
         × (text.new.items ≡ text.old.items ++ value)) }
 {
-    let position = replayed.position(ply);
-    let m = replayed.played(ply);
+    if ply == played.len() {
+        return Ok(());
+    }
+    let m = played[ply];
     match notation {
         Notation::San => push_san(text, position, m),
         Notation::Uci => push_uci(text, m),
@@ -52,59 +58,101 @@ fn push_move(
 }
 
 /// Appends the move that led to the ply, in a notation, and nothing at the start.
-fn push_last(
-    text: &mut Vec<u8>,
-    replayed: &Replayed,
-    ply: usize,
-    notation: Notation,
-) -> Result<(), AllocError>
-    requires within { ply ≤ length replayed.now.played }
-    requires legal { (start : State) × IsLegalLine start replayed.now }
+fn push_last(text: &mut Vec<u8>, line: &Kept, notation: Notation) -> Result<(), AllocError>
+    requires { IsReached line.now }
     ensures { OnOk result ((value : List ℕ) × IsPlainValue value
-        × IsLastCell notation replayed.now ply value
+        × IsLastCell notation (line_of line.now) line.now.ply value
         × (text.new.items ≡ text.old.items ++ value)) }
 {
-    if ply == 0 {
+    if line.ply == 0 {
         return Ok(());
     }
-    push_move(text, replayed, ply - 1, notation)
+    push_played(
+        text,
+        line.last_position(),
+        &line.played,
+        line.ply - 1,
+        notation,
+    )
 }
 
-/// Appends all moves in a notation, with blanks between.
-fn push_moves(text: &mut Vec<u8>, replayed: &Replayed, notation: Notation) -> Result<(), AllocError>
-    requires { (start : State) × IsLegalLine start replayed.now }
+/// Plays a move, and appends its standard text.
+fn play_move(text: &mut Vec<u8>, here: &mut GamePosition, m: Move) -> Result<(), AllocError>
+    requires { IsLegal here.old m }
+    ensures text { OnOk result ((value : List ℕ) × IsPlainValue value × IsSan here.old m value
+        × (text.new.items ≡ text.old.items ++ value)) }
+    ensures played { here.new ≡ after here.old m }
+{
+    here.invariant();
+    text.extend_from_slice(play_san(here, m).as_bytes())?;
+    Ok(())
+}
+
+/// Appends the standard texts of all moves, with blanks between.
+fn push_sans(text: &mut Vec<u8>, start: &GamePosition, played: &[Move]) -> Result<(), AllocError>
+    requires { AreLegalMoves start.now played.now }
     ensures { OnOk result ((value : List ℕ) × IsPlainValue value
-        × AreMovesCell notation replayed.now value
+        × AreMovesCell San (replay_of start.now played.now) value
         × (text.new.items ≡ text.old.items ++ value)) }
 {
-    let plies = replayed.plies();
-    if plies == 0 {
+    if played.is_empty() {
         return Ok(());
     }
-    push_move(text, replayed, 0, notation)?;
-    for ply in 1..plies {
+    let mut here = start.copy();
+    play_move(text, &mut here, played[0])?;
+    for ply in 1..played.len() {
         push_blank(text)?;
-        push_move(text, replayed, ply, notation)?;
+        play_move(text, &mut here, played[ply])?;
     }
     Ok(())
 }
 
-/// Appends what a column shows of the main line at a ply.
+/// Appends all moves as `--uci` writes them, with blanks between.
+fn push_squares(text: &mut Vec<u8>, played: &[Move]) -> Result<(), AllocError>
+    requires { (start : State) × AreLegalMoves start played.now }
+    ensures { OnOk result ((value : List ℕ) × IsPlainValue value
+        × ((start : State) → AreLegalMoves start played.now
+        → AreMovesCell Uci (replay_of start played.now) value)
+        × (text.new.items ≡ text.old.items ++ value)) }
+{
+    if played.is_empty() {
+        return Ok(());
+    }
+    push_uci(text, played[0])?;
+    for ply in 1..played.len() {
+        push_blank(text)?;
+        push_uci(text, played[ply])?;
+    }
+    Ok(())
+}
+
+/// Appends all moves in a notation, with blanks between.
+fn push_moves(text: &mut Vec<u8>, line: &Kept, notation: Notation) -> Result<(), AllocError>
+    requires { AreLegalMoves line.now.start line.now.played.items }
+    ensures { OnOk result ((value : List ℕ) × IsPlainValue value
+        × AreMovesCell notation (line_of line.now) value
+        × (text.new.items ≡ text.old.items ++ value)) }
+{
+    match notation {
+        Notation::San => push_sans(text, &line.start, &line.played),
+        Notation::Uci => push_squares(text, &line.played),
+    }
+}
+
+/// Appends what a column shows of the main line at the ply that is reached.
 pub(crate) fn push_line_value(
     text: &mut Vec<u8>,
-    replayed: &Replayed,
-    ply: usize,
+    line: &Kept,
     column: LineColumn,
 ) -> Result<(), AllocError>
-    requires within { ply ≤ length replayed.now.played }
-    requires legal { (start : State) × IsLegalLine start replayed.now }
+    requires { IsReached line.now }
     ensures { OnOk result ((value : List ℕ) × IsPlainValue value
-        × IsLineCell column replayed.now ply value
+        × IsLineCell column (line_of line.now) line.now.ply value
         × (text.new.items ≡ text.old.items ++ value)) }
 {
     match column {
-        LineColumn::Plies => push_number(text, replayed.plies()),
-        LineColumn::Last(notation) => push_last(text, replayed, ply, notation),
-        LineColumn::Moves(notation) => push_moves(text, replayed, notation),
+        LineColumn::Plies => push_number(text, line.played.len()),
+        LineColumn::Last(notation) => push_last(text, line, notation),
+        LineColumn::Moves(notation) => push_moves(text, line, notation),
     }
 }

@@ -23,6 +23,7 @@ ghost use Rattle.pgn_extract.specs.Private.PlayedLines.{AsksOf, IsPlayedWith, No
 ghost use Rattle.pgn_extract.specs.Private.PlayedLines.{TellsOf};
 
 use crate::entries::finding::Finder;
+use crate::entries::kept::find_asked;
 use crate::entries::line::Line;
 use crate::entries::sink::Sink;
 use crate::output::texts::push_number;
@@ -318,7 +319,6 @@ pub(crate) fn find_again<'a>(
     game: &RawGame<'a>,
     text: &mut Vec<u8>,
 ) -> Result<(), GameFault<'a>>
-    requires shows { keeps_line finder.old.lines ≡ false }
     requires criteria { finder.old.settings.now.criteria ≡ Some criteria.now }
     ensures found { OnOk result ((name : Option (List ℕ))
         (openings : Option (List NamedLine)) (id : GameId)
@@ -331,5 +331,5 @@ pub(crate) fn find_again<'a>(
     let mut met = criteria.met_of_game(alloc, game)?;
     end_met(&mut met);
     finder.is_sound = true;
-    find_played(finder, alloc, game, Known { met }, text)
+    find_asked(finder, alloc, game, Known { met }, text)
 }

@@ -6,12 +6,12 @@ use Rattle.pgn_extract.proofs.Picks.{asks_given}
 use Rattle.pgn_extract.proofs.entries.Finders.{finder_adds}
 use Rattle.pgn_extract.proofs.entries.push_entries.Goals as goal
 
-pub find_played-requires-clause-asks : goal.find_played-requires-clause-asks
-find_played-requires-clause-asks c =
+pub find_asked-requires-clause-asks : goal.find_asked-requires-clause-asks
+find_asked-requires-clause-asks c =
     rw c.in_ok-finder.ensures.settings c.in_default.is
 
-pub find_played-requires-2-clause-asks : goal.find_played-requires-2-clause-asks
-find_played-requires-2-clause-asks c =
+pub find_asked-requires-2-clause-asks : goal.find_asked-requires-2-clause-asks
+find_asked-requires-2-clause-asks c =
     rw c.in_ok-finder.ensures.settings
     (asks_given (aim_of c.args.context.settings.now) c.args.game.now c.in-Some.criteria
     c.in_ok-question.field-0 c.in-Some-2.question
@@ -24,29 +24,13 @@ returns-in_default c =
     let game = c.args.game.now in
     let finder = c.in_ok-finder in
     let old = c.args.text.now.items in
-    let new = c.find_played.new.sink.items in
-    on_result c.find_played.result (AddsEntries (aim_of settings) id game old new) (λ fault.
+    let new = c.find_asked.new.text.items in
+    on_result c.find_asked.result (AddsEntries (aim_of settings) id game old new) (λ fault.
     IfSome (fault_of fault) (StopsAtFault game old new))
-    (on_ok_weaker c.find_played.result
+    (on_ok_weaker c.find_asked.result
     (finder_adds settings id game c.args.is_sound finder.finder finder.ensures old new)
-    c.find_played.ensures.found)
-    (MatchResult-weaker c.find_played.result c.find_played.ensures.fault (λ done none. tt)
-    (λ fault met. IfSome_then _ met (stops_of game old new)))
-
-pub returns-then-needs_line : goal.returns-then-needs_line
-returns-then-needs_line c =
-    let settings = c.args.context.settings.now in
-    let id = c.args.context.own in
-    let game = c.args.game.now in
-    let finder = c.in_ok-finder in
-    let old = c.args.text.now.items in
-    let new = c.find_kept.new.text.items in
-    on_result c.find_kept.result (AddsEntries (aim_of settings) id game old new) (λ fault.
-    IfSome (fault_of fault) (StopsAtFault game old new))
-    (on_ok_weaker c.find_kept.result
-    (finder_adds settings id game c.args.is_sound finder.finder finder.ensures old new)
-    c.find_kept.ensures.found)
-    c.find_kept.ensures.fault
+    c.find_asked.ensures.found)
+    c.find_asked.ensures.fault
 
 pub returns-then-is_bare : goal.returns-then-is_bare
 returns-then-is_bare c =
@@ -86,11 +70,10 @@ returns c =
     let game = c.args.game.now in
     let finder = c.in_ok-finder in
     let old = c.args.text.now.items in
-    let new = c.find_played-2.new.sink.items in
-    on_result c.find_played-2.result (AddsEntries (aim_of settings) id game old new) (λ fault.
+    let new = c.find_asked-2.new.text.items in
+    on_result c.find_asked-2.result (AddsEntries (aim_of settings) id game old new) (λ fault.
     IfSome (fault_of fault) (StopsAtFault game old new))
-    (on_ok_weaker c.find_played-2.result
+    (on_ok_weaker c.find_asked-2.result
     (finder_adds settings id game c.args.is_sound finder.finder finder.ensures old new)
-    c.find_played-2.ensures.found)
-    (MatchResult-weaker c.find_played-2.result c.find_played-2.ensures.fault (λ done none. tt)
-    (λ fault met. IfSome_then _ met (stops_of game old new)))
+    c.find_asked-2.ensures.found)
+    c.find_asked-2.ensures.fault

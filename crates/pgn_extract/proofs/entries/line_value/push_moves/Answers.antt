@@ -1,73 +1,43 @@
-use Rattle.std.proofs.Common.{◌≡◌, ◌++◌, ◌∷◌, [], length, sym, ap, ◌∙◌, subst, arith, append_assoc}
-use Rattle.std.proofs.Common.{append-nil, take}
-use Rattle.pgn_extract.proofs.Common.{take-length}
-use Rattle.pgn_game.specs.Public.GameLines.{AreMoveTexts}
-use Rattle.pgn_extract.proofs.entries.LineValues.{all_moves, first_move, moves_more, no_moves}
-use Rattle.pgn_extract.proofs.entries.LineValues.{after_blank}
+use Rattle.pgn_extract.proofs.Common.{List, sym, subst, Move, on_ok_weaker}
+use Rattle.pgn_game.specs.Public.CodeLines.{AreLegalMoves}
+use Rattle.pgn_game.specs.declared.exports.notation.Notation.{Notation}
+use Rattle.pgn_game.specs.declared.exports.notation.Notation.TheVariants.{San, Uci}
+use Rattle.pgn_extract.specs.Private.KeptLines.{line_of, replay_of}
+use Rattle.pgn_extract.specs.Public.Rows.{AreMovesCell}
 use Rattle.pgn_extract.proofs.entries.line_value.push_moves.Goals as goal
 
-pub returns-then-plies-eq0 : goal.returns-then-plies-eq0
-returns-then-plies-eq0 c =
-    let (start, line) = c.requires in (
-      [],
-      tt,
-      no_moves c.args.notation c.args.replayed.now start line
-          (let count = c.plies-plies.ensures.count in
-          omega (arith, count, c.if-plies-eq0.true)),
-      sym (append-nil c.args.text.now.items),
-    )
+pub push_squares-requires : goal.push_squares-requires
+push_squares-requires c = (
+  c.args.line.now.start,
+  subst (AreLegalMoves c.args.line.now.start) (sym c.deref-in-Uci.ensures.value) c.requires,
+)
 
-pub loop-ply-init : goal.loop-ply-init
-loop-ply-init c =
-    let (value, plain, m, played, at, items) = c.in_ok-push_move.ensures in
-    let count = c.plies-plies.ensures.count in
-    record {
-      above = omega arith;
-      within = omega (arith, count, c.if-plies-eq0.false);
-      so_far = (
-        value,
-        plain,
-        first_move c.args.notation c.args.replayed.now m value played at,
-        items,
-      );
-    }
-
-pub loop-ply-preserved : goal.loop-ply-preserved
-loop-ply-preserved c =
-    let inv = c.loop-ply.invariant in
-    let (value, plain, so_far, text) = inv.so_far in
-    let (own, flat, m, played, at, items) = c.in_ok-push_move-2.ensures in
-    let old = c.args.text.now.items in
-    let count = c.plies-plies.ensures.count in
-    record {
-      above = omega arith;
-      within = omega (arith, count);
-      so_far = (
-        value ++ 32 ∷ own,
-        after_blank value own plain flat,
-        moves_more c.args.notation c.args.replayed.now c.loop-ply.ply m value own so_far played at,
-        items
-            ∙ ap (λ t. t ++ own) (c.in_ok-push_blank.ensures.added ∙ ap (λ t. t ++ 32 ∷ []) text)
-            ∙ append_assoc (old ++ value) (32 ∷ []) own ∙ append_assoc old value (32 ∷ own),
-      );
-    }
-
-pub returns : goal.returns
-returns c =
-    let inv = c.loop-ply.invariant in
-    let (value, plain, so_far, text) = inv.so_far in
-    let (start, line) = c.requires in
-    let replay = c.args.replayed.now in
-    let moves = replay.played in
-    let plies = c.plies-plies.ensures.count in
-    let above = inv.within in
-    let count : c.loop-ply.ply ≡ length moves = omega (arith, plies, above) in
-    let whole : take c.loop-ply.ply moves ≡ moves =
-    ap (λ n. take n moves) count ∙ take-length moves in (
+pub returns-in-San : goal.returns-in-San
+returns-in-San c =
+    let line = c.args.line.now in
+    on_ok_weaker c.push_sans.result
+    (λ (value, plain, is, items). (
       value,
       plain,
-      all_moves c.args.notation replay start value line
-          (subst (λ ms. AreMoveTexts c.args.notation start ms (32 ∷ value)) whole
-          (so_far start line)),
-      text,
-    )
+      subst (λ (k : Notation). AreMovesCell k (line_of line) value) (sym c.in-San.is)
+          (subst (λ (ms : List Move). AreMovesCell San (replay_of line.start ms) value)
+          c.deref.ensures.value is),
+      items,
+    ))
+    c.push_sans.ensures
+
+pub returns-in-Uci : goal.returns-in-Uci
+returns-in-Uci c =
+    let line = c.args.line.now in
+    on_ok_weaker c.push_squares.result
+    (λ (value, plain, is, items). (
+      value,
+      plain,
+      subst (λ (k : Notation). AreMovesCell k (line_of line) value) (sym c.in-Uci.is)
+          (subst (λ (ms : List Move). AreMovesCell Uci (replay_of line.start ms) value)
+          c.deref-in-Uci.ensures.value
+          (is line.start (subst (AreLegalMoves line.start) (sym c.deref-in-Uci.ensures.value)
+          c.requires))),
+      items,
+    ))
+    c.push_squares.ensures

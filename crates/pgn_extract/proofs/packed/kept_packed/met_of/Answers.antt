@@ -19,7 +19,10 @@ returns-in-Some-clause-met c =
 pub returns-in-None-clause-each : goal.returns-in-None-clause-each
 returns-in-None-clause-each c =
     MatchResult-weaker c.all_met.result c.all_met.ensures
-    (λ met are. (are (record { named = λ name. None; result = [] })).size) (λ fault none. tt)
+    (λ met are.
+    (are (record { named = λ name. None; result = [] }) c.args.replayed.now
+    c.plies.ensures.positions).size)
+    (λ fault none. tt)
 
 pub returns-in-None-clause-met : goal.returns-in-None-clause-met
 returns-in-None-clause-met c =
@@ -27,5 +30,5 @@ returns-in-None-clause-met c =
     MatchResult-weaker c.all_met.result c.all_met.ensures
     (λ met are game other packed own.
     subst (λ (o : Option (List Conditions)). AreReported o (heading_of game) replay met.items)
-    (sym c.in-None.is) (are (heading_of game)))
+    (sym c.in-None.is) (are (heading_of game) replay c.plies.ensures.positions))
     (λ fault none. tt)
