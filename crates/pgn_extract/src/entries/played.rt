@@ -310,7 +310,7 @@ fn end_met(met: &mut Vec<bool>)
 }
 
 /// Asks which plies of the game meet the criteria, and plays its main line again up to the last of
-/// them, to add the lines of its entries. No position is kept.
+/// them, if there is one, to add the lines of its entries. No position is kept.
 #[inline(never)]
 pub(crate) fn find_again<'a>(
     finder: &mut Finder<'_>,
@@ -330,6 +330,9 @@ pub(crate) fn find_again<'a>(
 {
     let mut met = criteria.met_of_game(alloc, game)?;
     end_met(&mut met);
+    if met.is_empty() {
+        return Ok(());
+    }
     finder.is_sound = true;
     find_asked(finder, alloc, game, Known { met }, text)
 }
