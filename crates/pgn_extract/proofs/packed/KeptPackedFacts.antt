@@ -98,18 +98,30 @@ opening_of raw start lines opening bytes same is found game replay packed own =
     (found replay.played (subst (λ b. IsCodedLine start b replay.played) (sym same) line.1))
 
 -- a line that is kept by these moves, which are its own
-pub kept_moves : (raw : RawRecord) (kept : Replay) → IsKeptOf raw kept → (start : State)
+pub line_moves : (kept : Replay) (begun : State) → IsLegalLine begun kept → (start : State)
     → slice_get kept.positions 0 ≡ Some start → (moves : List Move) → moves ≡ kept.played
     → AreLegalMoves start moves × (kept.positions ≡ positions_from start moves)
-kept_moves raw kept is start here moves same =
-    let first : is.start ≡ start =
-    same_Some is.start start
-    (sym (ap (λ ps. slice_get ps 0) is.line.positions ∙ first_position is.start kept.played)
+line_moves kept begun line start here moves same =
+    let first : begun ≡ start =
+    same_Some begun start
+    (sym (ap (λ ps. slice_get ps 0) line.positions ∙ first_position begun kept.played)
     ∙ here) in (
       subst (λ P. AreLegalMoves P moves) first
-          (subst (AreLegalMoves is.start) (sym same) is.line.legal),
-      is.line.positions ∙ ap (λ P. positions_from P kept.played) first
+          (subst (AreLegalMoves begun) (sym same) line.legal),
+      line.positions ∙ ap (λ P. positions_from P kept.played) first
           ∙ ap (positions_from start) (sym same),
+    )
+
+pub legal_line : (game : GameText) (kept : Replay)
+    → IsReplay Main (tag_in fen_tag game.tags) game.elements kept
+    → (start : State) × IsLegalLine start kept
+legal_line game kept is =
+    let words = main_words game.elements 0 in (
+      is.start,
+      record {
+        legal = line_legal is.start words kept.positions kept.played is.line;
+        positions = line_positions is.start words kept.positions kept.played is.line;
+      },
     )
 
 pub kept_is : (game : GameText) (kept : Replay)

@@ -26,12 +26,13 @@ use crate::entries::played::{Question, find_played, push_position_value};
 use crate::output::texts::push_number;
 use crate::rows::column::PlyColumn;
 use chess::Move;
-use pgn_game::{GameFault, GamePosition, MainLine, Notation};
+use pgn_criteria::Criteria;
+use pgn_game::{GameFault, GamePosition, Lines, MainLine, Notation, Replayed, replay};
 use pgn_text::RawGame;
 use std::alloc::{AllocError, Global};
 
 /// So many positions of a main line are kept; a later one is played from the one before it.
-const MOST: usize = 4096;
+pub(crate) const MOST: usize = 4096;
 
 /// A main line of which the moves are kept, and the first positions, with what is known of each:
 /// whether it is met. A ply of it is reached: where it is past the first positions, its own is kept
@@ -77,7 +78,7 @@ fn add_move(played: &mut Vec<Move>, m: Move) -> Result<(), AllocError>
 
 /// Adds the position after so many plies, where it is one of the first and follows those before it.
 #[inline(always)]
-pub(crate) fn keep_first(
+fn keep_first(
     first: &mut Vec<GamePosition>,
     ply: usize,
     position: &GamePosition,
@@ -89,6 +90,27 @@ pub(crate) fn keep_first(
         first.push(position.copy())?;
     }
     Ok(())
+}
+
+/// The moves of the line, of which the first positions are added.
+pub(crate) fn moves_of(
+    alloc: Global,
+    replayed: &Replayed,
+    first: &mut Vec<GamePosition>,
+) -> Result<Vec<Move>, AllocError>
+    requires { first.old.items ≡ [] }
+    ensures moves { IfOk result (λ moves. moves.items ≡ replayed.now.played) }
+    ensures size { IfOk result (λ moves. length replayed.now.positions
+        ≡ length moves.items + 1) }
+    ensures first { OnOk result (AreFirst first.new.items replayed.now.positions) }
+{
+    let plies = replayed.plies();
+    let mut moves = Vec::with_capacity(alloc, plies)?;
+    for ply in 0..plies {
+        keep_first(first, ply, replayed.position(ply))?;
+        moves.push(replayed.played(ply))?;
+    }
+    Ok(moves)
 }
 
 impl Kept {
@@ -158,6 +180,27 @@ impl Kept {
         self.here = from.play(self.played[self.ply]);
         self.before = from;
         self.ply += 1;
+    }
+
+    /// The main line of the game, of which all positions are asked once they are known; or its
+    /// fault.
+    fn of_short_game<'a>(
+        alloc: Global,
+        criteria: &'a Criteria,
+        game: &RawGame<'a>,
+    ) -> Result<Self, GameFault<'a>>
+        ensures { MatchResult result
+            (λ line. IsReached line × ((aim : Aim) → aim.criteria ≡ Some criteria.now
+            → (P : State) × IsKeptWith (line_of line) line.met.items line.ply aim game.now [] P))
+            (λ fault.
+            IfSome (fault_of fault)
+            (IsFault Main (tag_in fen_tag game.now.tags) game.now.elements)) }
+    {
+        let replayed = replay(alloc, game, Lines::Main)?;
+        let met = criteria.met_plies(alloc, game, &replayed)?;
+        let mut first = Vec::new(alloc);
+        let played = moves_of(alloc, &replayed, &mut first)?;
+        Ok(Kept::begin(replayed.position(0).copy(), played, met, first))
     }
 
     /// The main line of the game, of which each position is asked this as it is reached; or its
@@ -271,6 +314,28 @@ fn find_kept<'a, Q: Question>(
     let mut line = Kept::of_game(alloc, game, question)?;
     finder.find(&mut line, text, true)?;
     Ok(())
+}
+
+/// Replays and keeps the main line of a short game, and adds the lines of its entries.
+#[inline(never)]
+pub(crate) fn find_replayed<'a>(
+    finder: &Finder<'_>,
+    alloc: Global,
+    criteria: &'a Criteria,
+    game: &RawGame<'a>,
+    text: &mut Vec<u8>,
+) -> Result<(), GameFault<'a>>
+    requires criteria { finder.now.settings.now.criteria ≡ Some criteria.now }
+    ensures found { OnOk result ((name : Option (List ℕ))
+        (openings : Option (List NamedLine)) (id : GameId)
+        → MakesLines finder.now.lines name openings id game.now
+        → HandsOn (aim_with finder.now name openings) id game.now
+        (λ got. text.new.items ≡ text.old.items ++ marked_lines finder.now.mark.items got)) }
+    ensures fault { IfErr result (λ fault.
+        IfSome (fault_of fault) (StopsAtFault game.now text.old.items text.new.items)) }
+{
+    let mut line = Kept::of_short_game(alloc, criteria, game)?;
+    Ok(finder.find(&mut line, text, true)?)
 }
 
 /// Plays the main line of the game, and adds the lines of its entries. Its moves are kept only

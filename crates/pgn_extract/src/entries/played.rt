@@ -23,7 +23,7 @@ ghost use Rattle.pgn_extract.specs.Private.PlayedLines.{AsksOf, IsPlayedWith, No
 ghost use Rattle.pgn_extract.specs.Private.PlayedLines.{TellsOf};
 
 use crate::entries::finding::Finder;
-use crate::entries::kept::find_asked;
+use crate::entries::kept::{MOST, find_asked, find_replayed};
 use crate::entries::line::Line;
 use crate::entries::sink::Sink;
 use crate::output::texts::push_number;
@@ -310,7 +310,8 @@ fn end_met(met: &mut Vec<bool>)
 }
 
 /// Asks which plies of the game meet the criteria, and plays its main line again up to the last of
-/// them, if there is one, to add the lines of its entries. No position is kept.
+/// them, if there is one, to add the lines of its entries. No position is kept, unless the game is
+/// short and a row shows something of the whole line.
 #[inline(never)]
 pub(crate) fn find_again<'a>(
     finder: &mut Finder<'_>,
@@ -328,6 +329,9 @@ pub(crate) fn find_again<'a>(
     ensures fault { IfErr result (λ fault.
         IfSome (fault_of fault) (StopsAtFault game.now text.old.items text.new.items)) }
 {
+    if finder.lines.needs_line() && game.elements().len() <= MOST {
+        return find_replayed(finder, alloc, criteria, game, text);
+    }
     let mut met = criteria.met_of_game(alloc, game)?;
     end_met(&mut met);
     if met.is_empty() {

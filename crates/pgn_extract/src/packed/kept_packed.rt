@@ -1,6 +1,6 @@
 //! The entries of a packed game whose criteria speak of its moves or of several plies: its line is
 //! replayed and kept, and then looked through.
-ghost use Rattle.std.specs.Prelude.{◌≡◌, ◌<◌, ◌+◌, [], false, Some, OnOk, IfOk, IfErr, IfSome, length};
+ghost use Rattle.std.specs.Prelude.{◌≡◌, ◌<◌, false, Some, OnOk, IfOk, IfErr, IfSome, length};
 ghost use Rattle.pgn_text.specs.Public.GameTexts.{tag_in};
 ghost use Rattle.pgn_game.specs.Public.Starts.{fen_tag};
 ghost use Rattle.pgn_game.specs.Public.PackReading.{IsRawOfGame};
@@ -10,15 +10,14 @@ ghost use Rattle.pgn_extract.specs.Public.Listing.{has_annotations};
 ghost use Rattle.pgn_extract.specs.Public.Rows.{IsOpeningBy};
 ghost use Rattle.pgn_extract.specs.Private.Packed.{EachOfRecord, HasNoText, ListsRecord};
 ghost use Rattle.pgn_extract.specs.Private.Packed.{StandsInRecord};
-ghost use Rattle.pgn_extract.specs.Private.KeptLines.{AreFirst, AreReported, IsKeptWith};
+ghost use Rattle.pgn_extract.specs.Private.KeptLines.{AreReported, IsKeptWith};
 ghost use Rattle.pgn_extract.specs.Private.KeptLines.{IsReached, line_of};
 ghost use Rattle.pgn_criteria.specs.Public.Meeting.{heading_of};
 
-use crate::entries::kept::{Kept, all_met, keep_first};
+use crate::entries::kept::{Kept, all_met, moves_of};
 use crate::entries::line_maker::LineMaker;
 use crate::entries::row_game::RowGame;
 use crate::packed::{PackedFault, RecordContext, push_found, start_fault};
-use chess::Move;
 use pgn_criteria::Criteria;
 use pgn_game::pack::{CodesError, RawRecord, replay_codes};
 use pgn_game::{GamePosition, Opening, Openings, Replayed, given_position};
@@ -119,27 +118,6 @@ fn met_of<'a>(
         Some(criteria) => criteria.met_packed(alloc, raw, replayed),
         None => all_met(alloc, replayed.plies()),
     }
-}
-
-/// The moves of the line, of which the first positions are added.
-fn moves_of(
-    alloc: Global,
-    replayed: &Replayed,
-    first: &mut Vec<GamePosition>,
-) -> Result<Vec<Move>, AllocError>
-    requires { first.old.items ≡ [] }
-    ensures moves { IfOk result (λ moves. moves.items ≡ replayed.now.played) }
-    ensures size { IfOk result (λ moves. length replayed.now.positions
-        ≡ length moves.items + 1) }
-    ensures first { OnOk result (AreFirst first.new.items replayed.now.positions) }
-{
-    let plies = replayed.plies();
-    let mut moves = Vec::with_capacity(alloc, plies)?;
-    for ply in 0..plies {
-        keep_first(first, ply, replayed.position(ply))?;
-        moves.push(replayed.played(ply))?;
-    }
-    Ok(moves)
 }
 
 /// The line of the record with what is known of each of its positions.

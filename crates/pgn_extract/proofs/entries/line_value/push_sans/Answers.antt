@@ -1,5 +1,6 @@
-use Rattle.pgn_extract.proofs.Common.{◌≡◌, ◌<◌, ◌+◌, ◌++◌, ◌∷◌, [], length, refl, sym, ap, ◌∙◌, subst}
-use Rattle.pgn_extract.proofs.Common.{arith, append_assoc, append-nil, nat_tests, IsSan, after}
+use Rattle.pgn_extract.proofs.Common.{◌≡◌, ◌<◌, ◌+◌, ◌++◌, ◌∷◌, [], length, refl, sym, ap, ◌∙◌}
+use Rattle.pgn_extract.proofs.Common.{subst, arith, append_assoc, append-nil, nat_tests, IsSan}
+use Rattle.pgn_extract.proofs.Common.{after}
 use Rattle.std.proofs.Common.{drop}
 use Rattle.std.proofs.lemmas.List.{drop_all}
 use Rattle.pgn_game.specs.Public.CodeLines.{AreLegalMoves}

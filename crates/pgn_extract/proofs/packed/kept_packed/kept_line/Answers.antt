@@ -4,7 +4,7 @@ use Rattle.pgn_extract.proofs.Common.{Conditions, heading_of, IsMet, record_aim}
 use Rattle.pgn_extract.specs.Private.KeptLines.{AreFirst, IsKeptWith, line_of, replay_of}
 use Rattle.pgn_extract.proofs.Finds.{none_yet}
 use Rattle.pgn_extract.proofs.entries.KeptLines.{begins_kept}
-use Rattle.pgn_extract.proofs.packed.KeptPackedFacts.{kept_is, kept_moves}
+use Rattle.pgn_extract.proofs.packed.KeptPackedFacts.{kept_is, line_moves}
 use Rattle.pgn_extract.proofs.packed.kept_packed.kept_line.Goals as goal
 
 pub begin-requires-clause-legal : goal.begin-requires-clause-legal
@@ -12,7 +12,7 @@ begin-requires-clause-legal c =
     let kept = c.in-Ok.replayed in
     let start : slice_get kept.positions 0 ≡ Some c.copy.result =
     c.position.ensures ∙ ap Some (sym c.copy.ensures) in
-    (kept_moves c.args.context.record.now kept c.in-Ok.ensures.ok c.copy.result start
+    (line_moves kept c.in-Ok.ensures.ok.start c.in-Ok.ensures.ok.line c.copy.result start
     c.in_ok-played.played.items c.in_ok-played.ensures.moves).0
 
 pub begin-requires-clause-first : goal.begin-requires-clause-first
@@ -21,7 +21,7 @@ begin-requires-clause-first c =
     let start : slice_get kept.positions 0 ≡ Some c.copy.result =
     c.position.ensures ∙ ap Some (sym c.copy.ensures) in
     subst (AreFirst c.moves_of.new.first.items)
-    (kept_moves c.args.context.record.now kept c.in-Ok.ensures.ok c.copy.result start
+    (line_moves kept c.in-Ok.ensures.ok.start c.in-Ok.ensures.ok.line c.copy.result start
     c.in_ok-played.played.items c.in_ok-played.ensures.moves).1
     c.in_ok-played.ensures.first
 

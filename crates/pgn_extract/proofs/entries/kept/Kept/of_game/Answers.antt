@@ -8,8 +8,8 @@ use Rattle.pgn_criteria.specs.Shared.PlayedTo.{IsPlayedTo}
 use Rattle.pgn_extract.specs.Private.KeptLines.{AreFirst, IsKeptWith, line_of, replay_of}
 use Rattle.pgn_extract.specs.Private.PlayedLines.{TellsAt}
 use Rattle.pgn_extract.proofs.entries.KeptLines.{begins_kept}
-use Rattle.pgn_extract.proofs.entries.KeptMoves.{TellsFirst, first_more, gone_to, is_whole, tells_more}
-use Rattle.pgn_extract.proofs.entries.KeptMoves.{tells_none}
+use Rattle.pgn_extract.proofs.entries.KeptMoves.{TellsFirst, first_more, gone_to, is_whole}
+use Rattle.pgn_extract.proofs.entries.KeptMoves.{tells_more, tells_none}
 use Rattle.pgn_extract.proofs.entries.KeptMoves.{whole, whole_is, whole_legal}
 use Rattle.pgn_extract.proofs.entries.kept.Kept.of_game.Goals as goal
 

@@ -24,12 +24,14 @@ returns-then-next-len-2-clause-moved c aim game before P at =
     let (passed, next, there, none) =
     goes_one (line_of line) line.met.items line.ply aim game before P at
     (let within = c.requires.valid.within in
-    omega (arith, within, c.len.ensures, c.if-next-len.false)) c.args.is_open in (
+    omega (arith, within, c.len.ensures, c.if-next-len.false)) c.args.is_open in
+    let all = before ++ P ∷ passed in (
       passed,
       next,
-      subst (λ k. IsKeptWith k new.met.items new.ply aim game (before ++ P ∷ passed) next) (sym same)
-          (subst (λ ms. IsKeptWith (line_of line) ms new.ply aim game (before ++ P ∷ passed) next) (sym met)
-          (subst (λ n. IsKeptWith (line_of line) line.met.items n aim game (before ++ P ∷ passed) next) (sym ply) there)),
+      subst (λ k. IsKeptWith k new.met.items new.ply aim game all next) (sym same)
+          (subst (λ ms. IsKeptWith (line_of line) ms new.ply aim game all next) (sym met)
+          (subst (λ n. IsKeptWith (line_of line) line.met.items n aim game all next) (sym ply)
+          there)),
       none,
     )
 

@@ -1,8 +1,8 @@
 use Rattle.std.proofs.lemmas.Option.{get_or_from_slice_get, slice_get_within}
-use Rattle.pgn_extract.proofs.Common.{◌≡◌, ◌++◌, ◌∷◌, [], Some, inl, inr, sym, ap, ◌∙◌, subst, arith}
-use Rattle.pgn_extract.proofs.Common.{slice_get}
+use Rattle.pgn_extract.proofs.Common.{◌≡◌, ◌++◌, ◌∷◌, [], Some, inl, inr, sym, ap, ◌∙◌, subst}
+use Rattle.pgn_extract.proofs.Common.{arith, slice_get}
 use Rattle.pgn_extract.proofs.entries.RowMaking.{part_taken}
-use Rattle.pgn_extract.proofs.packed.kept_packed.moves_of.Goals as goal
+use Rattle.pgn_extract.proofs.entries.kept.moves_of.Goals as goal
 
 pub loop-ply-preserved : goal.loop-ply-preserved
 loop-ply-preserved c =

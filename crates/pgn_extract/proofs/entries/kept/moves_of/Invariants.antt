@@ -1,6 +1,6 @@
 use Rattle.std.proofs.Common.{◌≡◌, ◌≤◌, length, take}
 use Rattle.pgn_extract.specs.Private.KeptLines.{AreFirst}
-use Rattle.pgn_extract.proofs.packed.kept_packed.moves_of.Given as goal
+use Rattle.pgn_extract.proofs.entries.kept.moves_of.Given as goal
 
 abbrev pub invariant-loop-ply : goal.invariant-loop-ply
 invariant-loop-ply l = record {
