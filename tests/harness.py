@@ -252,10 +252,12 @@ def run_program(command, text=b"", seconds=60, **more):
 
 @functools.cache
 def code_of(name):
-    """The code of a command in Python, with what the commands share loaded."""
+    """The code of a command in Python, with the modules loaded that it imports."""
     sys.dont_write_bytecode, sys.path[:0] = True, [str(SHARED.parent)]
-    importlib.import_module(SHARED.stem)
-    return compile(Path(name).read_bytes(), name, "exec")
+    text = Path(name).read_text(encoding="utf-8")
+    for it in re.findall(r"^(?:import|from) (\w+)", text, re.MULTILINE):
+        importlib.import_module(it)
+    return compile(text, name, "exec")
 
 
 def become(words, environment):
@@ -282,7 +284,7 @@ def become(words, environment):
 def run_copied(command, text=b"", seconds=60, *, env, **more):
     """Runs a command in Python as `run` does, in a copy of this process that has it compiled: it
     takes a quarter of the time. What starts and limits do to a command needs `run`."""
-    words = [os.fspath(it) for it in command]
+    words = [os.fsdecode(it) for it in command]
     code_of(words[0])
     more |= {"env": env, "preexec_fn": lambda: become(words, env)}
     return run(words, text, seconds, **more)
