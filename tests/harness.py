@@ -266,6 +266,7 @@ def become(words, environment):
     # (as Python has it at a start)
     for it in (signal.SIGPIPE, signal.SIGXFSZ):
         signal.signal(it, signal.SIG_IGN)
+    tempfile.tempdir = None
     os.environ.clear()
     os.environ.update(environment)
     sys.argv, status = words, 1
