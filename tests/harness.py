@@ -215,11 +215,13 @@ def usual_environment():
     return {name: value for name, value in os.environ.items() if name != TOOL_VARIABLE}
 
 
-def run_short(command, text, seconds, env):
-    """What `run_program` does with a text that a pipe holds whole."""
+def run_short(command, text, seconds, env=None, stdin=None):
+    """What `run_program` does with a text that a pipe holds whole, or with an open file."""
     if ENOUGH.is_set():
         raise HasFailed
     pipes = [os.pipe() for _ in range(3)]
+    if stdin:
+        os.dup2(stdin.fileno(), pipes[0][0], inheritable=False)
     ends, running, texts, status = [pipes[1][0], pipes[2][0]], None, None, OVERDUE
     try:
         with open(pipes[0][1], "wb", buffering=0) as end, contextlib.suppress(BrokenPipeError):
@@ -244,9 +246,10 @@ def run_short(command, text, seconds, env):
 
 def run_program(command, text=b"", seconds=60, **more):
     """`run` of a program at a path, which begins no other: in half the time where nothing but the
-    environment is asked for, and a pipe holds the text."""
-    if more.keys() <= {"env"} and len(text) <= PIPE:
-        return run_short(command, text, seconds, more.get("env"))
+    environment or an open file as the input is asked for, and a pipe holds the text."""
+    is_file = not isinstance(more.get("stdin"), int)
+    if more.keys() <= {"env", "stdin"} and is_file and len(text) <= PIPE:
+        return run_short(command, text, seconds, **more)
     return run(command, text, seconds, **more)
 
 
