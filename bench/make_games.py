@@ -162,7 +162,10 @@ class Position:
 
     def takes_en_passant(self):
         """Whether a legal move takes a pawn en passant."""
-        return any(move[1] == self.passed and self.board[move[0]] in "Pp" for move in self.legal())
+        back, pawn = (-10, "P") if self.white else (10, "p")
+        beside = () if self.passed is None else (self.passed + back - 1, self.passed + back + 1)
+        takes = (self.play((it, self.passed, "")) for it in beside if self.board[it] == pawn)
+        return any(not it.is_attacked(it.king(self.white), it.white) for it in takes)
 
     def san(self, move, after, moves):
         source, target, promotion = move

@@ -632,8 +632,7 @@ class Sound:
 TOKEN = re.compile(r"(?P<comment>\{[^}]*\})|(?P<tag>^\[\w+ \".*\"\]$)|(?P<glyph>\$\d+)|(?P<result>(?:1-0|0-1|1/2-1/2|\*)(?=\s|$))|(?P<number>\d+\.+)|(?P<open>\()|(?P<close>\))|(?P<move>[A-Za-z-][\w=+#-]*)", re.MULTILINE)
 
 
-@dataclass(frozen=True)
-class Token:
+class Token(NamedTuple):
     """A token of movetext with each gap in it as one space, and in how many variations it stands; parentheses stand in their own variation."""
 
     kind: str
