@@ -1,3 +1,4 @@
+pub mod CodedMoves
 pub mod KeptPackedFacts
 pub mod PackListed
 pub mod Renamed

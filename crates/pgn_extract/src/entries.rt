@@ -21,7 +21,7 @@ pub(crate) mod line;
 pub(crate) mod line_maker;
 mod line_value;
 pub(crate) mod listing;
-mod played;
+pub(crate) mod played;
 pub(crate) mod row_game;
 pub(crate) mod row_maker;
 mod sink;

@@ -11,7 +11,7 @@ ghost use Rattle.pgn_extract.specs.Private.Finding.{AsksFor, named_mark};
 ghost use Rattle.pgn_extract.specs.Public.Index.{mark_line, titled};
 ghost use Rattle.pgn_extract.specs.Public.Listing.{has_annotations};
 ghost use Rattle.pgn_extract.specs.Private.Lines.{is_bare};
-ghost use Rattle.pgn_criteria.specs.Public.Meeting.{heading_of};
+ghost use Rattle.pgn_criteria.specs.Public.Meeting.{AreMet, heading_of};
 ghost use Rattle.pgn_criteria.specs.Public.Prefilters.{codes_in};
 ghost use Rattle.pgn_extract.specs.Private.Packed.{raw_id, PutsRecord, LeavesRecord, EachOfRecord};
 ghost use Rattle.pgn_extract.specs.Private.KeptPacked.{IsStartOf};
@@ -471,6 +471,30 @@ fn push_turned<'a>(
     }
 }
 
+/// For each ply of a packed game, whether it meets the criteria. It is `None` where the codes of
+/// its plies do not tell what they say.
+fn met_by_codes<'a>(
+    context: RecordContext<'a, '_, 'a>,
+    criteria: &'a Criteria,
+) -> Result<Option<Vec<bool>>, PackedFault>
+    requires shows { IsRawOfGame context.record.now }
+    ensures some { IfOk result (λ told. IfSome told (λ met. 0 < length met.items)) }
+    ensures met { IfOk result (λ told. IfSome told (λ met.
+        EachOfRecord context.entry.record.now (λ game replay packed.
+        AreMet (heading_of game) replay criteria.now met.items))) }
+    ensures err { IfErr result (λ fault. fault ≡ PackedFault.NoGame
+        → HasNoText context.entry.record.now) }
+{
+    let RecordContext { alloc, record, .. } = context;
+    let (check, stuck) = (record.in_check(), record.is_stuck());
+    let mut walk = Walk::new(Bits::initial(), Side::White, check, stuck);
+    if let Err(fault) = begin(alloc, &mut walk, record) {
+        return Err(fault);
+    }
+    let told = criteria.met_walked(alloc, record, &walk)?;
+    Ok(told)
+}
+
 /// Adds the mark and the ply of each entry of a packed game by criteria, which is walked. Answers
 /// `false`, and adds nothing, where the codes of its plies do not tell what they say.
 fn push_told<'a>(
@@ -487,13 +511,11 @@ fn push_told<'a>(
     ensures err { IfErr result (λ fault. fault ≡ PackedFault.NoGame
         → (text.new.items ≡ text.old.items) × HasNoText context.entry.record.now) }
 {
-    let RecordContext { alloc, record, .. } = context;
-    let (check, stuck) = (record.in_check(), record.is_stuck());
-    let mut walk = Walk::new(Bits::initial(), Side::White, check, stuck);
-    if let Err(fault) = begin(alloc, &mut walk, record) {
-        return Err(fault);
-    }
-    let Some(met) = criteria.met_walked(alloc, record, &walk)? else {
+    let told = match met_by_codes(context, criteria) {
+        Ok(told) => told,
+        Err(fault) => return Err(fault),
+    };
+    let Some(met) = told else {
         return Ok(false);
     };
     let line = Told { met, ply: 0 };

@@ -185,6 +185,22 @@ pub tells_none : (Asks : Option (List Conditions) → GameText → Type 0) (game
 tells_none Asks game [] none n r here = absurd (cc)
 tells_none Asks game (one ∷ met) none n r here = absurd (cc)
 
+-- and of one more
+pub tells_next : (Asks : Option (List Conditions) → GameText → Type 0) (game : GameText) (ply : ℕ)
+    (P : State)
+    → ((replay : Replay) → IsOfGame game replay → slice_get replay.positions ply ≡ Some P)
+    → (met : List Bool) (r : Bool) → length met ≡ ply → TellsFirst Asks game met
+    → ((criteria : Option (List Conditions)) → Asks criteria game → TellsAt r ply P criteria game)
+    → TellsFirst Asks game (met ++ r ∷ [])
+tells_next Asks game ply P there met r size told tells n s here criteria asks replay own =
+    elim (last_or met r n s here) [
+      | inl old ↦ told n s old criteria asks replay own
+      | inr (at, same) ↦
+          subst (λ (b : Bool). IsTrue b ↔ IsMet criteria (heading_of game) replay n) (sym same)
+          (subst (λ k. IsTrue r ↔ IsMet criteria (heading_of game) replay k) (sym (at ∙ size))
+          (tells criteria asks replay own (there replay own)))
+    ]
+
 pub tells_more : (Asks : Option (List Conditions) → GameText → Type 0) (game : GameText)
     (line : PlayedLine) (before : List State) (played : List Move)
     → IsPlayedTo (tag_in fen_tag game.tags) game.elements line before played
@@ -192,18 +208,13 @@ pub tells_more : (Asks : Option (List Conditions) → GameText → Type 0) (game
     → ((criteria : Option (List Conditions)) (other : GameText) → Asks criteria other
     → TellsAt r line.plies line.position criteria other)
     → TellsFirst Asks game (met ++ r ∷ [])
-tells_more Asks game line before played to met r size told tells n s here criteria asks replay own =
-    elim (last_or met r n s here) [
-      | inl old ↦ told n s old criteria asks replay own
-      | inr (at, same) ↦
-          let (rest, parts) = stands_there game line before played to replay own in
-          let there : slice_get replay.positions line.plies ≡ Some line.position =
-          subst (λ k. slice_get replay.positions k ≡ Some line.position) to.count
-          (ap (λ ps. slice_get ps (length before)) parts ∙ at_seam before line.position rest) in
-          subst (λ (b : Bool). IsTrue b ↔ IsMet criteria (heading_of game) replay n) (sym same)
-          (subst (λ k. IsTrue r ↔ IsMet criteria (heading_of game) replay k)
-          (sym (at ∙ size ∙ to.count)) (tells criteria game asks replay own there))
-    ]
+tells_more Asks game line before played to met r size told tells =
+    tells_next Asks game line.plies line.position
+    (λ replay own.
+    let (rest, parts) = stands_there game line before played to replay own in
+    subst (λ k. slice_get replay.positions k ≡ Some line.position) to.count
+    (ap (λ ps. slice_get ps (length before)) parts ∙ at_seam before line.position rest))
+    met r (size ∙ to.count) told (λ criteria asks. tells criteria game asks)
 
 -- the line at its end, from where it starts
 module _ (game : GameText) (line : PlayedLine) (before : List State) (played : List Move)

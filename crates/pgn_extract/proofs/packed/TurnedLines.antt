@@ -24,11 +24,11 @@ use Rattle.pgn_extract.proofs.packed.KeptPackedFacts.{each_line}
 -- ---- where it stands
 
 -- the positions from here on, but this one
-abbrev later_from : State → List Move → List State
+abbrev pub later_from : State → List Move → List State
 later_from P [] = []
 later_from P (m ∷ moves) = positions_from (after P m) moves
 
-begins_here : (P : State) (moves : List Move) → positions_from P moves ≡ P ∷ later_from P moves
+pub begins_here : (P : State) (moves : List Move) → positions_from P moves ≡ P ∷ later_from P moves
 begins_here P [] = refl
 begins_here P (m ∷ moves) = refl
 

@@ -8,14 +8,13 @@ ghost use Rattle.chess.specs.Public.Positions.{State};
 ghost use Rattle.pgn_game.specs.Public.CodeLines.{AreLegalMoves, positions_from};
 ghost use Rattle.pgn_text.specs.Public.GameTexts.{tag_in};
 ghost use Rattle.pgn_game.specs.Public.Faults.{IsFault};
-ghost use Rattle.pgn_game.specs.Public.Replays.{IsSoundGame, Replay, fault_of};
-ghost use Rattle.pgn_criteria.specs.Public.Meeting.{Heading};
+ghost use Rattle.pgn_game.specs.Public.Replays.{IsSoundGame, fault_of};
 ghost use Rattle.pgn_game.specs.Public.Openings.{NamedLine};
 ghost use Rattle.pgn_game.specs.Public.Starts.{fen_tag};
 ghost use Rattle.pgn_game.specs.declared.replays.replayer.Lines.TheVariants.{Main};
 ghost use Rattle.pgn_extract.specs.Public.Aims.{Aim, GameId, aim_of};
 ghost use Rattle.pgn_extract.specs.Private.Finding.{StopsAtFault};
-ghost use Rattle.pgn_extract.specs.Private.KeptLines.{AreFirst, AreReported, IsKeptWith};
+ghost use Rattle.pgn_extract.specs.Private.KeptLines.{AreFirst, IsKeptWith};
 ghost use Rattle.pgn_extract.specs.Private.KeptLines.{IsReached, line_of};
 ghost use Rattle.pgn_extract.specs.Private.Lines.{aim_with, HandsOn, MakesLines, marked_lines};
 
@@ -48,19 +47,9 @@ pub(crate) struct Kept {
     pub(crate) ply: usize,
 }
 
-/// Each position of a main line with so many plies is met, where there are no criteria.
-pub(crate) fn all_met(alloc: Global, plies: usize) -> Result<Vec<bool>, AllocError>
-    ensures { IfOk result (λ met. (heading : Heading) (replay : Replay)
-        → length replay.positions ≡ plies + 1 → AreReported None heading replay met.items) }
-{
-    let mut met = vec![in alloc; true; plies]?;
-    met.push(true)?;
-    Ok(met)
-}
-
 /// Adds whether one more position is met.
 #[inline(always)]
-fn add_met(met: &mut Vec<bool>, is: bool) -> Result<(), AllocError>
+pub(crate) fn add_met(met: &mut Vec<bool>, is: bool) -> Result<(), AllocError>
     ensures { OnOk result (met.new.items ≡ met.old.items ++ is ∷ []) }
 {
     met.push(is)?;
@@ -69,16 +58,16 @@ fn add_met(met: &mut Vec<bool>, is: bool) -> Result<(), AllocError>
 
 /// Adds one more move.
 #[inline(always)]
-fn add_move(played: &mut Vec<Move>, m: Move) -> Result<(), AllocError>
-    ensures { OnOk result (played.new.items ≡ played.old.items ++ m ∷ []) }
+pub(crate) fn add_move(played: &mut Vec<Move>, m: &Move) -> Result<(), AllocError>
+    ensures { OnOk result (played.new.items ≡ played.old.items ++ m.now ∷ []) }
 {
-    played.push(m)?;
+    played.push(*m)?;
     Ok(())
 }
 
 /// Adds the position after so many plies, where it is one of the first and follows those before it.
 #[inline(always)]
-fn keep_first(
+pub(crate) fn keep_first(
     first: &mut Vec<GamePosition>,
     ply: usize,
     position: &GamePosition,
@@ -93,7 +82,7 @@ fn keep_first(
 }
 
 /// The moves of the line, of which the first positions are added.
-pub(crate) fn moves_of(
+fn moves_of(
     alloc: Global,
     replayed: &Replayed,
     first: &mut Vec<GamePosition>,
@@ -231,7 +220,7 @@ impl Kept {
             let Some(m) = next else {
                 return Ok(Kept::begin(start, played, met, first));
             };
-            add_move(&mut played, m)?;
+            add_move(&mut played, &m)?;
         }
     }
 }

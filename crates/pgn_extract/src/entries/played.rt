@@ -88,8 +88,8 @@ impl Question for Anything {
 
 /// The plies that meet the criteria are known, up to the last of them.
 #[derive(Drop)]
-struct Known {
-    met: Vec<bool>,
+pub(crate) struct Known {
+    pub(crate) met: Vec<bool>,
 }
 
 impl Question for Known {

@@ -1,6 +1,7 @@
-//! The entries of a packed game whose criteria speak of its moves or of several plies: its line is
-//! replayed and kept, and then looked through.
+//! The entries of a packed game whose rows show more than marks and plies, or whose criteria are
+//! not told by its codes: its line is played and kept, and then looked through.
 ghost use Rattle.std.specs.Prelude.{◌≡◌, ◌<◌, false, Some, OnOk, IfOk, IfErr, IfSome, length};
+ghost use Rattle.chess.specs.Public.Moves.{IsLegal, after};
 ghost use Rattle.pgn_text.specs.Public.GameTexts.{tag_in};
 ghost use Rattle.pgn_game.specs.Public.Starts.{fen_tag};
 ghost use Rattle.pgn_game.specs.Public.PackReading.{IsRawOfGame};
@@ -10,19 +11,21 @@ ghost use Rattle.pgn_extract.specs.Public.Listing.{has_annotations};
 ghost use Rattle.pgn_extract.specs.Public.Rows.{IsOpeningBy};
 ghost use Rattle.pgn_extract.specs.Private.Packed.{EachOfRecord, HasNoText, ListsRecord};
 ghost use Rattle.pgn_extract.specs.Private.Packed.{StandsInRecord};
-ghost use Rattle.pgn_extract.specs.Private.KeptLines.{AreReported, IsKeptWith};
-ghost use Rattle.pgn_extract.specs.Private.KeptLines.{IsReached, line_of};
-ghost use Rattle.pgn_criteria.specs.Public.Meeting.{heading_of};
+ghost use Rattle.pgn_extract.specs.Private.KeptLines.{IsKeptWith, IsReached, line_of};
+ghost use Rattle.pgn_criteria.specs.Public.Meeting.{AreMet, heading_of};
 
-use crate::entries::kept::{Kept, all_met, moves_of};
+use crate::entries::kept::{Kept, add_met, add_move, keep_first};
 use crate::entries::line_maker::LineMaker;
+use crate::entries::played::{Anything, Known, Question};
 use crate::entries::row_game::RowGame;
-use crate::packed::{PackedFault, RecordContext, push_found, start_fault};
+use crate::packed::turned::next_of;
+use crate::packed::{PackedFault, RecordContext, met_by_codes, push_found, search_of, start_fault};
+use chess::Move;
 use pgn_criteria::Criteria;
 use pgn_game::pack::{CodesError, RawRecord, replay_codes};
 use pgn_game::{GamePosition, Opening, Openings, Replayed, given_position};
 use pgn_text::is_contents;
-use std::alloc::{AllocError, Global};
+use std::alloc::Global;
 
 /// Replays the line of the record from the position.
 fn replay_from(
@@ -101,22 +104,110 @@ fn replay_record(alloc: Global, raw: &RawRecord<'_>) -> Result<Replayed, PackedF
     }
 }
 
-/// Whether each position of the record's line meets the criteria; each does where there are none.
-fn met_of<'a>(
-    alloc: Global,
-    criteria: &'a Option<Criteria>,
-    raw: &RawRecord<'a>,
-    replayed: &Replayed,
-) -> Result<Vec<bool>, AllocError>
-    requires shows { IsRawOfGame raw.now }
-    requires kept { IsKeptOf raw.now replayed.now }
-    ensures each { IfOk result (λ met. length met.items ≡ length replayed.now.positions) }
-    ensures met { IfOk result (λ met. EachOfRecord raw.now (λ game replay packed.
-        AreReported criteria.now (heading_of game) replayed.now met.items)) }
+/// Goes on to the position after the move.
+#[inline(always)]
+fn go_on(here: &mut GamePosition, m: &Move)
+    requires { IsLegal here.old m.now }
+    ensures { here.new ≡ after here.old m.now }
 {
-    match criteria {
-        Some(criteria) => criteria.met_packed(alloc, raw, replayed),
-        None => all_met(alloc, replayed.plies()),
+    *here = here.play(*m);
+}
+
+/// Keeps the line of the record: it is played by the codes of its plies, and each position is asked
+/// this as it is reached.
+fn keep_record<Q: Question>(
+    alloc: Global,
+    raw: &RawRecord<'_>,
+    question: &Q,
+) -> Result<Kept, PackedFault>
+    ensures valid { IfOk result IsReached }
+    ensures ok { IfOk result (λ line. (aim : Aim) → EachOfRecord raw.now (λ game replay packed.
+        Q.Asks question.now aim.criteria game)
+        → StandsInRecord (λ own game before P.
+        IsKeptWith (line_of line) line.met.items line.ply own game before P)
+        aim raw.now) }
+    ensures err { IfErr result (λ fault. fault ≡ PackedFault.NoGame → HasNoText raw.now) }
+{
+    let mut here = match start_of(alloc, raw) {
+        Ok(start) => start,
+        Err(fault) => return Err(fault),
+    };
+    let mut left = raw.plies();
+    let plies = left.len() / 3;
+    let mut played = Vec::with_capacity(alloc, plies)?;
+    let mut met = Vec::with_capacity(alloc, plies + 1)?;
+    let mut first = Vec::new(alloc);
+    let start = here.copy();
+    loop {
+        keep_first(&mut first, played.len(), &here)?;
+        add_met(&mut met, question.is_met(played.len(), &here))?;
+        let next = match next_of(&here, left) {
+            Ok(next) => next,
+            Err(fault) => return Err(fault),
+        };
+        let Some(m) = next else {
+            return Ok(Kept::begin(start, played, met, first));
+        };
+        let [_, _, _, rest @ ..] = left else {
+            unreachable!();
+        };
+        add_move(&mut played, &m)?;
+        go_on(&mut here, &m);
+        left = rest;
+    }
+}
+
+/// For each ply of a packed game, whether it meets the criteria. All positions of its line are kept
+/// meanwhile where the codes of its plies do not tell.
+fn met_of<'a>(
+    context: RecordContext<'a, '_, 'a>,
+    criteria: &'a Criteria,
+) -> Result<Vec<bool>, PackedFault>
+    requires shows { IsRawOfGame context.record.now }
+    ensures met { IfOk result (λ met. EachOfRecord context.entry.record.now (λ game replay packed.
+        AreMet (heading_of game) replay criteria.now met.items)) }
+    ensures err { IfErr result (λ fault. fault ≡ PackedFault.NoGame
+        → HasNoText context.entry.record.now) }
+{
+    match met_by_codes(context, criteria) {
+        Ok(Some(met)) => return Ok(met),
+        Ok(None) => {}
+        Err(fault) => return Err(fault),
+    }
+    let RecordContext { alloc, record, .. } = context;
+    let replayed = match replay_record(alloc, record) {
+        Ok(replayed) => replayed,
+        Err(fault) => return Err(fault),
+    };
+    let met = criteria.met_packed(alloc, record, &replayed)?;
+    Ok(met)
+}
+
+/// The line of the record with what is known of each of its positions by the criteria.
+fn kept_met<'a>(
+    context: RecordContext<'a, '_, 'a>,
+    criteria: &'a Criteria,
+) -> Result<Kept, PackedFault>
+    requires criteria { context.settings.now.criteria ≡ Some criteria.now }
+    requires shows { IsRawOfGame context.record.now }
+    ensures valid { IfOk result IsReached }
+    ensures ok { IfOk result (λ line. (aim : Aim)
+        → aim.criteria ≡ context.entry.settings.now.criteria
+        → StandsInRecord (λ own game before P.
+        IsKeptWith (line_of line) line.met.items line.ply own game before P)
+        aim context.entry.record.now) }
+    ensures err { IfErr result (λ fault. fault ≡ PackedFault.NoGame
+        → HasNoText context.entry.record.now) }
+{
+    let RecordContext { alloc, record, .. } = context;
+    match search_of(context, criteria) {
+        Ok(Some(search)) => return keep_record(alloc, record, &search),
+        Ok(None) => {}
+        Err(fault) => return Err(fault),
+    }
+    match met_of(context, criteria) {
+        Ok(met) => keep_record(alloc, record, &Known { met }),
+        Err(fault) => Err(fault),
     }
 }
 
@@ -132,23 +223,14 @@ fn kept_line<'a>(context: RecordContext<'a, '_, 'a>) -> Result<Kept, PackedFault
     ensures err { IfErr result (λ fault. fault ≡ PackedFault.NoGame
         → HasNoText context.entry.record.now) }
 {
-    let RecordContext {
-        alloc,
-        settings,
-        record,
-    } = context;
-    let replayed = match replay_record(alloc, record) {
-        Ok(replayed) => replayed,
-        Err(fault) => return Err(fault),
-    };
-    let met = met_of(alloc, &settings.criteria, record, &replayed)?;
-    let mut first = Vec::new(alloc);
-    let played = moves_of(alloc, &replayed, &mut first)?;
-    Ok(Kept::begin(replayed.position(0).copy(), played, met, first))
+    match &context.settings.criteria {
+        Some(criteria) => kept_met(context, criteria),
+        None => keep_record(context.alloc, context.record, &Anything),
+    }
 }
 
-/// Adds the lines of the entries of a packed game, whatever they show. The positions of its line
-/// are kept meanwhile.
+/// Adds the lines of the entries of a packed game, whatever they show. The moves of its line are
+/// kept meanwhile.
 pub(crate) fn push_kept_record<'a>(
     text: &mut Vec<u8>,
     context: RecordContext<'a, '_, 'a>,

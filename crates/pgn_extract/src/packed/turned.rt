@@ -1,8 +1,10 @@
 //! The line of a packed game that is played by the codes of its plies, where criteria speak of its
 //! moves at each ply.
-ghost use Rattle.std.specs.Prelude.{◌≡◌, ◌+◌, ◌<◌, ◌^◌, None, length, refl, IfOk, IfSome};
+ghost use Rattle.std.specs.Prelude.{◌≡◌, ◌+◌, ◌<◌, ◌^◌, List, None, length, refl, IfErr, IfOk};
+ghost use Rattle.std.specs.Prelude.{IfSome};
 ghost use Rattle.chess.specs.Public.Moves.{IsLegal};
-ghost use Rattle.pgn_game.specs.Public.CodeLines.{IsNextCoded};
+ghost use Rattle.chess.specs.declared.moves.Move.{Move};
+ghost use Rattle.pgn_game.specs.Public.CodeLines.{IsCodedLine, IsNextCoded};
 ghost use Rattle.pgn_extract.specs.Private.TurnedLines.{IsTurnedWith};
 
 use crate::entries::line::Line;
@@ -19,7 +21,9 @@ use std::mem;
 /// end.
 #[inline(always)]
 pub(crate) fn next_of(position: &GamePosition, plies: &[u8]) -> Result<Option<Move>, PackedFault>
-    ensures { IfOk result (IsNextCoded position.now plies.now) }
+    ensures ok { IfOk result (IsNextCoded position.now plies.now) }
+    ensures err { IfErr result (λ fault. (moves : List Move)
+        → IsCodedLine position.now plies.now moves → ⊥) }
 {
     match next_coded(position, plies) {
         Ok(next) => Ok(next),

@@ -7,7 +7,7 @@ pub push_found-requires-clause-stands : goal.push_found-requires-clause-stands
 push_found-requires-clause-stands c =
     turns_record c.args.context.record.now (bare_aim c.args.context.settings.now)
     c.in-Ok.start _ refl c.in-Ok.ensures.ok c.requires.asks refl refl refl c.plies-left.ensures
-    c.in_ok-next.ensures
+    c.in_ok-next.ensures.ok
 
 pub push_found-requires-clause-makes : goal.push_found-requires-clause-makes
 push_found-requires-clause-makes c game replay packed own = tt

@@ -13,4 +13,4 @@ returns-clause-moved c aim game before P at =
     turns_on _ aim game before P at _ m c.in-Some.is refl refl
     (c.play-self.ensures.position ∙ ap (λ Q. after Q m) c.copy_from.ensures) c.copy_from.ensures
     (c.replace-self.ensures.value ∙ c.in-Some.is) (rest_is c.args.self.now.left.now _ refl)
-    c.in_ok-self.ensures c.args.is_open
+    c.in_ok-self.ensures.ok c.args.is_open
