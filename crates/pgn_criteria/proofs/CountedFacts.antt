@@ -1,11 +1,14 @@
 -- What conditions say of a game that is known by its heading and the number of its plies.
-use Rattle.pgn_criteria.proofs.Common.{◌≡◌, ◌↔◌, ◌+◌, ℕ, suc, Bool, false, List, [], ◌∷◌}
+use Rattle.pgn_criteria.proofs.Common.{◌≡◌, ◌↔◌, ◌≤◌, ◌+◌, ℕ, suc, Bool, false, List, [], ◌∷◌}
 use Rattle.pgn_criteria.proofs.Common.{length, IsTrue, sym, subst, arith, Replay, Conditions}
 use Rattle.pgn_criteria.proofs.Common.{Heading, Taken, AllTaken, IsSoOfGame, Compares, AllClaims}
 use Rattle.pgn_criteria.proofs.Common.{AsksWithin, AllAskWithin, Stated, GameClaim, Moves, Plies}
+use Rattle.pgn_criteria.proofs.Common.{words_of}
 use Rattle.pgn_criteria.specs.Private.Stages.{AllOfGame}
 use Rattle.pgn_criteria.specs.Private.Counted.{SaysOfCounted, AllOfCounted, IsFreeOfWords}
-use Rattle.pgn_criteria.specs.Private.Counted.{AreFreeOfWords}
+use Rattle.pgn_criteria.specs.Private.Counted.{AllOfBegun, AreFreeOfWords, AsksWords, SaysOfBegun}
+use Rattle.pgn_criteria.specs.Private.Stages.{FitTheSame}
+use Rattle.pgn_criteria.proofs.TakenFacts.{same_taken}
 use Rattle.pgn_criteria.proofs.BeginningFacts.{asks_more, games_ask_more}
 
 module _ (heading : Heading) (replay : Replay) (plies : ℕ) (size : length replay.played ≡ plies)
@@ -48,9 +51,45 @@ module _ (heading : Heading) (replay : Replay) (plies : ℕ) (size : length repl
       games_of_counted more free.1 says.1,
     )
 
+    -- and of a game whose first moves are those of a beginning
+    begun_of_one : (most : ℕ) (beginning : Replay) → FitTheSame most beginning replay
+        → (denied : Bool) (claim : GameClaim (List ℕ)) → AsksWords most claim
+        → SaysOfBegun heading plies beginning denied claim
+        ↔ Taken denied (IsSoOfGame heading replay claim)
+    begun_of_one most beginning fits denied (Moves words) within =
+        same_taken denied (fits.words (words_of words) within)
+    begun_of_one most beginning fits denied (Plies comparison count) within = (
+      λ says. subst (λ n. Taken denied (Compares comparison n count)) (sym size) says,
+      λ says. subst (λ n. Taken denied (Compares comparison n count)) size says,
+    )
+    begun_of_one most beginning fits denied claim within = (λ says. says, λ says. says)
+
+    pub begun_of_all : (most : ℕ) (beginning : Replay) → FitTheSame most beginning replay
+        → (games : List (Stated (GameClaim (List ℕ)))) → AllClaims (AsksWords most) games
+        → AllOfBegun heading plies beginning games ↔ AllTaken (IsSoOfGame heading replay) games
+    begun_of_all most beginning fits [] within = (λ says. tt, λ says. tt)
+    begun_of_all most beginning fits (one ∷ more) within =
+        let here = begun_of_one most beginning fits one.is_denied one.claim within.0 in
+        let there = begun_of_all most beginning fits more within.1 in (
+          λ says. (here.0 says.0, there.0 says.1),
+          λ says. (here.1 says.0, there.1 says.1),
+        )
+
     pub all_of_counted : (conditions : Conditions) → AreFreeOfWords conditions
         → AllOfCounted heading plies conditions.games → AllOfGame heading replay conditions
     all_of_counted conditions free says = games_of_counted conditions.games free.0 says
+
+-- what asks for so many words asks for no more than more of them
+pub word_asks_more : (least most : ℕ) → least ≤ most → (claim : GameClaim (List ℕ))
+    → AsksWords least claim → AsksWords most claim
+word_asks_more least most up (Moves words) few = omega (arith, few, up)
+word_asks_more least most up claim few = tt
+
+pub words_ask_more : (least most : ℕ) → least ≤ most → (games : List (Stated (GameClaim (List ℕ))))
+    → AllClaims (AsksWords least) games → AllClaims (AsksWords most) games
+words_ask_more least most up [] within = tt
+words_ask_more least most up (one ∷ more) within =
+    (word_asks_more least most up one.claim within.0, words_ask_more least most up more within.1)
 
 -- how many first moves are asked for, where no text of one is spoken of
 claim_asks : (claim : GameClaim (List ℕ)) → IsFreeOfWords claim → (most : ℕ) × AsksWithin most claim

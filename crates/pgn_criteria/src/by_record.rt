@@ -24,7 +24,7 @@ use pgn_game::pack::{numbered_castle, numbered_man};
 
 /// Whether the tags, the result and the number of the plies of the game meet the condition, if that
 /// speaks of them; else always.
-fn is_of_counted<'a, H: Headed<'a>>(
+pub(crate) fn is_of_counted<'a, H: Headed<'a>>(
     condition: &'a Stated<GameClaim<Vec<u8>>>,
     game: &H,
     plies: usize,

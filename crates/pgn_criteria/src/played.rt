@@ -28,7 +28,7 @@ use crate::setup::is_alike;
 use crate::spans::{one_if, stands_about};
 use crate::told::add_met;
 use chess::Move;
-use pgn_game::{GameFault, GamePosition, Lines, MainLine, count_main_moves, replay};
+use pgn_game::{GameFault, GamePosition, MainLine, count_main_moves, replay_beginning};
 use pgn_text::RawGame;
 use std::alloc::{AllocError, Global};
 
@@ -295,35 +295,9 @@ fn met_by_left<'a>(
 }
 
 impl Criteria {
-    /// The alternatives of which the tags, the result and so many plies of the game meet what they
-    /// say of them. It is `None` where one of them speaks of the first moves.
-    fn left_of_counted<'a>(
-        &'a self,
-        alloc: Global,
-        game: &RawGame<'a>,
-        plies: usize,
-    ) -> Result<Option<Vec<&'a Alternative>>, AllocError>
-        ensures { IfOk result (λ left. IfSome left (λ own. (replay : Replay)
-            → length replay.played ≡ plies
-            → EachIs (AllOfGame (heading_of game.now) replay) (map (λ a. a.now) own.items)
-            × ((ply : ℕ) → Meets (heading_of game.now) replay ply (map (λ a. a.now) own.items)
-            ↔ Meets (heading_of game.now) replay ply self.now))) }
-    {
-        let mut left = Vec::new(alloc);
-        for alternative in &self.alternatives {
-            if alternative.is_of_counted(game, plies) {
-                if !alternative.has_no_words() {
-                    return Ok(None);
-                }
-                left.push(alternative)?;
-            }
-        }
-        Ok(Some(left))
-    }
-
     /// For each ply of the main line of the game, from 0 to its last, whether its position meets
-    /// the criteria; or the fault of the main line. No position is kept where no alternative that
-    /// tags, the result and the number of plies leave speaks of the first moves.
+    /// the criteria; or the fault of the main line. No position is kept but those before the first
+    /// moves of which conditions speak.
     pub fn met_of_game<'a>(
         &'a self,
         alloc: Global,
@@ -338,10 +312,8 @@ impl Criteria {
             (IsFault Main (tag_in fen_tag game.now.tags) game.now.elements)) }
     {
         let plies = count_main_moves(game.elements());
-        if let Some(left) = self.left_of_counted(alloc, game, plies)? {
-            return met_by_left(&left, alloc, game, plies);
-        }
-        let replayed = replay(alloc, game, Lines::Main)?;
-        Ok(self.met_plies(alloc, game, &replayed)?)
+        let beginning = replay_beginning(alloc, game, self.most_words())?;
+        let left = self.left_of_begun(alloc, game, plies, &beginning)?;
+        met_by_left(&left, alloc, game, plies)
     }
 }
