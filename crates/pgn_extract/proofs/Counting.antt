@@ -1,6 +1,5 @@
 -- The game as which some parts count: there is one, and one at most.
 use Rattle.std.proofs.Common.{◌≡◌, ℕ, List, Option, Some, None, refl, sym, ap, subst, ◌∙◌}
-use Rattle.std.proofs.lemmas.Option.{same_Some}
 use Rattle.pgn_extract.proofs.Common.{GameText, IsGameText, ShowsGame, Part, Replay, Main, IsGameOf}
 use Rattle.pgn_extract.proofs.Common.{fen_tag, tag_in, by_itself, spelled}
 use Rattle.std.specs.List.{slice_get}

@@ -1,10 +1,10 @@
 -- A game from its first entry on: there is one, and only one, and it is that of the game by itself.
-use Rattle.std.specs.Prelude.{◌≤◌, IsTrue, codes}
-use Rattle.pgn_extract.proofs.Common.{◌≡◌, ◌<◌, ℕ, List, [], ◌∷◌, Option, None, Some, refl, sym}
+use Rattle.std.specs.Prelude.{codes}
+use Rattle.pgn_extract.proofs.Common.{◌≡◌, ℕ, List, [], ◌∷◌, Option, None, Some, refl, sym}
 use Rattle.pgn_extract.proofs.Common.{ap, ◌∙◌}
 use Rattle.pgn_extract.proofs.Common.{subst, inl, inr, arith, cases_lt, GameText, IsGameText, State}
-use Rattle.pgn_extract.proofs.Common.{tag_in, fen_tag, Replay, Main, Heading, Aim, IsWanted}
-use Rattle.pgn_extract.proofs.Common.{by_itself, IsReplayOf, main_words, slice_get, same_Some}
+use Rattle.pgn_extract.proofs.Common.{tag_in, fen_tag, Replay, Main, Heading, Aim}
+use Rattle.pgn_extract.proofs.Common.{by_itself, main_words, slice_get, same_Some}
 use Rattle.chess.proofs.FenOneText.{one_fen, some_fen}
 use Rattle.pgn_text.specs.Public.Strings.{Single}
 use Rattle.pgn_game.proofs.BegunGames.{fen_contents, may_or_not}

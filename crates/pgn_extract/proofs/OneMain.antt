@@ -1,10 +1,10 @@
 -- The main line of a game is one, whichever replay of the game is taken.
-use Rattle.pgn_extract.proofs.Common.{◌≡◌, ℕ, ◌+◌, ◌<◌, ◌≤◌, List, ◌∷◌, ◌++◌, [], length}
+use Rattle.pgn_extract.proofs.Common.{◌≡◌, ℕ, ◌+◌, ◌≤◌, List, ◌∷◌, ◌++◌, [], length}
 use Rattle.pgn_extract.proofs.Common.{MatchOption, Option, None, Some, refl, sym, ap, ◌∙◌, subst}
 use Rattle.pgn_extract.proofs.Common.{arith, State}
 use Rattle.pgn_extract.proofs.Common.{GameText, tag_in, Fault, IsFault, main_words, IsMainLine}
 use Rattle.pgn_extract.proofs.Common.{Replay, IsReplay, Main, fen_tag, Conditions, heading_of, Aim}
-use Rattle.pgn_extract.proofs.Common.{IsMet, IsWanted, IsOfGame, Stands}
+use Rattle.pgn_extract.proofs.Common.{IsMet, IsOfGame, Stands}
 use Rattle.pgn_extract.specs.Public.Exports.{IsFirstOrNone}
 use Rattle.pgn_game.proofs.OneReplay.{line_length, no_fault, one_line, one_start}
 

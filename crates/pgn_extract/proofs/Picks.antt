@@ -1,6 +1,6 @@
 -- Plies of a game that are left, and criteria that are asked in place of others.
 use Rattle.pgn_extract.proofs.Common.{◌≡◌, ◌↔◌, ℕ, zero, suc, ◌+◌, ◌<◌, ◌≤◌, List, [], ◌∷◌, length}
-use Rattle.pgn_extract.proofs.Common.{drop, Option, Some, None, sym, subst, arith, IfSome}
+use Rattle.pgn_extract.proofs.Common.{drop, Option, Some, sym, subst, arith, IfSome}
 use Rattle.pgn_extract.proofs.Common.{State, Replay, GameText, Heading, heading_of, Meets}
 use Rattle.pgn_extract.proofs.Common.{Conditions, Aim, GameId, IsMet, IsOfGame, AsksFor, Entry}
 use Rattle.pgn_extract.proofs.Common.{plies_of, AreChosen, none, leave}

@@ -17,7 +17,7 @@ use Rattle.pgn_game.proofs.FirstPlies.{first_paired, sound_first}
 pub use Rattle.pgn_game.proofs.OneEdited.{contents_or_not, edits_or_not, one_edited}
 pub use Rattle.pgn_game.proofs.OneEdited.{one_edited_line}
 use Rattle.pgn_game.proofs.SomeExport.{some_ordered}
-use Rattle.pgn_game.specs.Public.Edits.{AreEditable, EditedTag, IsEdited, IsEditedBy}
+use Rattle.pgn_game.specs.Public.Edits.{AreEditable, EditedTag, IsEditedBy}
 use Rattle.pgn_game.specs.Public.Edits.{Edits, IsEditedExport, IsEditedLine, IsTagged, all_edits}
 use Rattle.pgn_game.specs.Public.Edits.{edited_tag}
 use Rattle.pgn_game.specs.Public.Edits.{up_to}

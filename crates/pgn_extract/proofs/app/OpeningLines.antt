@@ -1,6 +1,6 @@
 -- The lines of a file of openings, as far as its games are read.
 use Rattle.std.proofs.Common.{◌≡◌, ◌⊎◌, ℕ, true, false, List, [], ◌∷◌, ◌++◌, inl, inr, refl, sym}
-use Rattle.std.proofs.Common.{ap, subst, ◌∙◌, length, take, drop}
+use Rattle.std.proofs.Common.{ap, subst, ◌∙◌}
 use Rattle.std.proofs.lemmas.List.{append_assoc, append-nil}
 use Rattle.pgn_text.specs.Public.Left.{ArePiecesLeft, IsPiece, Left, TakesPiece}
 use Rattle.pgn_text.specs.Public.Pieces as spec

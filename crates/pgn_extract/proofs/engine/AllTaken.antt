@@ -1,7 +1,7 @@
 -- What is put of a game in its form and its mode. Where each sound game is written, its first
 -- position is an entry of it.
 use Rattle.std.specs.Prelude.{Result, Ok, Err, OnOk, OnErr, IfErr, IfSome, MatchResult}
-use Rattle.pgn_extract.proofs.Common.{◌≡◌, ℕ, ◌+◌, ◌<◌, List, [], length, Option, refl, sym, subst}
+use Rattle.pgn_extract.proofs.Common.{◌≡◌, ℕ, ◌+◌, List, [], length, Option, refl, sym, subst}
 use Rattle.pgn_extract.proofs.Common.{◌∙◌, append-nil, arith, IfSome_then, GameText, Fault}
 use Rattle.pgn_extract.proofs.Common.{main_words, Replay, Lines, Main, line_length, heading_of}
 use Rattle.pgn_extract.proofs.Common.{Conditions, Aim, GameId, IsMet, IsOfGame, Some, by_itself}

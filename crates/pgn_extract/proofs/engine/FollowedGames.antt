@@ -1,17 +1,16 @@
 -- A game that is exported while its opening is found: as it counts it is reported by its replay.
-use Rattle.std.proofs.Common.{◌≡◌, ℕ, List, [], Option, None, Some, refl, sym, ap, subst, ◌∙◌}
+use Rattle.std.proofs.Common.{◌≡◌, ℕ, List, [], Option, None, Some, refl, sym, ap, subst}
 use Rattle.pgn_extract.proofs.Common.{GameText, IsGameText, Report, Verdict, SoundGame, FaultyGame}
 use Rattle.pgn_extract.proofs.Common.{AddsVerdict, Aim, GameId, Fault, Lines, Replay, by_itself}
 use Rattle.pgn_extract.proofs.Common.{cause_text, fault_text, faulty_text, fen_tag, heading_of}
 use Rattle.pgn_extract.proofs.Common.{IsFaultOf, IsReplayOf, IsReplayed, IsTextOf, lines_in}
 use Rattle.pgn_extract.proofs.Common.{lines_with, tag_in, written_lines, Form, Mode, Conditions}
-use Rattle.pgn_text.specs.Public.Games.{Item}
 use Rattle.pgn_extract.specs.Public.Aims.{HasNoChance, IsRuledOut}
 use Rattle.pgn_extract.specs.Public.Notes.{IsNote}
 use Rattle.pgn_game.specs.Public.Edits.{IsEditedExport}
 use Rattle.pgn_game.specs.Public.Exports.{IsExport}
 use Rattle.pgn_game.specs.Public.Faults.{IsFault}
-use Rattle.pgn_game.specs.Public.Openings.{NamedLine, IsClassified, tag_by}
+use Rattle.pgn_game.specs.Public.Openings.{NamedLine, IsClassified}
 use Rattle.pgn_game.specs.Public.Replays.{HasPlies, IsReplay, IsSoundGame}
 use Rattle.pgn_game.proofs.OneReplay.{no_fault}
 use Rattle.pgn_extract.specs.Private.Blockwise.{AddsCounted, AddsSearched, ExportsAll}

@@ -3,11 +3,11 @@
 use Rattle.std.proofs.lemmas.List.{append-nil}
 use Rattle.pgn_extract.proofs.Common.{◌≡◌, ℕ, ◌+◌, Bool, true, false, List, [], ◌++◌, Vec, Global}
 use Rattle.pgn_extract.proofs.Common.{refl, sym, ap, ◌∙◌, subst, arith, codes, if◌then◌else◌}
-use Rattle.pgn_extract.proofs.Common.{GameText, IsGameText, ShowsGame, piece_place, mark_place}
+use Rattle.pgn_extract.proofs.Common.{GameText, IsGameText, piece_place, mark_place}
 use Rattle.pgn_extract.proofs.Common.{depth_limit, marked, Part, PieceStart, is_chosen, id_at}
 use Rattle.pgn_extract.proofs.Common.{AddsMark, IsPieceOf, AddsPiece, by_itself, AddsVerdict}
 use Rattle.pgn_extract.proofs.Common.{IsMarkReport, NamesBlockStop, IsMarkVerdict, fault_text}
-use Rattle.pgn_extract.proofs.Common.{mark_line, IsGameOf, faulty_text, NamesByte, NamesStop}
+use Rattle.pgn_extract.proofs.Common.{mark_line, faulty_text, NamesByte, NamesStop}
 use Rattle.pgn_extract.proofs.Common.{Verdict, SoundGame, FaultyGame, output_of, fault_line_of}
 use Rattle.pgn_extract.proofs.Common.{is_faulty, IsGameReported, IsVerdictIn, IsUnreadableVerdict}
 use Rattle.pgn_extract.proofs.Common.{Report, Aim, GameId, Mode}

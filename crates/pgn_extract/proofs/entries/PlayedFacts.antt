@@ -6,7 +6,7 @@ use Rattle.pgn_extract.proofs.Common.{length-append, inr, arith, Some, State, Mo
 use Rattle.pgn_extract.proofs.Common.{GameText, tag_in, Item, IsMainLine, main_words, Replay}
 use Rattle.pgn_extract.proofs.Common.{fen_tag, Main, heading_of, SomeHold, Conditions}
 use Rattle.pgn_extract.proofs.Common.{Aim, Heading, IsMet, MeetsHere, Stands, GoesTo, IsTrue}
-use Rattle.pgn_extract.proofs.Common.{◌↔◌, ◌≤◌, ◌<◌, slice_get_within}
+use Rattle.pgn_extract.proofs.Common.{◌↔◌, slice_get_within}
 use Rattle.pgn_extract.proofs.Common.{NoneAfter, Where, HasFault, IsNeverMet, Fails}
 use Rattle.pgn_extract.proofs.Common.{aim_with, IsNextMove}
 use Rattle.pgn_extract.proofs.Common.{slice_get, MatchOption, IsSan, one_start, false≢true}

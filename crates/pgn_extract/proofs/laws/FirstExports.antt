@@ -1,6 +1,6 @@
 -- What is exported is the same whether the first of each game is asked for or all: a game has an
 -- entry exactly where it has a first.
-use Rattle.pgn_extract.proofs.Common.{ℕ, zero, suc, ◌+◌, ◌<◌, true, false, Bool, List, [], ◌∷◌}
+use Rattle.pgn_extract.proofs.Common.{ℕ, ◌+◌, ◌<◌, true, false, Bool, List, [], ◌∷◌}
 use Rattle.pgn_extract.proofs.Common.{length, arith, inl, inr, PieceKind, ReadableGame}
 use Rattle.pgn_extract.proofs.Common.{UnreadableRest, TooLongBlock, MarkedPiece, GameText, Replay}
 use Rattle.pgn_extract.proofs.Common.{Aim, GameId, IsWanted, AreExports, HasEntry, IsGameExport}

@@ -2,7 +2,7 @@
 -- games.
 use Rattle.pgn_extract.proofs.Common.{◌≡◌, ◌⊎◌, ℕ, ◌+◌, inl, inr, List, [], ◌∷◌, ◌++◌, Option, refl}
 use Rattle.pgn_extract.proofs.Common.{sym, ap, ap₂, ◌∙◌, subst, append_assoc, append-nil, GameText}
-use Rattle.pgn_extract.proofs.Common.{IsGameText, tag_in, PieceKind, ReadableGame, UnreadableRest}
+use Rattle.pgn_extract.proofs.Common.{tag_in, PieceKind, ReadableGame, UnreadableRest}
 use Rattle.pgn_extract.proofs.Common.{TooLongBlock, MarkedPiece, Part, no_fault, PackedGame}
 use Rattle.pgn_extract.proofs.Common.{IsPacked, pack_bytes, fen_tag, Main, Aim, GameId}
 use Rattle.pgn_extract.proofs.Common.{ArePieceEntries, AreEntryRows, AreListed}

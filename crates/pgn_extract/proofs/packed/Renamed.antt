@@ -1,10 +1,10 @@
 -- The record of a packed game with the tags of its opening is that of the game as it counts.
-use Rattle.pgn_extract.proofs.Common.{◌≡◌, ℕ, List, [], ◌++◌, Option, Some, None, Ok, refl, sym, ap}
+use Rattle.pgn_extract.proofs.Common.{◌≡◌, ℕ, List, [], ◌++◌, Some, None, Ok, refl, sym, ap}
 use Rattle.pgn_extract.proofs.Common.{◌∙◌, subst, append-nil, GameText, IsGameText, tag_in, fen_tag}
 use Rattle.pgn_extract.proofs.Common.{Main, Replay, RawRecord, raw_of, PackedGame, FitsRecord}
-use Rattle.pgn_extract.proofs.Common.{Aim, AreListed, Entry, listing, raw_id, record_aim}
+use Rattle.pgn_extract.proofs.Common.{Aim, AreListed, listing, raw_id, record_aim}
 use Rattle.pgn_extract.proofs.Common.{IsOfRecord}
-use Rattle.pgn_extract.proofs.Common.{HasNoText, aim_of}
+use Rattle.pgn_extract.proofs.Common.{HasNoText}
 use Rattle.std.specs.List.{slice_get}
 use Rattle.pgn_game.specs.Public.NamedRecords.{IsNamedRecord, with_tags}
 use Rattle.pgn_game.specs.Public.Openings.{NamedLine, tag_by}

@@ -1,12 +1,12 @@
 -- A packed game is played from position to position by the codes of its plies, and each ply is
 -- asked.
 use Rattle.std.specs.List.{slice_get}
-use Rattle.pgn_extract.proofs.Common.{◌≡◌, ◌↔◌, ℕ, ◌+◌, ◌<◌, ◌≤◌, Bool, true, false, List}
+use Rattle.pgn_extract.proofs.Common.{◌≡◌, ◌↔◌, ℕ, ◌+◌, Bool, true, false, List}
 use Rattle.pgn_extract.proofs.Common.{[], ◌∷◌, ◌++◌, length, Option, Some, None, IsTrue, refl, sym}
 use Rattle.pgn_extract.proofs.Common.{ap, ◌∙◌, subst, append_assoc, length-append, arith, after}
-use Rattle.pgn_extract.proofs.Common.{State, Move, GameText, tag_in, positions_from, IsCodedLine}
+use Rattle.pgn_extract.proofs.Common.{State, Move, GameText, tag_in, positions_from}
 use Rattle.pgn_extract.proofs.Common.{RawRecord, PackedGame, Replay, fen_tag, IsStart, Main}
-use Rattle.pgn_extract.proofs.Common.{heading_of, Aim, IsMet, IsOfGame, AsksFor, Conditions}
+use Rattle.pgn_extract.proofs.Common.{heading_of, Aim, IsOfGame, AsksFor, Conditions}
 use Rattle.pgn_extract.proofs.Common.{GoesTo, MeetsHere, IsOfRecord, EachOfRecord, record_aim}
 use Rattle.pgn_extract.proofs.Common.{drop, append-nil, Heading}
 use Rattle.std.proofs.lemmas.Option.{slice_get_past}

@@ -1,10 +1,10 @@
 -- What the parts of a run do with the bytes dropped, with one block and with the blocks in a row:
 -- the words between the code and those of `Outcomes`.
 use Rattle.std.specs.Prelude.{◌≡◌, ℕ, zero, suc, ◌+◌, ◌<◌, ◌≤◌, Bool, true, false, List, []}
-use Rattle.std.specs.Prelude.{◌∷◌, ◌++◌, length, drop, count_by, Option, None, Some, IfSome, codes}
+use Rattle.std.specs.Prelude.{◌∷◌, ◌++◌, length, drop, count_by, Option, None, IfSome, codes}
 use Rattle.std.specs.Prelude.{decimal, if◌then◌else◌, ◌==◌, ◌⊎◌}
 use Rattle.std.specs.Io.KnownBytes.{Appends}
-use Rattle.pgn_text.specs.Public.GameTexts.{GameText, IsGameText, ShowsGame}
+use Rattle.pgn_text.specs.Public.GameTexts.{GameText, ShowsGame}
 use Rattle.pgn_game.specs.Public.Faults.{Fault}
 use Rattle.pgn_game.specs.Public.LineGames.{AsExports, LineLayout, OnLines}
 use Rattle.pgn_game.specs.Public.Openings.{NamedLine}

@@ -1,5 +1,5 @@
 -- The opening that is found is that of the game.
-use Rattle.pgn_extract.proofs.Common.{sym, subst, refl, on_ok_weaker, aim_of, Option, List, None}
+use Rattle.pgn_extract.proofs.Common.{sym, subst, refl, on_ok_weaker, aim_of, Option, List}
 use Rattle.pgn_game.specs.Public.Openings.{NamedLine}
 use Rattle.pgn_extract.specs.Public.Listing.{CountsAs}
 use Rattle.pgn_extract.specs.Public.Rows.{IsOpeningBy}

@@ -1,8 +1,8 @@
 -- The record that is read again is that of the game with the tags of its opening.
 use Rattle.std.specs.Prelude.{option_map}
-use Rattle.pgn_extract.proofs.Common.{◌≡◌, List, [], Option, refl, sym, subst, ◌∙◌}
+use Rattle.pgn_extract.proofs.Common.{[], refl, sym, subst, ◌∙◌}
 use Rattle.pgn_extract.proofs.Common.{append-nil, on_ok_weaker, IfErr-weaker, aim_of, raw_of}
-use Rattle.pgn_game.specs.Public.NamedRecords.{IsNamedRecord, NamesRecord, with_tags}
+use Rattle.pgn_game.specs.Public.NamedRecords.{NamesRecord, with_tags}
 use Rattle.pgn_game.specs.Public.PackedGames.{record_bytes}
 use Rattle.pgn_game.proofs.TagSearch.{no_error}
 use Rattle.pgn_text.specs.Public.GameTexts.{HaveNames, HoldStrings}

@@ -4,7 +4,7 @@ use Rattle.std.specs.Prelude.{bytes_eq, map}
 use Rattle.std.proofs.lemmas.List.{map-append}
 use Rattle.chess.specs.Public.Fen.{parted_at}
 use Rattle.pgn_game.proofs.TagsInOrder.{among_items}
-use Rattle.pgn_extract.proofs.Common.{◌≡◌, ◌∷◌, ◌++◌, [], ℕ, List, Vec, Global, true, false, refl}
+use Rattle.pgn_extract.proofs.Common.{◌≡◌, ◌∷◌, ◌++◌, [], ℕ, List, Vec, Global, refl}
 use Rattle.pgn_extract.proofs.Common.{sym}
 use Rattle.pgn_extract.proofs.Common.{ap, ◌∙◌, Bool}
 use Rattle.pgn_extract.proofs.app.OrderLists.{is_there, lists_last, lists_on, named_twice}

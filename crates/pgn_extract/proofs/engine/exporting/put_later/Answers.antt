@@ -1,6 +1,6 @@
 -- The whole game is sound, so it is from its first entry on, and nothing but memory stands in the
 -- way.
-use Rattle.pgn_extract.proofs.Common.{None, Some, refl, sym, subst, aim_of, fault_of, fen_tag}
+use Rattle.pgn_extract.proofs.Common.{None, Some, refl, subst, aim_of, fault_of, fen_tag}
 use Rattle.pgn_extract.proofs.Common.{tag_in}
 use Rattle.pgn_extract.proofs.Common.{Main, heading_of, on_ok_weaker, lines_with}
 use Rattle.pgn_game.proofs.BegunGames.{later_sound, no_reason}

@@ -1,5 +1,5 @@
 -- By the lines of its entries, or by none where it can have no entry.
-use Rattle.pgn_extract.proofs.Common.{[], refl, sym, aim_of, append-nil, on_ok_weaker}
+use Rattle.pgn_extract.proofs.Common.{refl, sym, aim_of, append-nil, on_ok_weaker}
 use Rattle.pgn_extract.proofs.engine.FollowedGames.{listed_kept, listed_none}
 use Rattle.pgn_extract.proofs.engine.GameVerdict.{sound_added}
 use Rattle.pgn_extract.proofs.engine.report.Report.add_listed.Goals as goal

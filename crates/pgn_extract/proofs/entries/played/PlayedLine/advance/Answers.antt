@@ -1,6 +1,5 @@
-use Rattle.pgn_extract.proofs.Common.{IfSome_then, MatchResult-weaker, subst}
-use Rattle.pgn_extract.proofs.entries.PlayedFacts.{ends_known, ends_met, moves_on, fails_moved}
-use Rattle.pgn_extract.specs.Private.PlayedLines.{NoneFrom}
+use Rattle.pgn_extract.proofs.Common.{IfSome_then, MatchResult-weaker}
+use Rattle.pgn_extract.proofs.entries.PlayedFacts.{moves_on, fails_moved}
 use Rattle.pgn_extract.proofs.entries.played.PlayedLine.advance.Goals as goal
 
 pub returns-clause-moved : goal.returns-clause-moved

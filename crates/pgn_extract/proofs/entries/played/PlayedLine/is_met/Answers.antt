@@ -1,4 +1,4 @@
-use Rattle.pgn_extract.proofs.Common.{ap, subst}
+use Rattle.pgn_extract.proofs.Common.{subst}
 use Rattle.pgn_extract.proofs.entries.PlayedFacts.{met_played}
 use Rattle.pgn_extract.specs.Private.PlayedLines.{TellsAt}
 use Rattle.pgn_extract.proofs.entries.played.PlayedLine.is_met.Goals as goal
