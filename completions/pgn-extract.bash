@@ -39,25 +39,23 @@ _pgn_extract_excluded() {
         --from-position ;;
     --fen) _pgn_extract_without --rows --csv --tsv --jsonl --no-header --index --moves --uci \
         --pack --others --faulty --as-is --set --drop --fix-results --plycount --order --to-ply \
-        --from-position --lines ;;
+        --from-position ;;
     --next) _pgn_extract_without --rows --csv --tsv --jsonl --no-header --index --moves --uci \
         --pack --others --faulty --as-is --set --drop --fix-results --plycount --order --to-ply \
-        --from-position --lines ;;
+        --from-position ;;
     --rows) _pgn_extract_without --list --fen --next --index --moves --uci --pack --others \
-        --faulty --as-is --set --drop --fix-results --plycount --order --to-ply --from-position \
-        --lines ;;
+        --faulty --as-is --set --drop --fix-results --plycount --order --to-ply --from-position ;;
     --csv) _pgn_extract_without --list --fen --next --tsv --jsonl --index --moves --uci --pack \
         --others --faulty --as-is --set --drop --fix-results --plycount --order --to-ply \
-        --from-position --lines ;;
+        --from-position ;;
     --tsv) _pgn_extract_without --list --fen --next --csv --jsonl --index --moves --uci --pack \
         --others --faulty --as-is --set --drop --fix-results --plycount --order --to-ply \
-        --from-position --lines ;;
+        --from-position ;;
     --jsonl) _pgn_extract_without --list --fen --next --csv --tsv --index --moves --uci --pack \
         --others --faulty --as-is --set --drop --fix-results --plycount --order --to-ply \
-        --from-position --lines ;;
+        --from-position ;;
     --no-header) _pgn_extract_without --list --fen --next --index --moves --uci --pack --others \
-        --faulty --as-is --set --drop --fix-results --plycount --order --to-ply --from-position \
-        --lines ;;
+        --faulty --as-is --set --drop --fix-results --plycount --order --to-ply --from-position ;;
     --packed) _pgn_extract_without --moves --uci --pack --tags-first --others --faulty --as-is \
         --set --drop --fix-results --plycount --order --to-ply --from-position --lines --from \
         --until --at --with-names --no-names ;;
@@ -105,8 +103,8 @@ _pgn_extract_excluded() {
         --packed --index --moves --uci --pack --faulty --as-is ;;
     --from-position) _pgn_extract_without --list --fen --next --rows --csv --tsv --jsonl \
         --no-header --packed --index --moves --uci --pack --others --faulty --as-is --lines ;;
-    --lines) _pgn_extract_without --fen --next --rows --csv --tsv --jsonl --no-header --packed \
-        --index --pack --others --faulty --as-is -V --no-variations --from-position ;;
+    --lines) _pgn_extract_without --packed --index --pack --others --faulty --as-is -V \
+        --no-variations --from-position ;;
     --progress) _pgn_extract_without --no-progress ;;
     --no-progress) _pgn_extract_without --progress ;;
     --from) _pgn_extract_without --packed ;;
@@ -196,7 +194,7 @@ _pgn_extract_command() {
         options+=' --no-results --no-figurines --no-castling --no-en-passant --no-lower-case'
         options+=' --no-languages --no-variants'
         ;;
-    pgn-tree) options+=' --fen --moves --plies --least --json --packed --criteria --where' ;;
+    pgn-tree) options+=' --fen --moves --plies --least --json --lines --packed --criteria --where' ;;
     pgn-unique) options+=' --keep --report --keep-faulty --against --keys --near --drop-near' ;;
     pgn-split) options+=' --by --to --force' ;;
     pgn-extract-parallel) _pgn_extract && options='--jobs --part --sshlogin' ;;

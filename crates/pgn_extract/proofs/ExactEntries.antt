@@ -92,7 +92,7 @@ own_has aim id game own (sound first is these) replay also entry marked less lis
     let here : entry.ply < length first.positions =
     subst (λ (r : Replay). entry.ply < length r.positions) same less in
     chosen_all id (IsEntry aim (heading_of game) first) (IsShownOf aim id game first)
-    (λ ply. one_shown aim.line (place_of aim.name aim.openings id game first ply))
+    (λ ply. one_shown aim.line (place_of aim.name aim.openings id aim.of_line game first ply))
     (plies_of 0 first.positions)
     own these entry
     (record {

@@ -1,58 +1,66 @@
 -- What is reported to the output of pieces in a row is the listings of the lines of their games,
 -- where these are asked for.
-use Rattle.pgn_extract.proofs.Common.{◌≡◌, ◌+◌, ◌≤◌, ◌∙◌, ◌∷◌, ℕ, Bool, List, [], Aim, All}
+use Rattle.pgn_extract.proofs.Common.{◌≡◌, ◌+◌, ◌∙◌, ◌∷◌, ℕ, Bool, List, [], Aim, All}
 use Rattle.pgn_extract.proofs.Common.{AreVerdicts, FaultyGame, GameId, GameText, IsEntry}
 use Rattle.pgn_extract.proofs.Common.{IsGameText, IsGameVerdict, IsPieceVerdict, IsReplayOf}
 use Rattle.pgn_extract.proofs.Common.{IsReplayed, IsRuledOut, IsVerdictIn, Main, MarkedPiece}
 use Rattle.pgn_extract.proofs.Common.{PieceKind, ReadableGame, Replay, SoundGame, TooLongBlock}
-use Rattle.pgn_extract.proofs.Common.{UnreadableRest, Verdict, ap, decimal, faulty_text, fen_tag}
+use Rattle.pgn_extract.proofs.Common.{UnreadableRest, Verdict, ap, faulty_text, fen_tag}
 use Rattle.pgn_extract.proofs.Common.{heading_of, id_of, inl, inr, is_chosen, output_of}
 use Rattle.pgn_extract.proofs.Common.{output_text, plies_of, refl, subst, sym, tag_in}
 use Rattle.std.specs.List.{AllByRecursion}
 use Rattle.pgn_game.specs.Public.LineGames.{LineGame, line_items, lines_of}
 use Rattle.pgn_game.specs.Public.Replays.{IsSoundGame}
-use Rattle.pgn_game.specs.Public.SearchedLines.{own_ply, up_to_pass_if}
+use Rattle.pgn_game.specs.Public.SearchedLines.{up_to_pass_if}
 use Rattle.pgn_game.proofs.SearchedFacts.{all_searched}
 use Rattle.pgn_extract.specs.Public.Laws.{RunListsLines}
 use Rattle.pgn_extract.specs.Public.LineListing.{AreGameLineListings, AreLineListings, faulty}
 use Rattle.pgn_extract.specs.Public.LineListing.{IsGameLineListing, IsPieceLineListing, sound}
-use Rattle.pgn_extract.specs.Public.LineListing.{ListsEachLine}
-use Rattle.pgn_extract.specs.Public.Listing.{AfterPly}
+use Rattle.pgn_extract.specs.Public.LineListing.{ListsEachLine, aim_in, listed_game}
+use Rattle.pgn_extract.specs.Public.Listing.{IsShownOf}
 use Rattle.pgn_extract.proofs.ChoiceFacts.{choice_of}
 use Rattle.pgn_extract.proofs.Counting.{counted_good}
 use Rattle.pgn_extract.proofs.SomeCounted.{answers}
+use Rattle.pgn_extract.proofs.LaterGames.{main_sound}
 use Rattle.pgn_extract.proofs.TagsFirst.{either_way, no_entry, none_chosen}
+use Rattle.pgn_extract.proofs.entries.LineListings.{sound_in}
 use Rattle.pgn_extract.specs.declared.settings.Mode.TheVariants as modes
 
 -- a game that its heading rules out has no entry in any of its lines
 module _ (aim : Aim) (id : GameId) (game : GameText) (out : IsRuledOut aim (heading_of game)) where
-  none_of_lines : (number : ℕ) (lines : List LineGame)
+  none_of_lines : IsSoundGame Main (tag_in fen_tag game.tags) game.elements
+      → (number : ℕ) (lines : List LineGame)
       → AllByRecursion (λ (line : LineGame). IsSoundGame Main (tag_in fen_tag game.tags)
       (up_to_pass_if line.inside (line_items line))) lines
       → AreLineListings aim id game number lines []
-  none_of_lines number [] all = refl
-  none_of_lines number (line ∷ more) ((replay, is), all) = (
-    [],
-    [],
-    refl,
-    (
-      replay,
-      is,
-      [],
-      none_chosen id (λ ply. (own_ply line ≤ ply) × IsEntry aim (heading_of game) replay ply)
-          (λ ply shown. shown ≡ AfterPly (32 ∷ decimal number))
-          (λ ply both. no_entry aim (heading_of game) replay ply out both.1)
-          (plies_of 0 replay.positions),
-      refl,
-    ),
-    none_of_lines (number + 1) more all,
-  )
+  none_of_lines main number [] all = refl
+  none_of_lines main number (line ∷ more) (own, all) =
+      let own_aim = aim_in aim number line in
+      let own_out : IsRuledOut own_aim (heading_of game) =
+      record { asked = out.asked; select = out.select; no_chance = out.no_chance } in
+      let (replay, is) = sound_in game number line main own in (
+        [],
+        [],
+        refl,
+        (
+          replay,
+          is,
+          [],
+          none_chosen id (IsEntry own_aim (heading_of game) replay)
+              (IsShownOf own_aim id (listed_game game number line) replay)
+              (λ ply. no_entry own_aim (heading_of game) replay ply own_out)
+              (plies_of 0 replay.positions),
+          refl,
+        ),
+        none_of_lines main (number + 1) more all,
+      )
 
   none_of_game : (replay : Replay) → IsReplayOf All game replay → ListsEachLine aim id game []
   none_of_game replay is =
       let (line, spells, all) =
       all_searched (tag_in fen_tag game.tags) game.elements (replay, is) in
-      (line, spells, none_of_lines 0 (lines_of line) all)
+      let main = main_sound All (tag_in fen_tag game.tags) game.elements (replay, is) in
+      (line, spells, none_of_lines main 0 (lines_of line) all)
 
 -- a game's listing
 listing_of_game : (aim : Aim) (verdict : Verdict) (id : GameId) (game : GameText)

@@ -4,7 +4,7 @@ use Rattle.pgn_extract.proofs.Common.{◌≡◌, ◌⊎◌, ℕ, ◌+◌, ◌*�
 use Rattle.pgn_extract.proofs.Common.{◌++◌, length, false, IsTrue, or_some, false≢true, decimal}
 use Rattle.pgn_extract.proofs.Common.{GameId, Option, AreChosen, plies_of, none}
 use Rattle.pgn_extract.proofs.Common.{keep, leave, Bool, not, ◌&&◌, refl, aim_of}
-use Rattle.pgn_extract.proofs.Common.{Some, None, sym, ap, ◌∙◌, subst, append-nil, arith, slice_get}
+use Rattle.pgn_extract.proofs.Common.{Some, sym, ap, ◌∙◌, subst, append-nil, arith, slice_get}
 use Rattle.pgn_extract.proofs.Common.{same_Some, State, Move, GameText, tag_in, main_words}
 use Rattle.pgn_extract.proofs.Common.{IsMainLine, RawRecord, raw_of, PackedGame, FitsRecord}
 use Rattle.pgn_extract.proofs.Common.{AreMarks, Replay, fen_tag, IsStart, Main, head_shows}
@@ -162,7 +162,7 @@ none_listed aim raw fields line lists game replay packed own n within entry =
     no_lines raw.name (raw_id raw) (IsEntry aim (heading_of game) replay)
     (IsShownOf (record_aim aim raw) (raw_id raw) game replay)
     (λ ply shown is. is_marked aim.line fields line
-    (place_of raw.name aim.openings (raw_id raw) game replay ply) shown is)
+    (place_of raw.name aim.openings (raw_id raw) aim.of_line game replay ply) shown is)
     (plies_of 0 replay.positions) entries listed (sym text)
     (some.1 (n, omega arith, omega (arith, within), entry))
 

@@ -2,7 +2,9 @@
 use Rattle.std.specs.Prelude.{Option, Some, None, flat_map}
 use Rattle.pgn_extract.proofs.Common.{◌≡◌, ◌<◌, ℕ, true, List, [], ◌∷◌, length, refl, sym, ap}
 use Rattle.pgn_extract.proofs.Common.{◌∙◌, subst, MatchOption, slice_get, same_Some, State, Move}
-use Rattle.pgn_extract.proofs.Common.{GameText, IsGameText, tag_in, IsSan, Replay}
+use Rattle.pgn_extract.proofs.Common.{GameText, tag_in, IsSan, Replay, ◌++◌}
+use Rattle.pgn_text.specs.Public.GameTexts.{HoldStrings}
+use Rattle.pgn_extract.specs.Public.Aims.{LineId}
 use Rattle.pgn_extract.proofs.Common.{IsReplay, Lines, GameId, fen_tag}
 use Rattle.chess.specs.Public.Placements.{AreOnBoard}
 use Rattle.chess.proofs.FenOneText.{one_fen, some_fen}
@@ -14,7 +16,7 @@ use Rattle.pgn_game.specs.Public.MainLines.{main_words}
 use Rattle.pgn_game.specs.Public.Openings.{NamedLine}
 use Rattle.pgn_text.specs.Public.Strings.{IsContents, value_of_sign}
 use Rattle.pgn_extract.specs.Public.Annotations.{annotations_at}
-use Rattle.pgn_extract.specs.Public.Listing.{Shown, AfterPly, AsRow, IsShownBy}
+use Rattle.pgn_extract.specs.Public.Listing.{Shown, AfterPly, AsRow, IsShownBy, line_field}
 use Rattle.pgn_extract.specs.Private.Lines.{is_bare}
 use Rattle.pgn_extract.specs.Public.Rows.{RowPlace, place_of, IsTagCell, IsPositionCell}
 use Rattle.pgn_extract.specs.Public.Rows.{IsAt, IsPlyCell, IsGameCell, IsCell, AreCells, row_text}
@@ -24,6 +26,7 @@ use Rattle.pgn_extract.specs.declared.rows.column.Column.TheVariants.{OfAnnotati
 use Rattle.pgn_extract.specs.declared.rows.column.GameColumn.{GameColumn}
 use Rattle.pgn_extract.specs.declared.rows.column.GameColumn.TheVariants.{File, Game, Offset, Id}
 use Rattle.pgn_extract.specs.declared.rows.column.GameColumn.TheVariants.{Result, OpeningPly}
+use Rattle.pgn_extract.specs.declared.rows.column.GameColumn.TheVariants.{Line, From}
 use Rattle.pgn_extract.specs.declared.rows.column.PlyColumn.{PlyColumn}
 use Rattle.pgn_extract.specs.declared.rows.column.PlyColumn.TheVariants.{Ply, OfPosition, Next}
 use Rattle.pgn_extract.specs.declared.rows.column.PlyColumn.TheVariants.{NextUci, OfLine}
@@ -82,6 +85,8 @@ one_game_cell Game place x y first other = first ∙ sym other
 one_game_cell Offset place x y first other = first ∙ sym other
 one_game_cell Id place x y first other = first ∙ sym other
 one_game_cell Result place x y first other = first ∙ sym other
+one_game_cell Line place x y first other = first ∙ sym other
+one_game_cell From place x y first other = first ∙ sym other
 one_game_cell OpeningPly place x y first other =
     one_opening_cell place.openings place.replay.positions x y first other
 
@@ -107,7 +112,9 @@ one_cells (column ∷ columns) place xs ys (x, more, parts, is, others)
 pub one_shown : (line : EntryLine) (place : RowPlace) (x y : Shown) → IsShownBy line place x
     → IsShownBy line place y → x ≡ y
 one_shown (Marked fields) place x y (text, is, shown) (other, also, seen) =
-    shown ∙ ap AfterPly (one_text fields place.replay place.ply text other is also) ∙ sym seen
+    shown
+    ∙ ap (λ t. AfterPly (line_field place.line ++ t))
+    (one_text fields place.replay place.ply text other is also) ∙ sym seen
 one_shown (InColumns row) place x y (text, (cells, are, is), shown) (other, (others, too, of), seen)
     =
     shown ∙ ap AsRow
@@ -133,7 +140,7 @@ some_of_position Men P on_board = some_men_text P
 some_of_position Check P on_board = some_check_text P on_board
 some_of_position Material P on_board = (_, refl)
 
-module _ (game : GameText) (good : IsGameText game) (lines : Lines) (replay : Replay)
+module _ (game : GameText) (strings : HoldStrings game.tags) (lines : Lines) (replay : Replay)
     (is : IsReplay lines (tag_in fen_tag game.tags) game.elements replay) (ply : ℕ)
     (within : ply < length replay.positions) where
   on_board : (i : ℕ) (P : State) → slice_get replay.positions i ≡ Some P → AreOnBoard P.men
@@ -152,9 +159,10 @@ module _ (game : GameText) (good : IsGameText game) (lines : Lines) (replay : Re
   some_ply_cell Next = some_move_text lines (tag_in fen_tag game.tags) game.elements replay is ply
   some_ply_cell NextUci = (_, refl)
 
-  module _ (name : Option (List ℕ)) (openings : Option (List NamedLine)) (id : GameId) where
+  module _ (name : Option (List ℕ)) (openings : Option (List NamedLine)) (id : GameId)
+      (own_line : Option LineId) where
     abbrev place : RowPlace
-    place = place_of name openings id game replay ply
+    place = place_of name openings id own_line game replay ply
 
     some_game_cell : (own : GameColumn) → (cell : List ℕ) × IsGameCell own place cell
     some_game_cell File = (_, refl)
@@ -162,11 +170,13 @@ module _ (game : GameText) (good : IsGameText game) (lines : Lines) (replay : Re
     some_game_cell Offset = (_, refl)
     some_game_cell Id = (_, refl)
     some_game_cell Result = (_, refl)
+    some_game_cell Line = (_, refl)
+    some_game_cell From = (_, refl)
     some_game_cell OpeningPly = some_opening_cell openings replay.positions on_board
 
     some_cell : (column : Column) → (cell : List ℕ) × IsCell column place cell
     some_cell (Tag own) =
-        some_tag_cell (tag_in own.items game.tags) (λ contents. good.strings own.items contents)
+        some_tag_cell (tag_in own.items game.tags) (λ contents. strings own.items contents)
     some_cell (OfGame own) = some_game_cell own
     some_cell (OfPly own) = some_ply_cell own
     some_cell (OfAnnotations own) = (_, annotation_is own (annotations_at game.elements ply))
@@ -182,24 +192,29 @@ module _ (game : GameText) (good : IsGameText game) (lines : Lines) (replay : Re
     some_of_line (Marked fields) =
         let text = some_fields fields lines (tag_in fen_tag game.tags) game.elements replay is ply
         within in
-        (AfterPly text.0, (text.0, text.1, refl))
+        (AfterPly (line_field own_line ++ text.0), (text.0, text.1, refl))
     some_of_line (InColumns row) =
         let cells = some_cells row.columns.items in
         (AsRow (row_text row.format row.columns.items cells.0), (_, (cells.0, cells.1, refl), refl))
 
 -- and there is one for each ply of a main line
 pub some_shown : (line : EntryLine) (name : Option (List ℕ)) (openings : Option (List NamedLine))
-    (id : GameId) (game : GameText) → IsGameText game → (lines : Lines) (replay : Replay)
+    (id : GameId) (own_line : Option LineId) (game : GameText) → HoldStrings game.tags
+    → (lines : Lines) (replay : Replay)
     → IsReplay lines (tag_in fen_tag game.tags) game.elements replay → (ply : ℕ)
     → ply < length replay.positions
-    → (shown : Shown) × IsShownBy line (place_of name openings id game replay ply) shown
-some_shown line name openings id game good lines replay is ply within =
-    some_of_line game good lines replay is ply within name openings id line
+    → (shown : Shown)
+    × IsShownBy line (place_of name openings id own_line game replay ply) shown
+some_shown line name openings id own_line game strings lines replay is ply within =
+    some_of_line game strings lines replay is ply within name openings id own_line line
 
 -- Nothing but the mark and the ply.
 
 pub nothing_shown : (line : EntryLine) → is_bare line ≡ true → (place : RowPlace)
-    → IsShownBy line place (AfterPly [])
-nothing_shown (Marked fields) bare place =
-    ([], no_fields fields bare place.replay place.ply, refl)
-nothing_shown (InColumns row) bare place = absurd (cc)
+    → place.line ≡ None → IsShownBy line place (AfterPly [])
+nothing_shown (Marked fields) bare place none = (
+  [],
+  no_fields fields bare place.replay place.ply,
+  ap (λ n. AfterPly (line_field n ++ [])) (sym none),
+)
+nothing_shown (InColumns row) bare place none = absurd (cc)

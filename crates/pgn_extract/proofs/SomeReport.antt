@@ -3,7 +3,7 @@
 -- and each sound one has an export.
 use Rattle.std.proofs.Common.{◌≡◌, ◌⊎◌, ℕ, zero, suc, arith, ◌+◌, ◌<◌, ◌≤◌, ◌==◌, Bool, true, false}
 use Rattle.std.proofs.Common.{List, [], ◌∷◌, ◌++◌, map, length, refl}
-use Rattle.std.proofs.Common.{ap, sym, subst, inl, inr, codes}
+use Rattle.std.proofs.Common.{sym, subst, inl, inr, codes}
 use Rattle.pgn_extract.proofs.Common.{cases_lt, cases_Bool, both_ways, PieceKind, ReadableGame}
 use Rattle.pgn_extract.proofs.Common.{UnreadableRest, TooLongBlock, MarkedPiece, marked, AreOfBlock}
 use Rattle.pgn_extract.proofs.Common.{over, within, AreOfBlocks, AreMarkedPieces, GameText}
@@ -36,14 +36,15 @@ use Rattle.pgn_extract.proofs.Chosen.{some_chosen}
 use Rattle.pgn_extract.proofs.Decided.{IsDecided, all_decided}
 use Rattle.pgn_extract.proofs.ExactEntries.{within_plies}
 use Rattle.pgn_extract.proofs.Exported.{selected_or_not}
-use Rattle.pgn_extract.specs.Public.Listing.{AfterPly, IsShownOf}
+use Rattle.pgn_extract.specs.Public.Listing.{IsShownOf}
 use Rattle.pgn_extract.specs.Public.LineListing.{AreLineListings, IsLineListing, ListsEachLine}
+use Rattle.pgn_extract.specs.Public.LineListing.{aim_in, listed_game}
+use Rattle.pgn_extract.proofs.entries.LineListings.{sound_in}
 use Rattle.pgn_game.specs.Public.LineGames.{LineGame, line_items, lines_of}
 use Rattle.pgn_game.specs.Public.Replays.{IsSoundGame}
-use Rattle.pgn_game.specs.Public.SearchedLines.{as_searched, own_ply, up_to_pass_if}
+use Rattle.pgn_game.specs.Public.SearchedLines.{up_to_pass_if}
 use Rattle.pgn_game.specs.declared.replays.replayer.Lines.TheVariants.{All}
 use Rattle.pgn_game.proofs.SearchedFacts.{all_searched}
-use Rattle.std.specs.Prelude.{decimal}
 use Rattle.std.specs.List.{AllByRecursion}
 use Rattle.pgn_extract.proofs.ShownTexts.{some_shown}
 use Rattle.pgn_extract.proofs.SomeCounted.{answers, some_counted}
@@ -235,38 +236,35 @@ module _ (aim : Aim) (decided : IsDecided aim) (id : GameId) (game : GameText)
       (plies_of 0 replay.positions)
       (λ ply has. listed_or_not Main replay is ply (within_plies replay.positions ply has))
       (λ ply has.
-      some_shown aim.line aim.name aim.openings id game text Main replay is
+      some_shown aim.line aim.name aim.openings id aim.of_line game text.strings Main replay is
       ply (within_plies replay.positions ply has)) in
       (listing aim.name some.0, (some.0, some.1, refl))
 
   -- and each of its lines
   own_entries : (number : ℕ) (line : LineGame)
-      → IsSoundGame Main (tag_in fen_tag game.tags) (as_searched game line).elements
+      → IsSoundGame Main (tag_in fen_tag game.tags) (listed_game game number line).elements
       → (own : List ℕ) × IsLineListing aim id game number line own
   own_entries number line (replay, is) =
-      let some = some_chosen id
-      (λ ply. (own_ply line ≤ ply) × IsEntry aim (heading_of game) replay ply)
-      (λ ply shown. shown ≡ AfterPly (32 ∷ decimal number)) (plies_of 0 replay.positions)
-      (λ ply has. elim (cases_lt ply (own_ply line)) [
-        | inl under ↦ inr (λ both. let least = both.0 in omega arith)
-        | inr least ↦ elim (entry_or_not aim (heading_of game) replay ply (λ n less.
-            let short = within_plies replay.positions ply has in
-            decided Main (as_searched game line) replay is n (omega arith))) [
-              | inl entry ↦ inl (omega arith, entry)
-              | inr fails ↦ inr (λ both. fails both.1)
-            ]
-      ])
-      (λ ply has. (AfterPly (32 ∷ decimal number), refl)) in
+      let own_aim = aim_in aim number line in
+      let listed = listed_game game number line in
+      let some = some_chosen id (IsEntry own_aim (heading_of game) replay)
+      (IsShownOf own_aim id listed replay) (plies_of 0 replay.positions)
+      (λ ply has. entry_or_not own_aim (heading_of game) replay ply (λ n less.
+      let short = within_plies replay.positions ply has in
+      decided Main listed replay is n (omega arith)))
+      (λ ply has. some_shown aim.line aim.name aim.openings id own_aim.of_line listed text.strings
+      Main replay is ply (within_plies replay.positions ply has)) in
       (listing aim.name some.0, (replay, is, some.0, some.1, refl))
 
-  lines_entries : (number : ℕ) (lines : List LineGame)
+  lines_entries : IsSoundGame Main (tag_in fen_tag game.tags) game.elements
+      → (number : ℕ) (lines : List LineGame)
       → AllByRecursion (λ line. IsSoundGame Main (tag_in fen_tag game.tags)
       (up_to_pass_if line.inside (line_items line))) lines
       → (own : List ℕ) × AreLineListings aim id game number lines own
-  lines_entries number [] sound = ([], refl)
-  lines_entries number (line ∷ more) (first, sound) =
-      let (text, listed) = own_entries number line first in
-      let (rest, later) = lines_entries (number + 1) more sound in
+  lines_entries main number [] sound = ([], refl)
+  lines_entries main number (line ∷ more) (first, sound) =
+      let (text, listed) = own_entries number line (sound_in game number line main first) in
+      let (rest, later) = lines_entries main (number + 1) more sound in
       (text ++ rest, (text, rest, refl, listed, later))
 
   each_line : (replay : Replay) → IsReplayOf All game replay
@@ -274,7 +272,8 @@ module _ (aim : Aim) (decided : IsDecided aim) (id : GameId) (game : GameText)
   each_line replay is =
       let (line, spells, sound) =
       all_searched (tag_in fen_tag game.tags) game.elements (replay, is) in
-      let (text, listed) = lines_entries 0 (lines_of line) sound in
+      let main = main_sound All (tag_in fen_tag game.tags) game.elements (replay, is) in
+      let (text, listed) = lines_entries main 0 (lines_of line) sound in
       (text, (line, spells, listed))
 
   some_output : (mode : Mode) (replay : Replay) → IsReplayOf (replayed_lines mode aim) game replay

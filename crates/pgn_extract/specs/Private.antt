@@ -25,7 +25,6 @@ pub mod MarkOrder
 pub mod MarkLines
 pub mod KeptLines
 pub mod Lines
-pub mod OwnEntries
 pub mod Sinks
 pub mod PlayedLines
 pub mod WalkedLines

@@ -1,6 +1,6 @@
 //! The entries of a game, found while its main line is played, or once it is kept.
 ghost use Rattle.std.specs.Prelude.{◌≡◌, ◌≤◌, ◌↔◌, ℕ, true, IsTrue, MatchResult, IfOk, IfSome};
-ghost use Rattle.std.specs.Prelude.{MatchOption};
+ghost use Rattle.std.specs.Prelude.{◌-◌, None, Some, MatchOption, max};
 ghost use Rattle.pgn_text.specs.Public.GameTexts.{tag_in};
 ghost use Rattle.pgn_game.specs.Public.Faults.{IsFault};
 ghost use Rattle.pgn_game.specs.Public.Replays.{IsSoundGame, fault_of};
@@ -10,7 +10,7 @@ ghost use Rattle.pgn_criteria.specs.Public.Meeting.{heading_of};
 ghost use Rattle.pgn_extract.specs.Public.Aims.{HasNoChance, IsRuledOut, aim_of};
 ghost use Rattle.pgn_extract.specs.Private.Finding.{AddsEntries, StopsAtFault, IsChosen};
 ghost use Rattle.pgn_extract.specs.Private.Finding.{ListsNone};
-ghost use Rattle.pgn_extract.specs.Private.Lines.{IsFinderOf};
+ghost use Rattle.pgn_extract.specs.Private.Lines.{IsFinderOf, aim_at};
 
 pub(crate) mod annotations;
 pub(crate) mod each_line;
@@ -34,7 +34,7 @@ use crate::entries::line_maker::LineMaker;
 use crate::entries::played::{Anything, find_again, find_played};
 use crate::entries::row_game::RowGame;
 use crate::entries::told::find_told;
-use crate::marks::GameId;
+use crate::marks::{GameId, LineId};
 use crate::output::texts::{MARK_ROOM, push_named_mark};
 use crate::settings::{Fields, Mode, Select, Settings};
 use pgn_criteria::Criteria;
@@ -53,14 +53,61 @@ pub struct GameContext<'a> {
     pub own: GameId,
 }
 
-/// What is looked for in a game, of which it is known whether its main line is sound, or it is not.
+/// What is looked for in a game, or in a line of one as a game, of whose plies those before the
+/// least one are left out.
+#[derive(Clone, Copy)]
+pub struct Search {
+    /// Which line of the game, where each of its lines is listed.
+    pub(crate) line: Option<LineId>,
+    /// The least ply of an entry.
+    pub(crate) least: usize,
+    /// Whether it is known that its main line is sound.
+    pub(crate) is_sound: bool,
+}
+
+impl Search {
+    /// Of the main line of a game.
+    pub fn of_game(settings: &Settings, is_sound: bool) -> Self
+        ensures { result ≡ record {
+          line = None;
+          least = settings.now.min_ply;
+          is_sound = is_sound;
+        } }
+    {
+        Search {
+            line: None,
+            least: settings.min_ply as usize,
+            is_sound,
+        }
+    }
+
+    /// Of the line of a game with this number, from its first own ply on.
+    pub fn of_line(settings: &Settings, number: usize, own_ply: usize, is_sound: bool) -> Self
+        ensures { result ≡ record {
+          line = Some (record { number = number; from = own_ply - 1 });
+          least = max settings.now.min_ply own_ply;
+          is_sound = is_sound;
+        } }
+    {
+        Search {
+            line: Some(LineId {
+                number,
+                from: own_ply.saturating_sub(1),
+            }),
+            least: own_ply.max(settings.min_ply as usize),
+            is_sound,
+        }
+    }
+}
+
+/// What is looked for in a game.
 fn finder_of<'a>(
     context: GameContext<'a>,
     game: &RawGame<'a>,
-    is_sound: bool,
+    search: Search,
 ) -> Result<Finder<'a>, AllocError>
     ensures { IfOk result
-        (IsFinderOf context.entry.settings.now context.entry.own game.now is_sound) }
+        (IsFinderOf context.entry.settings.now context.entry.own game.now search) }
 {
     let GameContext {
         alloc,
@@ -69,30 +116,34 @@ fn finder_of<'a>(
     } = context;
     let mut mark = Vec::with_capacity(alloc, MARK_ROOM)?;
     push_named_mark(&mut mark, &settings.name, own)?;
+    let row_game = RowGame::in_text(context, search.line, game);
     Ok(Finder {
         settings,
+        least: search.least,
         first: settings.first,
-        lines: LineMaker::of_game(alloc, &settings.line, RowGame::in_text(context, game))?,
+        lines: LineMaker::of_game(alloc, &settings.line, row_game)?,
         mark,
-        is_sound,
+        is_sound: search.is_sound,
     })
 }
 
-/// Adds the lines of the entries of a game, or answers its fault. Each position is asked as it is
-/// reached, and none is kept. Where a row shows something of the whole main line, that is played
-/// first, and its moves are kept. Criteria that speak of single moves or of several plies are asked
-/// first which plies meet them; where a line shows more than these, the main line is played again.
-/// One that is known to be sound is not played to its end once no more is looked for.
+/// Adds the lines of the entries of a game, or of a line of one as a game, or answers its fault.
+/// Each position is asked as it is reached, and none is kept. Where a row shows something of the
+/// whole main line, that is played first, and its moves are kept. Criteria that speak of single
+/// moves or of several plies are asked first which plies meet them; where a line shows more than
+/// these, the main line is played again. One that is known to be sound is not played to its end
+/// once no more is looked for.
 pub fn push_entries<'a>(
     text: &mut Vec<u8>,
     context: GameContext<'a>,
     game: &RawGame<'a>,
-    is_sound: bool,
+    search: Search,
 ) -> Result<(), GameFault<'a>>
-    requires { is_sound ≡ true → IsSoundGame Main (tag_in fen_tag game.now.tags) game.now.elements }
+    requires { search.is_sound ≡ true
+        → IsSoundGame Main (tag_in fen_tag game.now.tags) game.now.elements }
     ensures { MatchResult result
-        (λ _. AddsEntries (aim_of context.entry.settings.now) context.entry.own game.now
-        text.old.items text.new.items)
+        (λ _. AddsEntries (aim_at (aim_of context.entry.settings.now) search.line
+        search.least) context.entry.own game.now text.old.items text.new.items)
         (λ fault. IfSome (fault_of fault) (StopsAtFault game.now text.old.items text.new.items)) }
 {
     let GameContext {
@@ -100,7 +151,7 @@ pub fn push_entries<'a>(
         settings,
         ..
     } = context;
-    let mut finder = finder_of(context, game, is_sound)?;
+    let mut finder = finder_of(context, game, search)?;
     let Some(criteria) = &settings.criteria else {
         return find_asked(&finder, alloc, game, Anything, text);
     };
@@ -173,8 +224,9 @@ pub fn first_entry<'a>(
     let question = criteria.watch(alloc, game)?;
     let finder = Finder {
         settings,
+        least: settings.min_ply as usize,
         first: true,
-        lines: LineMaker::Fields(Fields::NONE),
+        lines: LineMaker::Fields(Fields::NONE, None),
         mark: Vec::new(alloc),
         is_sound: false,
     };

@@ -15,6 +15,15 @@ pub struct GameId {
     pub offset: u64,
 }
 
+/// Which line of its game entries are of, where each line of a game is listed.
+#[derive(Clone, Copy, Debug, PartialEq, Eq)]
+pub struct LineId {
+    /// Its number among the lines of the game, of which the main line has 0.
+    pub number: usize,
+    /// How many plies it shares with the line that it leaves; the main line has 0.
+    pub from: usize,
+}
+
 /// Marks in their order, each once: pairs of a number and an offset.
 #[derive(Debug, Drop)]
 pub struct Marks {

@@ -185,6 +185,7 @@ fn push_found<L: Line + Drop>(
     push_record_mark(&mut mark, record)?;
     let finder = Finder {
         settings,
+        least: settings.min_ply as usize,
         first: settings.first,
         lines,
         mark,
@@ -267,7 +268,7 @@ fn push_marked(
     let Some(line) = first_marked(marks, turn, context.record) else {
         return Ok(());
     };
-    push_found(text, context, LineMaker::Fields(Fields::NONE), line)?;
+    push_found(text, context, LineMaker::Fields(Fields::NONE, None), line)?;
     Ok(())
 }
 
@@ -301,7 +302,7 @@ fn push_walked<'a>(
         left: record.plies(),
         ply: 0,
     };
-    push_found(text, context, LineMaker::Fields(Fields::NONE), line)?;
+    push_found(text, context, LineMaker::Fields(Fields::NONE, None), line)?;
     Ok(())
 }
 
@@ -438,7 +439,7 @@ fn push_asked<'a>(
         left,
         ply: 0,
     };
-    push_found(text, context, LineMaker::Fields(Fields::NONE), line)
+    push_found(text, context, LineMaker::Fields(Fields::NONE, None), line)
 }
 
 /// Adds the mark and the ply of each entry of a packed game by criteria, while it is played.
@@ -519,7 +520,7 @@ fn push_told<'a>(
         return Ok(false);
     };
     let line = Told { met, ply: 0 };
-    push_found(text, context, LineMaker::Fields(Fields::NONE), line)?;
+    push_found(text, context, LineMaker::Fields(Fields::NONE, None), line)?;
     Ok(true)
 }
 

@@ -89,13 +89,14 @@ plain_entry aim no_criteria tags replay plies n within = (to, from)
 
 -- so the entries are the plies from the least one on
 pub listed_plies : (aim : Aim) (id : GameId) (plies end : ℕ) → aim.criteria ≡ None
-    → is_bare aim.line ≡ true
+    → is_bare aim.line ≡ true → aim.of_line ≡ None
     → ((ply : ℕ) → IsPlainEntry aim plies ply ↔ (aim.min_ply ≤ ply) × (ply < end))
     → (game : GameText) (replay : Replay) → length replay.positions ≡ plies + 1
     → AreListed aim id game replay (plies_from id aim.min_ply (end - aim.min_ply))
-listed_plies aim id plies end no_criteria plain range game replay size =
+listed_plies aim id plies end no_criteria plain no_line range game replay size =
     between id (IsEntry aim (heading_of game) replay) (IsShownOf aim id game replay)
-    (λ ply. nothing_shown aim.line plain (place_of aim.name aim.openings id game replay ply))
+    (λ ply. nothing_shown aim.line plain
+    (place_of aim.name aim.openings id aim.of_line game replay ply) no_line)
     aim.min_ply end
     replay.positions
     (λ n entry. entry.0.0)

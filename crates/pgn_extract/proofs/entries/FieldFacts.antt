@@ -7,7 +7,8 @@ use Rattle.pgn_extract.proofs.Common.{Replay, IsSan, Fields, Fault, ShowsFields}
 use Rattle.pgn_extract.proofs.Common.{IsFenField, IsNextField, IsNextMove}
 use Rattle.std.specs.Prelude.{codes}
 use Rattle.pgn_extract.specs.Private.Lines.{is_bare}
-use Rattle.pgn_extract.specs.Public.Rows.{IsMoveCell, IsAt}
+use Rattle.pgn_game.specs.declared.exports.notation.Notation.TheVariants.{San}
+use Rattle.pgn_extract.specs.Public.Rows.{IsMoveIn, IsAt}
 use Rattle.pgn_extract.specs.Private.Lines.{ShowsFen, ShowsNext, ShowsValue}
 use Rattle.pgn_extract.specs.declared.rows.column.PlyColumn.TheVariants.{OfPosition, Next}
 use Rattle.pgn_extract.specs.declared.rows.column.PositionColumn.TheVariants.{Fen}
@@ -52,7 +53,7 @@ pub next_shown : (asked : Bool) (value : List ℕ) (aim : Aim) (game : GameText)
     (before : List State) (P : State) → asked ≡ true → ShowsValue Next value aim game before P
     → ShowsNext asked (32 ∷ or_dash_there value) aim game before P
 next_shown asked value aim game before P on shows more replay own rest parts =
-    let is : IsMoveCell replay (length before) value = shows (more on) replay own rest parts in
+    let is : IsMoveIn San replay (length before) value = shows (more on) replay own rest parts in
     let text : IsNextMove replay.positions replay.played (length before) (or_dash_there value) =
     next_by (slice_get replay.played (length before)) replay (length before) value is in
     subst (λ b. IsNextField b replay (length before) (32 ∷ or_dash_there value)) (sym on)

@@ -5,14 +5,14 @@ use Rattle.chess.specs.Public.Positions.{State}
 use Rattle.pgn_text.specs.Public.GameTexts.{GameText}
 use Rattle.pgn_game.specs.Public.Openings.{NamedLine}
 use Rattle.pgn_game.specs.Public.Replays.{Replay}
-use Rattle.pgn_extract.specs.Public.Aims.{Aim, GameId}
-use Rattle.pgn_extract.specs.Public.Listing.{AfterPly, AsRow, IsShownBy}
+use Rattle.pgn_extract.specs.Public.Aims.{Aim, GameId, LineId}
+use Rattle.pgn_extract.specs.Public.Listing.{AfterPly, AsRow, IsShownBy, line_field}
 use Rattle.pgn_extract.specs.Private.Lines.{is_bare}
 use Rattle.pgn_extract.specs.Public.Rows.{IsRow, place_of}
 use Rattle.pgn_extract.specs.Private.AnnotationLists.{lists_in}
 use Rattle.pgn_extract.specs.Private.Finding.{IsOfGame}
 use Rattle.pgn_extract.specs.Private.Lines.{ShowsFields, ShowsParts, ShowsLine, Makes}
-use Rattle.pgn_extract.specs.Private.Lines.{MakesLines, made_line}
+use Rattle.pgn_extract.specs.Private.Lines.{MakesLines, line_made, made_line}
 use Rattle.pgn_extract.specs.Private.RowGames.{name_of, openings_of}
 use Rattle.pgn_extract.specs.Private.RowTexts.{MakesRows, ArePartTexts, columns_of}
 use Rattle.pgn_extract.specs.Private.RowTexts.{filled, or_quotes}
@@ -27,14 +27,18 @@ use Rattle.pgn_extract.proofs.entries.RowTextFacts.{row_is}
 
 -- something after the mark and the ply
 pub shows_marked : (lines : LineMaker) (fields : Fields) (text : List ℕ) (aim : Aim) (id : GameId)
-    (game : GameText) (before : List State) (P : State) → lines ≡ maker.Fields fields
-    → Makes lines aim id game → ShowsFields fields text aim game before P
-    → ShowsLine (AfterPly text) id aim game before P
-shows_marked lines fields text aim id game before P is makes shows replay own rest parts =
+    (game : GameText) (before : List State) (P : State) → (own : Option LineId)
+    → lines ≡ maker.Fields fields own → Makes lines aim id game
+    → ShowsFields fields text aim game before P
+    → ShowsLine (AfterPly (line_field own ++ text)) id aim game before P
+shows_marked lines fields text aim id game before P own is makes shows replay of rest parts =
     let line : aim.line ≡ Marked fields = makes.line ∙ ap made_line is in
+    let number : aim.of_line ≡ own = makes.of_line ∙ ap line_made is in
     subst (λ (l : EntryLine).
-    IsShownBy l (place_of aim.name aim.openings id game replay (length before)) (AfterPly text))
-    (sym line) (text, shows line replay own rest parts, refl)
+    IsShownBy l (place_of aim.name aim.openings id aim.of_line game replay (length before))
+    (AfterPly (line_field own ++ text)))
+    (sym line)
+    (text, shows line replay of rest parts, ap (λ n. AfterPly (line_field n ++ text)) (sym number))
 
 -- the text that a maker of rows makes
 abbrev pub made_text : RowMaker → List (List ℕ) → List ℕ
@@ -46,10 +50,11 @@ row_made : (rows : RowMaker) (name : Option (List ℕ)) (openings : Option (List
     → (replay : Replay) → IsOfGame game replay → (ply : ℕ) (values : List (List ℕ))
     → ArePartTexts rows.row.now.format (lists_in rows.annotations) (columns_of rows.parts.items)
     replay ply values
-    → IsRow rows.row.now (place_of name openings id game replay ply) (made_text rows values)
+    → IsRow rows.row.now (place_of name openings id rows.line game replay ply)
+    (made_text rows values)
 row_made rows name openings id game makes replay of ply values are =
     let (cells, have, text) = makes replay of ply values are in
-    let place = place_of name openings id game replay ply in
+    let place = place_of name openings id rows.line game replay ply in
     let row = rows.row.now in (
       cells,
       have,
@@ -68,11 +73,15 @@ shows_row lines rows values aim id game before P is makes shows replay own rest 
     let made : MakesRows rows aim.name aim.openings id game =
     subst (λ (l : LineMaker). MakesLines l aim.name aim.openings id game) is makes.of_game in
     let are = shows (ap is_bare line) replay own rest parts in
+    let number : aim.of_line ≡ rows.line = makes.of_line ∙ ap line_made is in
     subst (λ (l : EntryLine).
-    IsShownBy l (place_of aim.name aim.openings id game replay (length before))
+    IsShownBy l (place_of aim.name aim.openings id aim.of_line game replay (length before))
     (AsRow (made_text rows values))) (sym line) (
       made_text rows values,
-      row_made rows aim.name aim.openings id game made replay own (length before) values are,
+      subst (λ n. IsRow rows.row.now
+          (place_of aim.name aim.openings id n game replay (length before)) (made_text rows values))
+          (sym number)
+          (row_made rows aim.name aim.openings id game made replay own (length before) values are),
       refl,
     )
 

@@ -46,7 +46,7 @@ all_columns (part ∷ parts) = (each_shown part.column, all_columns parts)
 
 -- a line that is kept shows all
 pub enough_kept : (lines : LineMaker) → IsEnoughFor (λ column. Unit {0}) lines
-enough_kept (maker.Fields fields) = (λ is. tt, λ is. tt)
+enough_kept (maker.Fields fields own) = (λ is. tt, λ is. tt)
 enough_kept (maker.Rows rows) = all_columns rows.parts.items
 
 not_needed : (column : PartColumn) → part_needs_line column ≡ false
@@ -65,13 +65,13 @@ no_columns (part ∷ parts) none =
 -- one that is played shows those for which none is kept
 pub enough_played : (lines : LineMaker) → keeps_line lines ≡ false
     → IsEnoughFor (λ column. needs_line column ≡ false) lines
-enough_played (maker.Fields fields) none = (λ is. refl, λ is. refl)
+enough_played (maker.Fields fields own) none = (λ is. refl, λ is. refl)
 enough_played (maker.Rows rows) none = no_columns rows.parts.items none
 
 -- one of which nothing but plies is known is enough where no more is shown
 pub enough_told : (Shows : PlyColumn → Type 0) (lines : LineMaker)
     → is_bare (made_line lines) ≡ true → IsEnoughFor Shows lines
-enough_told Shows (maker.Fields fields) bare =
+enough_told Shows (maker.Fields fields own) bare =
     let both : (not fields.fen ≡ true) × (not fields.next ≡ true) = and_parts _ _ bare in (
       λ is. absurd (not_both fields.fen is both.0),
       λ is. absurd (not_both fields.next is both.1),

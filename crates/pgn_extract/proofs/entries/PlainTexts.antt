@@ -34,7 +34,8 @@ use Rattle.pgn_game.specs.Public.PlayedLines.{IsNextText}
 use Rattle.pgn_game.specs.Public.Replays.{Replay}
 use Rattle.pgn_extract.specs.Private.Finding.{IsDashLeftOut}
 use Rattle.pgn_extract.specs.Public.Listing.{IsNextMove}
-use Rattle.pgn_extract.specs.Public.Rows.{IsMoveCell, IsAt}
+use Rattle.pgn_game.specs.declared.exports.notation.Notation.TheVariants.{San}
+use Rattle.pgn_extract.specs.Public.Rows.{IsMoveIn, IsAt}
 use Rattle.pgn_extract.proofs.FieldTexts.{IsTextAt}
 
 -- Bytes.
@@ -369,7 +370,7 @@ value_by (Some m) replay ply text value (P, here, san) (inr (other, same)) =
 
 pub move_value : (replay : Replay) (ply : ℕ) (text value : List ℕ)
     → IsNextMove replay.positions replay.played ply text → IsDashLeftOut text value
-    → IsMoveCell replay ply value
+    → IsMoveIn San replay ply value
 move_value replay ply text value is left =
     value_by (slice_get replay.played ply) replay ply text value is left
 

@@ -30,6 +30,7 @@ use Rattle.pgn_extract.specs.declared.entries.row_maker.PartColumn.TheVariants a
 use Rattle.pgn_extract.specs.declared.entries.row_maker.RowMaker.{RowMaker}
 use Rattle.pgn_extract.specs.declared.entries.row_maker.RowPart.{RowPart}
 use Rattle.pgn_extract.specs.declared.marks.GameId.{GameId}
+use Rattle.pgn_extract.specs.declared.marks.LineId.{LineId}
 use Rattle.pgn_extract.specs.declared.rows.column.Column.{Column}
 use Rattle.pgn_extract.specs.declared.rows.column.Format.{Format}
 use Rattle.pgn_extract.proofs.entries.AnnotationFacts.{annotation_is}
@@ -86,15 +87,15 @@ values_cut format lists (first ∷ columns) column replay ply values (own, more,
 
 -- A column of the game: its value is known.
 pub adds_known : (old new : RowMaker) (name : Option (List ℕ)) (openings : Option (List NamedLine))
-    (id : GameId) (game : GameText) (column : Column) (cell mid : List ℕ)
+    (id : GameId) (line : Option LineId) (game : GameText) (column : Column) (cell mid : List ℕ)
     → new.parts.items ≡ old.parts.items
     → mid ≡ old.last.items ++ key_text old.row.now.format column
     → ((replay : Replay) → IsOfGame game replay → (ply : ℕ)
-    → IsCell column (place_of name openings id game replay ply) cell)
+    → IsCell column (place_of name openings id line game replay ply) cell)
     → (text : List ℕ) → key_text old.row.now.format column ++ text
     ≡ keyed_text old.row.now.format column cell
-    → new.last.items ≡ mid ++ text → AddsCell old new name openings id game column
-adds_known old new name openings id game column cell mid parts key is text whole last replay of
+    → new.last.items ≡ mid ++ text → AddsCell old new name openings id line game column
+adds_known old new name openings id line game column cell mid parts key is text whole last replay of
     ply values are = (
       values,
       cell,
@@ -112,26 +113,29 @@ adds_known old new name openings id game column cell mid parts key is text whole
 
 -- What is written of a ply for a column is the text of its cell, between quotes where it has any.
 cell_of : (format : Format) (lists : List (List Item)) (column : PartColumn)
-    (name : Option (List ℕ)) (openings : Option (List NamedLine)) (id : GameId) (game : GameText)
-    (replay : Replay) (ply : ℕ) (text : List ℕ)
+    (name : Option (List ℕ)) (openings : Option (List NamedLine)) (id : GameId)
+    (line : Option LineId) (game : GameText) (replay : Replay) (ply : ℕ) (text : List ℕ)
     → (shows_annotations (column_of column) ≡ true → lists ≡ annotation_lists game.elements)
     → IsPartText format lists column replay ply text
-    → (cell : List ℕ) × IsCell (column_of column) (place_of name openings id game replay ply) cell
+    → (cell : List ℕ)
+    × IsCell (column_of column) (place_of name openings id line game replay ply) cell
     × (part_quote format column ++ (text ++ part_quote format column)
     ≡ value_text format (is_number_column (column_of column)) cell)
-cell_of format lists (kind.OfPly own) name openings id game replay ply text known (is, plain) =
+cell_of format lists (kind.OfPly own) name openings id line game replay ply text known (is, plain) =
     (text, is, plain_text format (is_number_of_ply own) text plain)
-cell_of format lists (kind.OfAnnotations own) name openings id game replay ply text known is = (
-  annotation_value own (get_or lists ply []),
-  subst (λ (all : List (List Item)). IsAnnotationCell own (get_or all ply [])
-      (annotation_value own (get_or lists ply []))) (known refl)
-      (annotation_is own (get_or lists ply [])),
-  append-nil text ∙ is,
-)
+cell_of format lists (kind.OfAnnotations own) name openings id line game replay ply text known is
+    = (
+      annotation_value own (get_or lists ply []),
+      subst (λ (all : List (List Item)). IsAnnotationCell own (get_or all ply [])
+          (annotation_value own (get_or lists ply []))) (known refl)
+          (annotation_is own (get_or lists ply [])),
+      append-nil text ∙ is,
+    )
 
 -- A column of the ply: its value follows.
 module _ (old mid new : RowMaker) (name : Option (List ℕ)) (openings : Option (List NamedLine))
-    (id : GameId) (game : GameText) (column : PartColumn) (row : mid.row.now ≡ old.row.now)
+    (id : GameId) (line : Option LineId) (game : GameText) (column : PartColumn)
+    (row : mid.row.now ≡ old.row.now)
     (parts : mid.parts.items ≡ old.parts.items) (key : mid.last.items ≡ old.last.items
     ++ key_text old.row.now.format (column_of column)) (ends : EndsPart mid new column)
     (known : shows_annotations (column_of column) ≡ true
@@ -175,7 +179,7 @@ module _ (old mid new : RowMaker) (name : Option (List ℕ)) (openings : Option 
       ∙ ap (λ t. key_of ++ (quote ++ (value ++ t))) last_is
       ∙ ap (λ t. key_of ++ t) is)
 
-  pub adds_shown : AddsCell old new name openings id game (column_of column)
+  pub adds_shown : AddsCell old new name openings id line game (column_of column)
   adds_shown replay of ply values are =
       let format = old.row.now.format in
       let lists = lists_in old.annotations in
@@ -183,7 +187,7 @@ module _ (old mid new : RowMaker) (name : Option (List ℕ)) (openings : Option 
       values_cut format lists (columns_of old.parts.items) column replay ply values
       (subst (λ cs. ArePartTexts format lists cs replay ply values) columns_are are) in
       let (cell, is, between) =
-      cell_of format lists column name openings id game replay ply value known own in (
+      cell_of format lists column name openings id line game replay ply value known own in (
         before,
         cell,
         some,
@@ -243,15 +247,15 @@ text_push format (first ∷ columns) column place cells cell (own, more, are, ha
 pub makes_more : (format : Format) (lists : List (List Item)) (parts : List RowPart)
     (last : List ℕ) (mid new : RowMaker)
     (columns : List Column) (column : Column) (name : Option (List ℕ))
-    (openings : Option (List NamedLine)) (id : GameId) (game : GameText)
-    → MakesCells format lists columns parts last name openings id game
+    (openings : Option (List NamedLine)) (id : GameId) (line : Option LineId) (game : GameText)
+    → MakesCells format lists columns parts last name openings id line game
     → mid.row.now.format ≡ format → lists_in mid.annotations ≡ lists → mid.parts.items ≡ parts
     → mid.last.items ≡ last ++ gap_after format columns
-    → AddsCell mid new name openings id game column
+    → AddsCell mid new name openings id line game column
     → MakesCells format lists (columns ++ column ∷ []) new.parts.items new.last.items name openings
-    id game
-makes_more format lists parts last mid new columns column name openings id game so_far row kept same
-    grown adds replay of ply values are =
+    id line game
+makes_more format lists parts last mid new columns column name openings id line game so_far row kept
+    same grown adds replay of ply values are =
     let given : ArePartTexts mid.row.now.format (lists_in mid.annotations)
     (columns_of new.parts.items) replay ply values =
     subst (λ (f : Format). ArePartTexts f (lists_in mid.annotations) (columns_of new.parts.items)
@@ -266,7 +270,7 @@ makes_more format lists parts last mid new columns column name openings id game 
     (subst (λ (f : Format). ArePartTexts f (lists_in mid.annotations)
     (columns_of mid.parts.items) replay ply before) row some)) in
     let (cells, have, made) = so_far replay of ply before here in
-    let place = place_of name openings id game replay ply in
+    let place = place_of name openings id line game replay ply in
     let keyed = keyed_text format column cell in
     let between = gap_after format columns in (
       cells ++ cell ∷ [],
@@ -295,11 +299,12 @@ gap_is format (column ∷ columns) (suc i) within =
 pub makes_all : (format : Format) (lists : List (List Item)) (columns : List Column)
     (parts : List RowPart)
     (last all : List ℕ) (name : Option (List ℕ)) (openings : Option (List NamedLine)) (id : GameId)
-    (game : GameText)
-    → MakesCells format lists columns parts last name openings id game → all ≡ last ++ back format
-    → MakesRow format lists columns parts all name openings id game
-makes_all format lists columns parts last all name openings id game made ends replay of ply values
-    are =
+    (line : Option LineId) (game : GameText)
+    → MakesCells format lists columns parts last name openings id line game
+    → all ≡ last ++ back format
+    → MakesRow format lists columns parts all name openings id line game
+makes_all format lists columns parts last all name openings id line game made ends replay of ply
+    values are =
     let (cells, have, text) = made replay of ply values are in (
       cells,
       have,

@@ -25,7 +25,7 @@ use Rattle.pgn_extract.specs.declared.marks.GameId.{GameId}
 use Rattle.pgn_extract.specs.declared.rows.column.AnnotationColumn.TheVariants.{Comment}
 use Rattle.pgn_extract.specs.declared.rows.column.Column.TheVariants.{OfAnnotations, OfGame}
 use Rattle.pgn_extract.specs.declared.rows.column.GameColumn.TheVariants.{OpeningPly}
-use Rattle.pgn_extract.specs.declared.rows.column.Format.TheVariants.{Csv, Tsv, Jsonl}
+use Rattle.pgn_extract.specs.declared.rows.column.Format.TheVariants.{Csv, Jsonl}
 use Rattle.pgn_extract.specs.declared.rows.column.Row.{Row}
 use Rattle.pgn_extract.specs.declared.settings.EntryLine.TheVariants.{Marked}
 use Rattle.pgn_extract.specs.declared.settings.Mode.TheVariants as modes
@@ -277,11 +277,14 @@ positions_of_games request no_sets no_drops = (
 -- and lines where they are, none of them twice
 abbrev no_lines_written : List ℕ
 no_lines_written = codes
-    "pgn-extract: --lines goes with none of --index, --rows, --pack, --as-is, --faulty, --others, --from-position and -V, and without --list with none of --criteria, --where, --min-ply and --openings\n"
+    "pgn-extract: --lines goes with none of --index, --others, --faulty, --pack, --as-is, --from-position and -V\n"
 
-abbrev no_lines_listed : List ℕ
-no_lines_listed = codes
-    "pgn-extract: --list --lines goes with none of --fen, --next, --first and --packed\n"
+abbrev no_lines_in_packs : List ℕ
+no_lines_in_packs = codes "pgn-extract: --lines goes without --packed: packs have no variations\n"
+
+abbrev no_lines_searched : List ℕ
+no_lines_searched = codes
+    "pgn-extract: --lines goes with --criteria, --where, --min-ply and --openings only beside --list and --rows; else search what --lines wrote\n"
 
 lines_of_games : (request : Request) (path : Bor (List ℕ)) → request.conditions.items ≡ []
     → request.sets.items ≡ [] → request.drops.items ≡ []
@@ -289,19 +292,17 @@ lines_of_games : (request : Request) (path : Bor (List ℕ)) → request.conditi
     × IsTaken (record (plain request) { lines = true; moves = true; criteria = None })
     × IsTaken (record (plain request) { lines = true; uci = true; criteria = None })
     × IsTaken (record (plain request) { lines = true; list = true; criteria = Some path })
-    × RefusedWith (record (plain request) { lines = true; list = true; fen = true })
-    no_lines_listed
-    × RefusedWith (record (plain request) { lines = true; list = true; first = true })
-    no_lines_listed
+    × IsTaken (record (plain request) { lines = true; list = true; fen = true; first = true })
+    × IsTaken (record (plain request) { lines = true; rows = Some path; min_ply = 1 })
     × RefusedWith (record (plain request) { lines = true; list = true; packed = true })
-    no_lines_listed
+    no_lines_in_packs
     × RefusedWith (record (plain request) { lines = true; index = true }) no_lines_written
     × RefusedWith (record (plain request) { lines = true; pack = true }) no_lines_written
     × RefusedWith (record (plain request) { lines = true; faulty = true }) no_lines_written
     × RefusedWith (record (plain request) { lines = true; others = true }) no_lines_written
-    × RefusedWith (record (plain request) { lines = true; min_ply = 1 }) no_lines_written
-    × RefusedWith (record (plain request) { lines = true; criteria = Some path }) no_lines_written
-    × RefusedWith (record (plain request) { lines = true; openings = Some path }) no_lines_written
+    × RefusedWith (record (plain request) { lines = true; min_ply = 1 }) no_lines_searched
+    × RefusedWith (record (plain request) { lines = true; criteria = Some path }) no_lines_searched
+    × RefusedWith (record (plain request) { lines = true; openings = Some path }) no_lines_searched
     × RefusedWith (record (plain request) { lines = true; from_position = true; criteria = None })
     no_lines_written
     × RefusedWith (record (plain request) { lines = true; no_variations = true; criteria = None })
@@ -311,8 +312,8 @@ lines_of_games request path none no_sets no_drops = (
   rw (none, no_sets, no_drops) refl,
   rw (none, no_sets, no_drops) refl,
   rw (no_sets, no_drops) refl,
-  refl,
-  refl,
+  rw (no_sets, no_drops) refl,
+  rw (no_sets, no_drops) refl,
   refl,
   refl,
   refl,

@@ -1,6 +1,7 @@
 -- Worked examples of rows: cells, strings and members as they are written, names and numbers.
 use Rattle.std.proofs.Common.{◌≡◌, ◌≤◌, ◌++◌, ℕ, List, [], ◌∷◌, true, false, inl, inr, refl}
 use Rattle.std.proofs.Common.{ap, arith, drop, length, Bor}
+use Rattle.pgn_extract.specs.Public.Listing.{line_field}
 use Rattle.std.specs.Prelude.{bytes_eq, codes, decimal, Option, Some, None, ◌==◌}
 use Rattle.std.specs.List.{slice_get}
 use Rattle.chess.specs.Public.Fen.{IsFen}
@@ -20,7 +21,7 @@ use Rattle.pgn_extract.specs.Public.Csv as csv
 use Rattle.pgn_extract.specs.Public.GivenMarks.{game_id}
 use Rattle.pgn_extract.specs.Public.Json as json
 use Rattle.pgn_extract.specs.Public.PositionCells.{IsMenText, IsCheckText, counted_letter}
-use Rattle.pgn_extract.specs.Public.Rows.{RowPlace, IsGameCell, IsLineCell, IsMoveCell, IsPlyCell}
+use Rattle.pgn_extract.specs.Public.Rows.{RowPlace, IsGameCell, IsLineCell, IsMoveIn, IsPlyCell}
 use Rattle.pgn_extract.specs.Public.Rows.{IsOpeningCell, IsTagCell, opening_cell, row_text}
 use Rattle.pgn_extract.specs.Public.Tsv as tsv
 use Rattle.pgn_extract.specs.declared.rows.column.AnnotationColumn.TheVariants.{Nags, Comment}
@@ -29,6 +30,7 @@ use Rattle.pgn_extract.specs.declared.rows.column.Column.TheVariants.{OfGame, Of
 use Rattle.pgn_extract.specs.declared.rows.column.Format.TheVariants.{Csv, Tsv, Jsonl}
 use Rattle.pgn_extract.specs.declared.rows.column.GameColumn.TheVariants.{File, Game, Offset, Id}
 use Rattle.pgn_extract.specs.declared.rows.column.GameColumn.TheVariants.{Result, OpeningPly}
+use Rattle.pgn_extract.specs.declared.rows.column.GameColumn.TheVariants.{Line, From}
 use Rattle.pgn_extract.specs.declared.rows.column.LineColumn.TheVariants.{Plies, Last, Moves}
 use Rattle.pgn_extract.specs.declared.rows.column.PlyColumn.TheVariants.{Ply, OfPosition, Next}
 use Rattle.pgn_extract.specs.declared.rows.column.PlyColumn.TheVariants.{NextUci, OfLine}
@@ -80,11 +82,12 @@ names : column_name (OfGame File) ∷ column_name (OfGame Game) ∷ column_name 
     ∷ column_name (OfPly (OfPosition Material)) ∷ column_name (OfPly NextUci)
     ∷ column_name (OfAnnotations Nags) ∷ column_name (OfAnnotations Comment)
     ∷ column_name (OfAnnotations Clock) ∷ column_name (OfAnnotations Eval)
-    ∷ column_name (OfGame OpeningPly) ∷ []
+    ∷ column_name (OfGame OpeningPly) ∷ column_name (OfGame Line) ∷ column_name (OfGame From) ∷ []
     ≡ codes "@file" ∷ codes "@game" ∷ codes "@offset" ∷ codes "@id" ∷ codes "@result"
     ∷ codes "@ply" ∷ codes "@fen" ∷ codes "@turn" ∷ codes "@number" ∷ codes "@next"
     ∷ codes "@placement" ∷ codes "@check" ∷ codes "@material" ∷ codes "@next-uci"
-    ∷ codes "@nags" ∷ codes "@comment" ∷ codes "@clk" ∷ codes "@eval" ∷ codes "@opening-ply" ∷ []
+    ∷ codes "@nags" ∷ codes "@comment" ∷ codes "@clk" ∷ codes "@eval" ∷ codes "@opening-ply"
+    ∷ codes "@line" ∷ codes "@from" ∷ []
 names = refl
 
 numbers : is_number_column (OfGame File) ∷ is_number_column (OfGame Game)
@@ -96,9 +99,10 @@ numbers : is_number_column (OfGame File) ∷ is_number_column (OfGame Game)
     ∷ is_number_column (OfPly (OfPosition Material)) ∷ is_number_column (OfPly NextUci)
     ∷ is_number_column (OfAnnotations Nags) ∷ is_number_column (OfAnnotations Comment)
     ∷ is_number_column (OfAnnotations Clock) ∷ is_number_column (OfAnnotations Eval)
-    ∷ is_number_column (OfGame OpeningPly) ∷ []
+    ∷ is_number_column (OfGame OpeningPly) ∷ is_number_column (OfGame Line)
+    ∷ is_number_column (OfGame From) ∷ []
     ≡ false ∷ true ∷ true ∷ false ∷ false ∷ true ∷ false ∷ false ∷ true ∷ false ∷ false ∷ false
-    ∷ false ∷ false ∷ false ∷ false ∷ false ∷ false ∷ false ∷ []
+    ∷ false ∷ false ∷ false ∷ false ∷ false ∷ false ∷ false ∷ true ∷ true ∷ []
 numbers = refl
 
 -- what columns show of the second game, which begins at the byte 22
@@ -107,6 +111,7 @@ second_game tags name replay = record {
   name = name;
   openings = None;
   id = game_id 2 22;
+  line = None;
   heading = record { named = tags; result = codes "1-0" };
   items = [];
   replay = replay;
@@ -121,6 +126,20 @@ game_cells : (tags : List ℕ → Option (List ℕ)) (replay : Replay)
     × IsGameCell Id other (decimal 2 ++ 64 ∷ decimal 22)
     × IsGameCell Result other (codes "1-0") × IsGameCell OpeningPly other []
 game_cells tags replay = (refl, refl, refl, refl, refl, refl, (None, refl, refl))
+
+-- what columns show of its third variation, which leaves its line after four plies: no result
+line_cells : (tags : List ℕ → Option (List ℕ)) (replay : Replay)
+    → let main = second_game tags None replay in
+    let third = record main { line = Some (record { number = 3; from = 4 }) } in
+    IsGameCell Line main (decimal 0) × IsGameCell From main (decimal 0)
+    × IsGameCell Line third (decimal 3) × IsGameCell From third (decimal 4)
+    × IsGameCell Result third (codes "*") × (IsGameCell Result third (codes "1-0") → ⊥)
+line_cells tags replay = (refl, refl, refl, refl, refl, λ is. cc)
+
+-- an entry of it has its number, and one of a main line has none where lines are not listed
+line_fields : line_field (Some (record { number = 3; from = 4 })) ∷ line_field None ∷ []
+    ≡ (32 ∷ decimal 3) ∷ [] ∷ []
+line_fields = refl
 
 -- the ply of an opening, and not the place of its line
 opening_cells : opening_cell None ∷ opening_cell (Some (record { ply = 7; line = 2 })) ∷ []
@@ -141,7 +160,7 @@ no_value_of_no_tag : IsTagCell None (codes "x") → ⊥
 no_value_of_no_tag is = cc
 
 no_move_at_the_end : (replay : Replay) (ply : ℕ) → slice_get replay.played ply ≡ None
-    → IsMoveCell replay ply (codes "-") → ⊥
+    → IsMoveIn San replay ply (codes "-") → ⊥
 no_move_at_the_end replay ply ends is = let none : codes "-" ≡ [] = rw ends at is in cc
 
 no_uci_at_the_end : (replay : Replay) (ply : ℕ) → slice_get replay.played ply ≡ None

@@ -23,6 +23,7 @@ use Rattle.pgn_extract.specs.declared.rows.column.Column.TheVariants.{OfAnnotati
 use Rattle.pgn_extract.specs.declared.rows.column.GameColumn.{GameColumn}
 use Rattle.pgn_extract.specs.declared.rows.column.GameColumn.TheVariants.{File, Game, Offset, Id}
 use Rattle.pgn_extract.specs.declared.rows.column.GameColumn.TheVariants.{Result, OpeningPly}
+use Rattle.pgn_extract.specs.declared.rows.column.GameColumn.TheVariants.{Line, From}
 use Rattle.pgn_extract.specs.declared.rows.column.LineColumn.TheVariants.{Plies, Last, Moves}
 use Rattle.pgn_extract.specs.declared.rows.column.PlyColumn.{PlyColumn}
 use Rattle.pgn_extract.specs.declared.rows.column.PlyColumn.TheVariants.{Ply, OfPosition, Next}
@@ -40,6 +41,8 @@ game_name_is_low Offset = refl
 game_name_is_low Id = refl
 game_name_is_low Result = refl
 game_name_is_low OpeningPly = refl
+game_name_is_low Line = refl
+game_name_is_low From = refl
 
 ply_name_is_low : (own : PlyColumn) → list_all is_low (ply_column_name own) ≡ true
 ply_name_is_low Ply = refl

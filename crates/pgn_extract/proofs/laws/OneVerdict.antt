@@ -18,12 +18,13 @@ use Rattle.pgn_game.proofs.GameLineFacts.{one_game_line}
 use Rattle.pgn_game.proofs.SomeRecord.{one_spelling}
 use Rattle.pgn_extract.proofs.ChoiceFacts.{by_both, by_choice}
 use Rattle.pgn_extract.proofs.Chosen.{one_chosen}
-use Rattle.pgn_extract.specs.Public.Listing.{AfterPly, IsShownOf}
-use Rattle.pgn_extract.specs.Public.LineListing.{AreLineListings, AreOwnListed, ListsEachLine}
+use Rattle.pgn_extract.specs.Public.Listing.{IsShownOf}
+use Rattle.pgn_extract.specs.Public.GameReports.{AreListed}
+use Rattle.pgn_extract.specs.Public.LineListing.{AreLineListings, ListsEachLine, aim_in}
+use Rattle.pgn_extract.specs.Public.LineListing.{listed_game}
 use Rattle.pgn_game.specs.Public.LineGames.{LineGame, lines_of}
-use Rattle.pgn_game.specs.Public.SearchedLines.{as_searched, own_ply}
 use Rattle.pgn_game.proofs.Spelling.{one_tree}
-use Rattle.std.specs.Prelude.{◌≤◌, ◌++◌, decimal}
+use Rattle.std.specs.Prelude.{◌++◌}
 use Rattle.pgn_extract.specs.Public.Rows.{place_of}
 use Rattle.pgn_extract.proofs.ShownTexts.{one_shown}
 use Rattle.pgn_extract.proofs.Counting.{one_counted}
@@ -81,7 +82,7 @@ one_lines : (aim : Aim) (id : GameId) (game : GameText) (replay : Replay) (x y :
 one_lines aim id game replay x y (xs, these, first) (ys, those, second) =
     first ∙ ap (listing aim.name)
     (one_chosen id (IsEntry aim (heading_of game) replay) (IsShownOf aim id game replay)
-    (λ ply. one_shown aim.line (place_of aim.name aim.openings id game replay ply))
+    (λ ply. one_shown aim.line (place_of aim.name aim.openings id aim.of_line game replay ply))
     (plies_of 0 replay.positions)
     xs ys these those) ∙ sym second
 
@@ -93,16 +94,16 @@ one_own aim id game number [] x y is also = is ∙ sym also
 one_own aim id game number (line ∷ more) x y
     (own, rest, parted, (replay, is, entries, these, text), later)
     (own2, rest2, split, (other, also, entries2, those, text2), others) =
-    let least = own_ply line in
+    let own_aim = aim_in aim number line in
+    let listed = listed_game game number line in
     let same : other ≡ replay =
-    one_replay Main (tag_in fen_tag game.tags) (as_searched game line).elements other replay also is
-    in
-    let one = one_chosen id (λ ply. (least ≤ ply) × IsEntry aim (heading_of game) replay ply)
-    (λ ply shown. shown ≡ AfterPly (32 ∷ decimal number))
-    (λ ply a b first second. first ∙ sym second)
+    one_replay Main (tag_in fen_tag game.tags) listed.elements other replay also is in
+    let one = one_chosen id (IsEntry own_aim (heading_of game) replay)
+    (IsShownOf own_aim id listed replay)
+    (λ ply. one_shown aim.line
+    (place_of aim.name aim.openings id own_aim.of_line listed replay ply))
     (plies_of 0 replay.positions) entries entries2 these
-    (subst (λ (r : Replay). AreOwnListed aim id (heading_of game) number least r entries2) same
-    those) in
+    (subst (λ (r : Replay). AreListed own_aim id listed r entries2) same those) in
     parted ∙ ap (λ t. t ++ rest) (text ∙ ap (listing aim.name) one ∙ sym text2)
     ∙ ap (λ t. own2 ++ t) (one_own aim id game (number + 1) more rest rest2 later others)
     ∙ sym split

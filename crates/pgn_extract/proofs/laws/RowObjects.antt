@@ -22,6 +22,7 @@ use Rattle.pgn_extract.specs.declared.rows.column.Column.TheVariants.{OfAnnotati
 use Rattle.pgn_extract.specs.declared.rows.column.Format.TheVariants.{Jsonl}
 use Rattle.pgn_extract.specs.declared.rows.column.GameColumn.TheVariants.{File, Game, Offset, Id}
 use Rattle.pgn_extract.specs.declared.rows.column.GameColumn.TheVariants.{Result, OpeningPly}
+use Rattle.pgn_extract.specs.declared.rows.column.GameColumn.TheVariants.{Line, From}
 use Rattle.pgn_extract.specs.declared.rows.column.LineColumn.TheVariants.{Plies, Last, Moves}
 use Rattle.pgn_extract.specs.declared.rows.column.PlyColumn.TheVariants.{Ply, OfPosition, Next}
 use Rattle.pgn_extract.specs.declared.rows.column.PlyColumn.TheVariants.{NextUci, OfLine}
@@ -70,6 +71,8 @@ cell_is_sound (OfGame Offset) place cell has is = is_int_of place.id.offset cell
 cell_is_sound (OfGame Id) place cell has is = refl
 cell_is_sound (OfGame Result) place cell has is = refl
 cell_is_sound (OfGame OpeningPly) place cell has is = refl
+cell_is_sound (OfGame Line) place cell has is = is_int_of _ cell has.line is
+cell_is_sound (OfGame From) place cell has is = is_int_of _ cell has.from is
 cell_is_sound (OfPly Ply) place cell has is = is_int_of place.ply cell has.ply is
 cell_is_sound (OfPly (OfPosition Fen)) place cell has is = refl
 cell_is_sound (OfPly (OfPosition Turn)) place cell has is = refl

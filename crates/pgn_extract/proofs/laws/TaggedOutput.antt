@@ -14,11 +14,10 @@ use Rattle.pgn_extract.proofs.Common.{IsGameReported, IsGameVerdict, IsVerdictIn
 use Rattle.pgn_extract.proofs.Common.{AreEntryLines, without_note, output_of}
 use Rattle.pgn_extract.proofs.Common.{output_text, Aim, GameId, IsEntry, IsRuledOut, id_of}
 use Rattle.pgn_extract.proofs.Common.{is_chosen, Mode}
-use Rattle.pgn_extract.specs.Public.Listing.{AfterPly, IsShownOf}
-use Rattle.pgn_extract.specs.Public.LineListing.{AreLineListings, ListsEachLine}
+use Rattle.pgn_extract.specs.Public.Listing.{IsShownOf}
+use Rattle.pgn_extract.specs.Public.LineListing.{AreLineListings, ListsEachLine, aim_in}
+use Rattle.pgn_extract.specs.Public.LineListing.{listed_game}
 use Rattle.pgn_game.specs.Public.LineGames.{LineGame, lines_of}
-use Rattle.pgn_game.specs.Public.SearchedLines.{own_ply}
-use Rattle.std.specs.Prelude.{◌≤◌, decimal}
 use Rattle.pgn_extract.specs.Public.Laws.{TagsFirstChangesNoOutput, with_tags_first}
 use Rattle.pgn_extract.proofs.ChoiceFacts.{by_both}
 use Rattle.pgn_extract.proofs.Counting.{one_counted}
@@ -40,10 +39,12 @@ module _ (aim : Aim) (id : GameId) (game : GameText) (out : IsRuledOut aim (head
   no_own number [] text none = none
   no_own number (line ∷ more) text
       (own, rest, parted, (replay, is, entries, these, listed), later) =
-      let nothing = chosen_none id
-      (λ ply. (own_ply line ≤ ply) × IsEntry aim (heading_of game) replay ply)
-      (λ ply shown. shown ≡ AfterPly (32 ∷ decimal number))
-      (λ ply both. no_entry aim (heading_of game) replay ply out both.1)
+      let own_aim = aim_in aim number line in
+      let own_out : IsRuledOut own_aim (heading_of game) =
+      record { asked = out.asked; select = out.select; no_chance = out.no_chance } in
+      let nothing = chosen_none id (IsEntry own_aim (heading_of game) replay)
+      (IsShownOf own_aim id (listed_game game number line) replay)
+      (λ ply. no_entry own_aim (heading_of game) replay ply own_out)
       (plies_of 0 replay.positions) entries these in
       parted ∙ ap (λ t. t ++ rest) (listed ∙ ap (listing aim.name) nothing)
       ∙ no_own (number + 1) more rest later

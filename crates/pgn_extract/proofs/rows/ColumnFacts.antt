@@ -23,6 +23,7 @@ use Rattle.pgn_extract.specs.Public.Columns.{AreColumns, game_column_name, is_of
 use Rattle.pgn_extract.specs.declared.rows.column.GameColumn.{GameColumn}
 use Rattle.pgn_extract.specs.declared.rows.column.GameColumn.TheVariants.{File, Game, Offset, Id}
 use Rattle.pgn_extract.specs.declared.rows.column.GameColumn.TheVariants.{Result, OpeningPly}
+use Rattle.pgn_extract.specs.declared.rows.column.GameColumn.TheVariants.{Line, From}
 use Rattle.pgn_extract.proofs.Common.{cases_Bool}
 
 pub no_element : (name : List ℕ) → Contains [] name → ⊥
@@ -69,6 +70,8 @@ no_other None name other none = by
     by Offset is = none Offset refl is
     by Id is = none Id refl is
     by Result is = none Result refl is
+    by Line is = none Line refl is
+    by From is = none From refl is
     by OpeningPly is = other is
 
 -- one more name at the end

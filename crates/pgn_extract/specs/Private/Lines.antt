@@ -10,7 +10,7 @@ use Rattle.pgn_game.specs.Public.Replays.{Replay, IsReplay, IsSoundGame}
 use Rattle.pgn_game.specs.Public.Starts.{fen_tag}
 use Rattle.pgn_game.specs.declared.replays.replayer.Lines.TheVariants.{Main}
 use Rattle.pgn_criteria.specs.Public.Meeting.{heading_of}
-use Rattle.pgn_extract.specs.Public.Aims.{Aim, GameId, IsMet, IsWanted, IsEntry, aim_of}
+use Rattle.pgn_extract.specs.Public.Aims.{Aim, GameId, LineId, IsMet, IsWanted, IsEntry, aim_of}
 use Rattle.pgn_extract.specs.Public.GameReports.{plies_of, AreChosen, AreListed}
 use Rattle.pgn_extract.specs.Public.Listing.{Entry, Shown, AreFields, IsShownOf}
 use Rattle.pgn_extract.specs.Public.Listing.{shown_line, is_plain, IsFenField, IsNextField}
@@ -26,6 +26,7 @@ use Rattle.pgn_extract.specs.declared.settings.EntryLine.{EntryLine}
 use Rattle.pgn_extract.specs.declared.settings.EntryLine.TheVariants.{Marked, InColumns}
 use Rattle.pgn_extract.specs.declared.settings.Fields.{Fields}
 use Rattle.pgn_extract.specs.declared.settings.Settings.{Settings}
+use Rattle.pgn_extract.specs.declared.entries.Search.{Search}
 use Rattle.pgn_extract.specs.declared.entries.finding.Finder.{Finder}
 use Rattle.pgn_extract.specs.Private.Finding.{IsOfGame, named_mark}
 use Rattle.pgn_extract.specs.Private.AnnotationLists.{lists_in}
@@ -108,29 +109,35 @@ ShowsNext asked shown aim game before P =
 
 -- the lines that a maker makes
 abbrev pub made_line : LineMaker → EntryLine
-made_line (maker.Fields fields) = Marked fields
+made_line (maker.Fields fields own) = Marked fields
 made_line (maker.Rows rows) = InColumns rows.row.now
+
+-- and the line of a game that they are of, where each line is listed
+abbrev pub line_made : LineMaker → Option LineId
+line_made (maker.Fields fields own) = own
+line_made (maker.Rows rows) = rows.line
 
 -- it makes those of this game under this name and by these lines of openings
 abbrev pub MakesLines : LineMaker → Option (List ℕ) → Option (List NamedLine) → GameId → GameText
     → Type 0
-MakesLines (maker.Fields fields) name openings id game = Unit {0}
+MakesLines (maker.Fields fields own) name openings id game = Unit {0}
 MakesLines (maker.Rows rows) name openings id game = MakesRows rows name openings id game
 
 -- a line that shows these columns is enough for it
 abbrev pub IsEnoughFor : (PlyColumn → Type 0) → LineMaker → Type 0
-IsEnoughFor Shows (maker.Fields fields) =
+IsEnoughFor Shows (maker.Fields fields own) =
     (fields.fen ≡ true → Shows (OfPosition Fen)) × (fields.next ≡ true → Shows Next)
 IsEnoughFor Shows (maker.Rows rows) = EachColumn Shows rows.parts.items
 
 -- the whole main line is kept for it
 abbrev pub keeps_line : LineMaker → Bool
-keeps_line (maker.Fields fields) = false
+keeps_line (maker.Fields fields own) = false
 keeps_line (maker.Rows rows) = need_line rows.parts.items
 
 -- it makes what the aim asks for
 pub record Makes (lines : LineMaker) (aim : Aim) (id : GameId) (game : GameText) : Type 0 where
   pub line : aim.line ≡ made_line lines
+  pub of_line : aim.of_line ≡ line_made lines
   pub of_game : MakesLines lines aim.name aim.openings id game
 
 -- this is shown there
@@ -203,8 +210,10 @@ pub record Finds (aim : Aim) (id : GameId) (game : GameText) (Got : List Entry �
 abbrev pub aim_with : Finder → Option (List ℕ) → Option (List NamedLine) → Aim
 aim_with finder name openings =
     record (aim_of finder.settings.now) {
+      min_ply = finder.least;
       first = finder.first;
       line = made_line finder.lines;
+      of_line = line_made finder.lines;
       name = name;
       openings = openings;
     }
@@ -254,12 +263,19 @@ first_ply (Some ply) entries = Some ply
 first_ply None [] = None
 first_ply None (entry ∷ more) = Some entry.ply
 
--- it looks for what is asked of the game, and makes the lines of it; that it is sound may be known
-pub record IsFinderOf (asked : Settings) (id : GameId) (game : GameText) (known : Bool)
+-- of a line of a game the plies from a least one on are looked for
+abbrev pub aim_at : Aim → Option LineId → ℕ → Aim
+aim_at aim line least = record aim { of_line = line; min_ply = least }
+
+-- it looks for what is asked of the game, or of a line of one, and makes the lines of it; that it
+-- is sound may be known
+pub record IsFinderOf (asked : Settings) (id : GameId) (game : GameText) (search : Search)
     (finder : Finder) : Type 0 where
   pub settings : finder.settings.now ≡ asked
+  pub least : finder.least ≡ search.least
   pub first : finder.first ≡ asked.first
   pub line : asked.line ≡ made_line finder.lines
+  pub of_line : search.line ≡ line_made finder.lines
   pub makes : MakesLines finder.lines asked.name asked.openings id game
   pub mark : finder.mark.items ≡ named_mark asked.name id
-  pub sound : finder.is_sound ≡ known
+  pub sound : finder.is_sound ≡ search.is_sound

@@ -1,6 +1,6 @@
 -- The lines of a packed game: in the mode of the index its mark, else those of the entries of the
 -- text that it was packed from.
-use Rattle.std.specs.Prelude.{◌≡◌, ◌<◌, ◌++◌, ℕ, List, length, Some, None, ◌==◌, ◌/◌, ◌%◌, false}
+use Rattle.std.specs.Prelude.{◌≡◌, ◌<◌, ◌++◌, ℕ, List, length, Some, ◌==◌, ◌/◌, ◌%◌, false}
 use Rattle.std.specs.List.{slice_get}
 use Rattle.chess.specs.Public.Positions.{State}
 use Rattle.chess.specs.Public.Start.{initial}
@@ -16,7 +16,7 @@ use Rattle.pgn_criteria.specs.Public.Walks.{Sight, IsSightOf}
 use Rattle.pgn_extract.specs.Public.Aims.{Aim, GameId, IsWanted, IsEntry, aim_of}
 use Rattle.pgn_extract.specs.declared.settings.EntryLine.TheVariants.{Marked}
 use Rattle.pgn_extract.specs.declared.settings.Settings.{Settings}
-use Rattle.pgn_extract.specs.Private.Lines.{NoneBefore, made_line}
+use Rattle.pgn_extract.specs.Private.Lines.{NoneBefore, line_made, made_line}
 use Rattle.pgn_extract.specs.declared.entries.line_maker.LineMaker.{LineMaker}
 use Rattle.pgn_extract.specs.Public.GameReports.{AreListed}
 use Rattle.pgn_extract.specs.Public.Listing.{CountsAs, Entry, listing}
@@ -65,7 +65,8 @@ record_aim aim raw = record aim { name = raw.name }
 
 -- what the settings ask for, with the lines that are made; and with the mark and the ply alone
 abbrev pub aim_making : Settings → LineMaker → Aim
-aim_making settings lines = record (aim_of settings) { line = made_line lines }
+aim_making settings lines =
+    record (aim_of settings) { line = made_line lines; of_line = line_made lines }
 
 abbrev pub bare_aim : Settings → Aim
 bare_aim settings =

@@ -15,6 +15,7 @@ use Rattle.pgn_extract.specs.Public.Tsv as tsv
 use Rattle.pgn_extract.specs.Private.AnnotationLists.{annotation_value, lists_in}
 use Rattle.pgn_extract.specs.Private.Finding.{IsOfGame}
 use Rattle.pgn_extract.specs.declared.marks.GameId.{GameId}
+use Rattle.pgn_extract.specs.declared.marks.LineId.{LineId}
 use Rattle.pgn_extract.specs.declared.entries.row_maker.PartColumn.{PartColumn}
 use Rattle.pgn_extract.specs.declared.entries.row_maker.PartColumn.TheVariants as kind
 use Rattle.pgn_extract.specs.declared.entries.row_maker.RowMaker.{RowMaker}
@@ -173,22 +174,22 @@ filled (part ∷ parts) (value ∷ values) last =
 -- whatever the plies of the game show, the parts and what stands after them make the cells of these
 -- columns
 abbrev pub MakesCells : Format → List (List Item) → List Column → List RowPart → List ℕ
-    → Option (List ℕ) → Option (List NamedLine) → GameId → GameText → Type 0
-MakesCells format lists columns parts last name openings id game =
+    → Option (List ℕ) → Option (List NamedLine) → GameId → Option LineId → GameText → Type 0
+MakesCells format lists columns parts last name openings id line game =
     (replay : Replay) → IsOfGame game replay → (ply : ℕ) (values : List (List ℕ))
     → ArePartTexts format lists (columns_of parts) replay ply values
     → (cells : List (List ℕ))
-    × AreCells columns (place_of name openings id game replay ply) cells
+    × AreCells columns (place_of name openings id line game replay ply) cells
     × (filled parts values last ≡ front format ++ cells_text format columns cells)
 
 -- the same of all that stands before the end of a row
 abbrev pub MakesRow : Format → List (List Item) → List Column → List RowPart → List ℕ
-    → Option (List ℕ) → Option (List NamedLine) → GameId → GameText → Type 0
-MakesRow format lists columns parts last name openings id game =
+    → Option (List ℕ) → Option (List NamedLine) → GameId → Option LineId → GameText → Type 0
+MakesRow format lists columns parts last name openings id line game =
     (replay : Replay) → IsOfGame game replay → (ply : ℕ) (values : List (List ℕ))
     → ArePartTexts format lists (columns_of parts) replay ply values
     → (cells : List (List ℕ))
-    × AreCells columns (place_of name openings id game replay ply) cells
+    × AreCells columns (place_of name openings id line game replay ply) cells
     × (filled parts values last
     ≡ front format ++ (cells_text format columns cells ++ back format))
 
@@ -197,7 +198,7 @@ abbrev pub MakesRows : RowMaker → Option (List ℕ) → Option (List NamedLine
     → Type 0
 MakesRows maker name openings id game =
     MakesRow maker.row.now.format (lists_in maker.annotations) maker.row.now.columns.items
-    maker.parts.items maker.last.items name openings id game
+    maker.parts.items maker.last.items name openings id maker.line game
 
 -- the quotes around the value of a column of the ply
 abbrev pub quote_text : Format → Bool → List ℕ
@@ -210,6 +211,7 @@ part_quote format (kind.OfAnnotations own) = []
 -- a part ends with a column of the ply: its value stands between quotes where it is quoted
 pub record EndsPart (old new : RowMaker) (column : PartColumn) : Type 0 where
   pub row : new.row.now ≡ old.row.now
+  pub line : new.line ≡ old.line
   pub annotations : new.annotations ≡ old.annotations
   pub part : RowPart
   pub of_column : part.column ≡ column
@@ -219,15 +221,15 @@ pub record EndsPart (old new : RowMaker) (column : PartColumn) : Type 0 where
 
 -- the cell of a column follows, whatever the ply of the game shows
 abbrev pub AddsCell : RowMaker → RowMaker → Option (List ℕ) → Option (List NamedLine) → GameId
-    → GameText → Column → Type 0
-AddsCell old new name openings id game column =
+    → Option LineId → GameText → Column → Type 0
+AddsCell old new name openings id line game column =
     (replay : Replay) → IsOfGame game replay → (ply : ℕ) (values : List (List ℕ))
     → ArePartTexts old.row.now.format (lists_in old.annotations) (columns_of new.parts.items) replay
     ply values
     → (before : List (List ℕ)) × (cell : List ℕ)
     × ArePartTexts old.row.now.format (lists_in old.annotations) (columns_of old.parts.items) replay
     ply before
-    × IsCell column (place_of name openings id game replay ply) cell
+    × IsCell column (place_of name openings id line game replay ply) cell
     × (filled new.parts.items values new.last.items
     ≡ filled old.parts.items before old.last.items
     ++ keyed_text old.row.now.format column cell)

@@ -14,12 +14,15 @@ use Rattle.pgn_extract.specs.declared.settings.Select.{Select}
 use Rattle.pgn_extract.specs.declared.settings.Select.TheVariants.{Matching}
 use Rattle.pgn_extract.specs.declared.settings.Settings.{Settings}
 pub use Rattle.pgn_extract.specs.declared.marks.GameId.{GameId}
+pub use Rattle.pgn_extract.specs.declared.marks.LineId.{LineId}
 
 -- what is to be reported of each piece, and the name that its lines have, if they have one; where
 -- marks are chosen, nothing is of the pieces that have none of them; where lines of openings are
--- given, a game counts with the tags of its opening; the criteria are alternatives of conditions
+-- given, a game counts with the tags of its opening; the criteria are alternatives of conditions;
+-- where each line of a game is listed, entries are of one of them
 pub record Aim : Type 0 where
   pub name : Option (List ℕ)
+  pub of_line : Option LineId
   pub chosen : Option (List GameId)
   pub openings : Option (List NamedLine)
   pub mode : Mode
@@ -39,6 +42,7 @@ pub record Aim : Type 0 where
 abbrev pub aim_of : Settings → Aim
 aim_of settings = record {
   name = settings.name;
+  of_line = None;
   chosen = settings.chosen;
   openings = settings.openings;
   mode = settings.mode;

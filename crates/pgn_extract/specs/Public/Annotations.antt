@@ -16,12 +16,8 @@ abbrev pub main_items : List Item → ℕ → List Item
 main_items [] depth = []
 main_items (VariationOpen ∷ items) depth = main_items items (depth + 1)
 main_items (VariationClose ∷ items) depth = main_items items (depth - 1)
-main_items (MoveText word ∷ items) depth =
-    if depth == 0 then MoveText word ∷ main_items items depth else main_items items depth
-main_items (GlyphNumber number ∷ items) depth =
-    if depth == 0 then GlyphNumber number ∷ main_items items depth else main_items items depth
-main_items (CommentText text ∷ items) depth =
-    if depth == 0 then CommentText text ∷ main_items items depth else main_items items depth
+main_items (item ∷ items) depth =
+    if depth == 0 then item ∷ main_items items depth else main_items items depth
 
 -- elements parted at the moves: those before the first move, those between it and the second, and
 -- so on to those after the last
@@ -32,10 +28,7 @@ in_first item (own ∷ more) = (item ∷ own) ∷ more
 abbrev pub parted_at_moves : List Item → List (List Item)
 parted_at_moves [] = [] ∷ []
 parted_at_moves (MoveText word ∷ items) = [] ∷ parted_at_moves items
-parted_at_moves (GlyphNumber number ∷ items) = in_first (GlyphNumber number) (parted_at_moves items)
-parted_at_moves (CommentText text ∷ items) = in_first (CommentText text) (parted_at_moves items)
-parted_at_moves (VariationOpen ∷ items) = in_first VariationOpen (parted_at_moves items)
-parted_at_moves (VariationClose ∷ items) = in_first VariationClose (parted_at_moves items)
+parted_at_moves (item ∷ items) = in_first item (parted_at_moves items)
 
 -- the annotations of each ply of a game with these elements, from ply 0 on
 abbrev pub annotation_lists : List Item → List (List Item)

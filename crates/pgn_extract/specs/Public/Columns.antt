@@ -8,6 +8,7 @@ use Rattle.pgn_text.specs.Public.Bytes.{is_name_byte}
 use Rattle.pgn_extract.specs.declared.rows.column.GameColumn.{GameColumn}
 use Rattle.pgn_extract.specs.declared.rows.column.GameColumn.TheVariants.{File, Game, Offset, Id}
 use Rattle.pgn_extract.specs.declared.rows.column.GameColumn.TheVariants.{Result, OpeningPly}
+use Rattle.pgn_extract.specs.declared.rows.column.GameColumn.TheVariants.{Line, From}
 use Rattle.pgn_extract.specs.declared.rows.column.LineColumn.{LineColumn}
 use Rattle.pgn_extract.specs.declared.rows.column.LineColumn.TheVariants.{Plies, Last, Moves}
 use Rattle.pgn_extract.specs.declared.rows.column.AnnotationColumn.{AnnotationColumn}
@@ -32,6 +33,8 @@ game_column_name Offset = codes "@offset"
 game_column_name Id = codes "@id"
 game_column_name Result = codes "@result"
 game_column_name OpeningPly = codes "@opening-ply"
+game_column_name Line = codes "@line"
+game_column_name From = codes "@from"
 
 abbrev pub position_column_name : PositionColumn → List ℕ
 position_column_name Fen = codes "@fen"
@@ -72,6 +75,8 @@ column_name (column.OfAnnotations own) = annotation_column_name own
 abbrev pub is_number_of_game : GameColumn → Bool
 is_number_of_game Game = true
 is_number_of_game Offset = true
+is_number_of_game Line = true
+is_number_of_game From = true
 is_number_of_game _ = false
 
 abbrev pub is_number_of_position : PositionColumn → Bool
@@ -80,21 +85,18 @@ is_number_of_position _ = false
 
 abbrev pub is_number_of_line : LineColumn → Bool
 is_number_of_line Plies = true
-is_number_of_line (Last notation) = false
-is_number_of_line (Moves notation) = false
+is_number_of_line _ = false
 
 abbrev pub is_number_of_ply : PlyColumn → Bool
 is_number_of_ply Ply = true
 is_number_of_ply (OfPosition own) = is_number_of_position own
-is_number_of_ply Next = false
-is_number_of_ply NextUci = false
 is_number_of_ply (OfLine own) = is_number_of_line own
+is_number_of_ply _ = false
 
 abbrev pub is_number_column : Column → Bool
-is_number_column (column.Tag name) = false
 is_number_column (column.OfGame own) = is_number_of_game own
 is_number_column (column.OfPly own) = is_number_of_ply own
-is_number_column (column.OfAnnotations own) = false
+is_number_column _ = false
 
 -- the column shows annotations, which no pack has
 abbrev pub shows_annotations : Column → Bool

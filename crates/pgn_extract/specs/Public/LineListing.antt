@@ -1,6 +1,7 @@
 -- The listing of each line of a game: of its main line, and of its variations in the order of the
 -- text.
-use Rattle.std.specs.Prelude.{◌≡◌, ◌≤◌, ◌+◌, ℕ, List, [], ◌∷◌, ◌++◌, decimal}
+use Rattle.std.specs.Prelude.{◌≡◌, ◌+◌, ◌-◌, ℕ, zero, suc, List, [], ◌∷◌, ◌++◌, Some, max}
+use Rattle.pgn_text.specs.Public.Games.{Item}
 use Rattle.pgn_text.specs.Public.GameTexts.{GameText}
 use Rattle.pgn_text.specs.Public.Marks.{MarkedPiece, PieceKind, ReadableGame, TooLongBlock}
 use Rattle.pgn_text.specs.Public.Marks.{UnreadableRest}
@@ -10,25 +11,40 @@ use Rattle.pgn_game.specs.Public.Faults.{Fault}
 use Rattle.pgn_game.specs.Public.Replays.{Replay}
 use Rattle.pgn_game.specs.Public.SearchedLines.{as_searched, own_ply}
 use Rattle.pgn_game.specs.declared.replays.replayer.Lines.TheVariants.{All, Main}
-use Rattle.pgn_criteria.specs.Public.Meeting.{Heading, heading_of}
-use Rattle.pgn_extract.specs.Public.Aims.{Aim, GameId, IsEntry}
+use Rattle.pgn_extract.specs.Public.Aims.{Aim, GameId, LineId}
 use Rattle.pgn_extract.specs.Public.Choices.{IfChosen, id_of, is_chosen}
-use Rattle.pgn_extract.specs.Public.GameReports.{AreChosen, IsFaultOf, IsReplayOf, plies_of}
-use Rattle.pgn_extract.specs.Public.Listing.{AfterPly, Entry, IsCounted, listing}
+use Rattle.pgn_extract.specs.Public.GameReports.{AreListed, IsFaultOf, IsReplayOf}
+use Rattle.pgn_extract.specs.Public.Listing.{Entry, IsCounted, listing}
 
--- the entries of a line with this number and this replay, of a game with this heading: the plies
--- from its first own one on that are listed, each shown with the number
-abbrev pub AreOwnListed : Aim → GameId → Heading → ℕ → ℕ → Replay → List Entry → Type 0
-AreOwnListed aim id heading number least replay entries =
-    AreChosen id (λ ply. (least ≤ ply) × IsEntry aim heading replay ply)
-    (λ ply shown. shown ≡ AfterPly (32 ∷ decimal number)) (plies_of 0 replay.positions) entries
+-- the elements of the line with this number, of those of the main line, which has the number 0, and
+-- of a variation
+abbrev pub listed_items : ℕ → List Item → List Item → List Item
+listed_items zero main own = main
+listed_items (suc n) main own = own
+
+-- the line with this number as a game: a variation has the moves that lead to it
+abbrev pub listed_game : GameText → ℕ → LineGame → GameText
+listed_game game number line = record game {
+  elements = listed_items number game.elements (as_searched game line).elements;
+}
+
+-- which line of its game it is
+abbrev pub line_id : ℕ → LineGame → LineId
+line_id number line = record { number = number; from = own_ply line - 1 }
+
+-- what is asked of the line with this number: of its plies those from its first own one on
+abbrev pub aim_in : Aim → ℕ → LineGame → Aim
+aim_in aim number line = record aim {
+  of_line = Some (line_id number line);
+  min_ply = max aim.min_ply (own_ply line);
+}
 
 -- the text is the lines of the entries of a line of the game, which has this number in it
 abbrev pub IsLineListing : Aim → GameId → GameText → ℕ → LineGame → List ℕ → Type 0
 IsLineListing aim id game number line text =
-    (replay : Replay) × IsReplayOf Main (as_searched game line) replay
+    (replay : Replay) × IsReplayOf Main (listed_game game number line) replay
     × (entries : List Entry)
-    × AreOwnListed aim id (heading_of game) number (own_ply line) replay entries
+    × AreListed (aim_in aim number line) id (listed_game game number line) replay entries
     × (text ≡ listing aim.name entries)
 
 -- the same of lines in a row, which are numbered from a number on

@@ -2,7 +2,7 @@
 -- mark of its game.
 use Rattle.std.specs.Prelude.{◌≡◌, nat_le, List, length, Option, None, MatchOption, false, codes}
 use Rattle.std.specs.Prelude.{decimal, ◌↔◌, ◌⊎◌, ℕ, ◌+◌, ◌<◌, [], ◌∷◌, ◌++◌, Some, Bool, true}
-use Rattle.std.specs.Prelude.{not, ◌&&◌}
+use Rattle.std.specs.Prelude.{not, ◌&&◌, option_map, unwrap_or}
 use Rattle.std.specs.List.{Contains, filter, list_any, slice_get}
 use Rattle.chess.specs.Public.Fen.{IsFen}
 use Rattle.chess.specs.Public.Positions.{State}
@@ -15,7 +15,7 @@ use Rattle.pgn_game.specs.Public.Openings.{NamedLine, IsClassified}
 use Rattle.pgn_game.specs.Public.Replays.{Replay, IsMainReplay}
 use Rattle.pgn_game.specs.Public.Starts.{fen_tag}
 use Rattle.pgn_criteria.specs.Public.Meeting.{heading_of}
-use Rattle.pgn_extract.specs.Public.Aims.{Aim, GameId, IsEntry}
+use Rattle.pgn_extract.specs.Public.Aims.{Aim, GameId, LineId, IsEntry}
 use Rattle.pgn_extract.specs.Public.Choices.{is_chosen}
 use Rattle.pgn_extract.specs.Public.Columns.{shows_annotations, shows_opening}
 use Rattle.pgn_extract.specs.Public.Index.{mark, titled}
@@ -91,17 +91,23 @@ abbrev pub has_opening : EntryLine → Bool
 has_opening (Marked fields) = false
 has_opening (InColumns row) = list_any shows_opening row.columns.items
 
+-- what is shown of the line that an entry is of, where each line of a game is listed: a blank, and
+-- its number
+abbrev pub line_field : Option LineId → List ℕ
+line_field line = unwrap_or (option_map (λ own. 32 ∷ decimal own.number) line) []
+
 -- what the line of an entry shows of its place
 abbrev pub IsShownBy : EntryLine → RowPlace → Shown → Type 0
 IsShownBy (Marked fields) place shown =
-    (text : List ℕ) × AreFields fields place.replay place.ply text × (shown ≡ AfterPly text)
+    (text : List ℕ) × AreFields fields place.replay place.ply text
+    × (shown ≡ AfterPly (line_field place.line ++ text))
 IsShownBy (InColumns row) place shown =
     (text : List ℕ) × IsRow row place text × (shown ≡ AsRow text)
 
 -- what is shown of a ply of the main line of a game
 abbrev pub IsShownOf : Aim → GameId → GameText → Replay → ℕ → Shown → Type 0
 IsShownOf aim id game replay ply shown =
-    IsShownBy aim.line (place_of aim.name aim.openings id game replay ply) shown
+    IsShownBy aim.line (place_of aim.name aim.openings id aim.of_line game replay ply) shown
 
 -- the game is the one that these parts make, read by itself
 abbrev pub IsGameOf : List Part → GameText → Type 0

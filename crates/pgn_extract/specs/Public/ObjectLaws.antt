@@ -10,7 +10,7 @@ use Rattle.pgn_text.specs.Public.Bytes.{is_byte}
 use Rattle.pgn_extract.specs.Public.Columns.{AreColumns, column_name}
 use Rattle.pgn_extract.specs.Public.Json.{Member, text_of}
 use Rattle.pgn_extract.specs.Public.Objects.{ReadsObject, ReadsObjects}
-use Rattle.pgn_extract.specs.Public.Rows.{RowPlace, AreCells, members, row_text}
+use Rattle.pgn_extract.specs.Public.Rows.{RowPlace, AreCells, line_or_main, members, row_text}
 use Rattle.pgn_extract.specs.declared.rows.column.Column.{Column}
 use Rattle.pgn_extract.specs.declared.rows.column.Format.TheVariants.{Jsonl}
 
@@ -40,6 +40,8 @@ read_members columns cells = map as_read (members columns cells)
 pub record HasNumbers (place : RowPlace) : Type 0 where
   pub number : place.id.number < 2 ^ 64
   pub offset : place.id.offset < 2 ^ 64
+  pub line : (line_or_main place.line).number < 2 ^ 64
+  pub from : (line_or_main place.line).from < 2 ^ 64
   pub ply : place.ply < 2 ^ 64
   pub plies : length place.replay.played < 2 ^ 64
   pub moves : (position : State) → slice_get place.replay.positions place.ply ≡ Some position

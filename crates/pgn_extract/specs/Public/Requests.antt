@@ -33,11 +33,15 @@ use Rattle.pgn_extract.specs.declared.settings.Select.TheVariants.{Matching, Oth
 
 -- What is asked for.
 
--- what is written: a list, of each line or of main lines, an index, or games
+-- entries are listed, each on a line with its mark or as a row
+abbrev pub lists : Request → Bool
+lists request = request.list || is_some request.rows
+
+-- what is written: entries, of each line or of main lines, an index, or games
 abbrev pub asked_mode : Request → Mode
 asked_mode request =
-    if request.list && request.lines then modes.EachLine
-    else (if request.list || is_some request.rows then modes.List
+    if lists request && request.lines then modes.EachLine
+    else (if lists request then modes.List
     else (if request.index then modes.Index else modes.Export))
 
 -- which games are written
@@ -106,6 +110,7 @@ HasItsLines request row =
 abbrev pub asked : Bool → Request → Given → Aim
 asked noted request given = record {
   name = None;
+  of_line = None;
   chosen = given.chosen;
   openings = given.openings;
   mode = asked_mode request;
@@ -223,7 +228,7 @@ file_refusals request =
 
 -- something else is asked for than games in the standard's form
 abbrev pub asks_no_form : Request → Bool
-asks_no_form request = (request.list || request.index || is_some request.rows)
+asks_no_form request = (request.index || lists request)
     || (request.moves || request.uci || request.pack || request.as_is) || request.faulty
 
 -- the refusals of edits where no tags are written, those of commands, and those of files
@@ -251,33 +256,29 @@ asks_of_games request = nat_lt 0 request.min_ply || is_some request.openings
 
 -- something is asked for that no lines are written or listed with
 abbrev pub asks_no_lines : Request → Bool
-asks_no_lines request = (request.index || is_some request.rows || request.others)
-    || (request.pack || request.as_is || request.faulty)
+asks_no_lines request = (request.index || request.others || request.faulty)
+    || (request.pack || request.as_is)
     || (request.from_position || request.no_variations)
 
--- the refusals of more than plies, and of packs, where the lines of games are listed, and those of
--- edits and files
-abbrev pub line_list_refusals : Request → List Refusal
-line_list_refusals request =
-    record {
-      applies = request.list && request.lines
-          && (request.fen || request.next || request.first || request.packed);
-      line = codes
-          "pgn-extract: --list --lines goes with none of --fen, --next, --first and --packed\n";
-    }
-    ∷ edit_refusals request
-
--- the refusals of lines beside another form or, where they are not listed, a search of games, those
--- of lists of lines, those of edits, and those of files
+-- the refusals of lines beside another form, in packs, and beside a search where they are not
+-- listed, those of edits, and those of files
 abbrev pub line_refusals : Request → List Refusal
 line_refusals request =
     record {
-      applies = request.lines
-          && (asks_no_lines request || not request.list && asks_of_games request);
+      applies = request.lines && asks_no_lines request;
       line = codes
-          "pgn-extract: --lines goes with none of --index, --rows, --pack, --as-is, --faulty, --others, --from-position and -V, and without --list with none of --criteria, --where, --min-ply and --openings\n";
+          "pgn-extract: --lines goes with none of --index, --others, --faulty, --pack, --as-is, --from-position and -V\n";
     }
-    ∷ line_list_refusals request
+    ∷ record {
+      applies = request.lines && request.packed;
+      line = codes "pgn-extract: --lines goes without --packed: packs have no variations\n";
+    }
+    ∷ record {
+      applies = request.lines && not (lists request) && asks_of_games request;
+      line = codes
+          "pgn-extract: --lines goes with --criteria, --where, --min-ply and --openings only beside --list and --rows; else search what --lines wrote\n";
+    }
+    ∷ edit_refusals request
 
 -- the refusals of tags that come first, those of lines and edits, and those of files
 abbrev pub search_refusals : Request → List Refusal

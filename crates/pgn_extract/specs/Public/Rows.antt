@@ -1,6 +1,7 @@
 -- A row: what is shown of a ply of a game where columns are asked for.
 use Rattle.std.specs.Prelude.{◌≡◌, ℕ, zero, suc, List, [], ◌∷◌, Option, Some, None, MatchOption}
-use Rattle.std.specs.Prelude.{decimal, drop, length, map}
+use Rattle.std.specs.Prelude.{codes, decimal, drop, if◌then◌else◌, length, map, nat_lt, option_map}
+use Rattle.std.specs.Prelude.{unwrap_or}
 use Rattle.std.specs.List.{slice_get}
 use Rattle.chess.specs.Public.Fen.{IsFen, side_text}
 use Rattle.chess.specs.Public.Positions.{State}
@@ -23,6 +24,7 @@ use Rattle.pgn_extract.specs.Public.Annotations.{annotations_at, IsAnnotationCel
 use Rattle.pgn_extract.specs.Public.PositionCells.{IsMenText, IsCheckText, material_text}
 use Rattle.pgn_extract.specs.Public.Tsv as tsv
 use Rattle.pgn_extract.specs.declared.marks.GameId.{GameId}
+use Rattle.pgn_extract.specs.declared.marks.LineId.{LineId}
 use Rattle.pgn_extract.specs.declared.rows.column.Column.{Column}
 use Rattle.pgn_extract.specs.declared.rows.column.Column.TheVariants.{Tag, OfGame, OfPly}
 use Rattle.pgn_extract.specs.declared.rows.column.Column.TheVariants.{OfAnnotations}
@@ -31,6 +33,7 @@ use Rattle.pgn_extract.specs.declared.rows.column.Format.TheVariants.{Csv, Tsv, 
 use Rattle.pgn_extract.specs.declared.rows.column.GameColumn.{GameColumn}
 use Rattle.pgn_extract.specs.declared.rows.column.GameColumn.TheVariants.{File, Game, Offset, Id}
 use Rattle.pgn_extract.specs.declared.rows.column.GameColumn.TheVariants.{Result, OpeningPly}
+use Rattle.pgn_extract.specs.declared.rows.column.GameColumn.TheVariants.{Line, From}
 use Rattle.pgn_extract.specs.declared.rows.column.LineColumn.{LineColumn}
 use Rattle.pgn_extract.specs.declared.rows.column.LineColumn.TheVariants.{Plies, Last, Moves}
 use Rattle.pgn_extract.specs.declared.rows.column.PlyColumn.{PlyColumn}
@@ -42,22 +45,25 @@ use Rattle.pgn_extract.specs.declared.rows.column.PositionColumn.TheVariants.{Me
 use Rattle.pgn_extract.specs.declared.rows.column.Row.{Row}
 
 -- what a row is made of: the name of the file where lines have one, the lines of openings where
--- they are given, the mark of the game, its heading and its elements, and a ply of its replay
+-- they are given, the mark of the game, which line of it the row is of, where each line is listed,
+-- its heading and its elements, and a ply of its replay
 pub record RowPlace : Type 0 where
   pub name : Option (List ℕ)
   pub openings : Option (List NamedLine)
   pub id : GameId
+  pub line : Option LineId
   pub heading : Heading
   pub items : List Item
   pub replay : Replay
   pub ply : ℕ
 
-abbrev pub place_of : Option (List ℕ) → Option (List NamedLine) → GameId → GameText → Replay → ℕ
-    → RowPlace
-place_of name openings id game replay ply = record {
+abbrev pub place_of : Option (List ℕ) → Option (List NamedLine) → GameId → Option LineId → GameText
+    → Replay → ℕ → RowPlace
+place_of name openings id line game replay ply = record {
   name = name;
   openings = openings;
   id = id;
+  line = line;
   heading = heading_of game;
   items = game.elements;
   replay = replay;
@@ -66,13 +72,11 @@ place_of name openings id game replay ply = record {
 
 -- the value of a tag with these contents, and nothing where the game has none
 abbrev pub IsTagCell : Option (List ℕ) → List ℕ → Type 0
-IsTagCell None cell = cell ≡ []
-IsTagCell (Some contents) cell = IsValueOf contents cell
+IsTagCell contents cell = MatchOption contents (cell ≡ []) (λ text. IsValueOf text cell)
 
 -- the name of the file, and nothing where lines have none
 abbrev pub name_cell : Option (List ℕ) → List ℕ
-name_cell None = []
-name_cell (Some name) = name
+name_cell name = unwrap_or name []
 
 -- that is the opening of a game with these positions by the lines that are given, or it has none;
 -- without lines it has none
@@ -82,13 +86,20 @@ IsOpeningBy (Some lines) positions opening = IsOpeningIn (ends_of lines) positio
 
 -- the ply at which the line of an opening ends, and nothing where there is none
 abbrev pub opening_cell : Option Opening → List ℕ
-opening_cell None = []
-opening_cell (Some opening) = decimal opening.ply
+opening_cell opening = unwrap_or (option_map (λ own. decimal own.ply) opening) []
 
 abbrev pub IsOpeningCell : Option (List NamedLine) → List State → List ℕ → Type 0
 IsOpeningCell openings positions cell =
     (opening : Option Opening) × IsOpeningBy openings positions opening
     × (cell ≡ opening_cell opening)
+
+-- the line of a row: where lines are not listed, the main line
+abbrev pub line_or_main : Option LineId → LineId
+line_or_main line = unwrap_or line (record { number = 0; from = 0 })
+
+-- the result of a line of a game with this result: a variation has none
+abbrev pub result_in : LineId → List ℕ → List ℕ
+result_in line result = if nat_lt 0 line.number then codes "*" else result
 
 -- what a column shows of the game
 abbrev pub IsGameCell : GameColumn → RowPlace → List ℕ → Type 0
@@ -96,7 +107,9 @@ IsGameCell File place cell = cell ≡ name_cell place.name
 IsGameCell Game place cell = cell ≡ decimal place.id.number
 IsGameCell Offset place cell = cell ≡ decimal place.id.offset
 IsGameCell Id place cell = cell ≡ mark place.id
-IsGameCell Result place cell = cell ≡ place.heading.result
+IsGameCell Result place cell = cell ≡ result_in (line_or_main place.line) place.heading.result
+IsGameCell Line place cell = cell ≡ decimal (line_or_main place.line).number
+IsGameCell From place cell = cell ≡ decimal (line_or_main place.line).from
 IsGameCell OpeningPly place cell = IsOpeningCell place.openings place.replay.positions cell
 
 -- the position after so many plies has the fact
@@ -109,9 +122,6 @@ abbrev pub IsMoveIn : Notation → Replay → ℕ → List ℕ → Type 0
 IsMoveIn notation replay ply cell =
     MatchOption (slice_get replay.played ply) (cell ≡ [])
     (λ m. IsAt replay ply (λ position. IsMoveText notation position m cell))
-
-abbrev pub IsMoveCell : Replay → ℕ → List ℕ → Type 0
-IsMoveCell replay ply cell = IsMoveIn San replay ply cell
 
 -- the move that led to the ply, and nothing at the start
 abbrev pub IsLastCell : Notation → Replay → ℕ → List ℕ → Type 0
@@ -132,8 +142,7 @@ IsLineCell (Moves notation) replay ply cell = AreMovesCell notation replay cell
 
 -- that move as `--uci` writes it
 abbrev pub uci_cell : Option Move → List ℕ
-uci_cell None = []
-uci_cell (Some m) = uci_text m
+uci_cell move = unwrap_or (option_map uci_text move) []
 
 -- what a column shows of a position
 abbrev pub IsPositionCell : PositionColumn → State → List ℕ → Type 0
@@ -149,7 +158,7 @@ abbrev pub IsPlyCell : PlyColumn → Replay → ℕ → List ℕ → Type 0
 IsPlyCell Ply replay ply cell = cell ≡ decimal ply
 IsPlyCell (OfPosition own) replay ply cell =
     IsAt replay ply (λ position. IsPositionCell own position cell)
-IsPlyCell Next replay ply cell = IsMoveCell replay ply cell
+IsPlyCell Next replay ply cell = IsMoveIn San replay ply cell
 IsPlyCell NextUci replay ply cell = cell ≡ uci_cell (slice_get replay.played ply)
 IsPlyCell (OfLine own) replay ply cell = IsLineCell own replay ply cell
 

@@ -203,7 +203,8 @@ const MODES: &[Choice] = &[
          tags, and @file @game @offset @id @ply @fen @placement\n\
          @turn @number @check @material @next @next-uci @last\n\
          @last-uci @nags @comment @clk @eval @result @plies\n\
-         @moves @uci @opening-ply, with commas between",
+         @moves @uci @line @from @opening-ply, with commas\n\
+         between",
     ),
     choice!("csv", "With --rows, values with commas between [default]"),
     choice!("tsv", "With --rows, values with tabs between"),
@@ -362,8 +363,9 @@ const EDITS: &[Choice] = &[
         "lines",
         "Write each line of a game as a game of its own: the\n\
          main line, and each variation after the moves that\n\
-         lead to it, without a result; with --list, list the\n\
-         positions of each line, with its number after P",
+         lead to it, without a result; with --list or --rows\n\
+         the positions of each line, once each, and in a list\n\
+         the line's number after P",
     ),
 ];
 

@@ -23,7 +23,7 @@ use std::io::Write;
 use strsim::levenshtein;
 
 /// The names of the columns that are no tags.
-const OWN_NAMES: [&str; 24] = [
+const OWN_NAMES: [&str; 26] = [
     "@file",
     "@game",
     "@offset",
@@ -39,6 +39,8 @@ const OWN_NAMES: [&str; 24] = [
     "@next-uci",
     "@result",
     "@opening-ply",
+    "@line",
+    "@from",
     "@last",
     "@last-uci",
     "@plies",

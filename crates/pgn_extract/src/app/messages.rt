@@ -50,13 +50,17 @@ pub const NO_TAGS_WRITTEN: &str =
 /// Games that have no position that is looked for begin with none.
 pub const NO_POSITION: &str = "pgn-extract: --from-position and --others exclude each other\n";
 
-/// Lines are listed, or written in the standard's form alone, each as a game, with no search.
+/// Lines are listed, or written as games or on lines of moves.
 pub const LINES_ARE_GAMES: &str =
-    "pgn-extract: --lines goes with none of --index, --rows, --pack, --as-is, --faulty, --others, --from-position and -V, and without --list with none of --criteria, --where, --min-ply and --openings\n";
+    "pgn-extract: --lines goes with none of --index, --others, --faulty, --pack, --as-is, --from-position and -V\n";
 
-/// The entries of each line of a game are listed bare, and a record has one line.
-pub const LINES_ARE_LISTED_BARE: &str =
-    "pgn-extract: --list --lines goes with none of --fen, --next, --first and --packed\n";
+/// A record has one line.
+pub const PACKS_HAVE_ONE_LINE: &str =
+    "pgn-extract: --lines goes without --packed: packs have no variations\n";
+
+/// The lines of all games are written.
+pub const NO_LINES_SEARCHED: &str =
+    "pgn-extract: --lines goes with --criteria, --where, --min-ply and --openings only beside --list and --rows; else search what --lines wrote\n";
 
 /// Commands are kept whole, and left out.
 pub const BOTH_COMMANDS: &str =

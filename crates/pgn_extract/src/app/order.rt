@@ -4,7 +4,7 @@ ghost use Rattle.pgn_extract.specs.Public.Aims.{aim_of};
 ghost use Rattle.pgn_extract.specs.Public.GivenMarks.{IsGameMark};
 ghost use Rattle.pgn_extract.specs.Private.Lines.{is_bare};
 ghost use Rattle.pgn_extract.specs.Public.Requests.{asks_no_lines, asks_of_games};
-ghost use Rattle.pgn_extract.specs.Public.Requests.{line_list_refusals};
+ghost use Rattle.pgn_extract.specs.Public.Requests.{lists};
 ghost use Rattle.pgn_extract.specs.Public.Requests.{asked, asked_form, asked_mode, asked_select};
 ghost use Rattle.pgn_extract.specs.Public.Requests.{asked_commands, asked_style, asks_names};
 ghost use Rattle.pgn_extract.specs.Public.Requests.{bad_mark, begin_of, edit_refusals, end_of};
@@ -166,27 +166,19 @@ fn refused_searches(request: &Request<'_>) -> Option<&'static str>
     refused_lines(request)
 }
 
-/// The line that refuses lines as games beside another form or a search of games; or what lists of
-/// lines are refused with, edits of tags, or the options of files.
+/// The line that refuses lines beside another form, in packs, and beside a search where they are
+/// not listed; or edits of tags, or the options of files.
 fn refused_lines(request: &Request<'_>) -> Option<&'static str>
     ensures { option_map (λ line. line.now) result ≡ first_line (line_refusals request.now) }
 {
-    let is_searched = !request.list & asks_of_games(request);
-    if request.lines & (asks_no_lines(request) | is_searched) {
+    if request.lines & asks_no_lines(request) {
         return Some(messages::LINES_ARE_GAMES);
     }
-    refused_lists_of_lines(request)
-}
-
-/// The line that refuses more than plies, and packs, where the lines of games are listed; or edits
-/// of tags, or the options of files.
-fn refused_lists_of_lines(request: &Request<'_>) -> Option<&'static str>
-    ensures { option_map (λ line. line.now) result
-        ≡ first_line (line_list_refusals request.now) }
-{
-    let has_more = request.fen | request.next | request.first | request.packed;
-    if request.list & request.lines & has_more {
-        return Some(messages::LINES_ARE_LISTED_BARE);
+    if request.lines & request.packed {
+        return Some(messages::PACKS_HAVE_ONE_LINE);
+    }
+    if request.lines & !lists(request) & asks_of_games(request) {
+        return Some(messages::NO_LINES_SEARCHED);
     }
     refused_edits(request)
 }
@@ -196,7 +188,7 @@ fn refused_lists_of_lines(request: &Request<'_>) -> Option<&'static str>
 fn refused_edits(request: &Request<'_>) -> Option<&'static str>
     ensures { option_map (λ line. line.now) result ≡ first_line (edit_refusals request.now) }
 {
-    let has_mode = request.list | request.index | request.rows.is_some();
+    let has_mode = request.index | lists(request);
     let has_form = request.moves | request.uci | request.pack | request.as_is;
     let is_changed = is_edited(request) | request.from_position;
     if is_changed & (has_mode | has_form | request.faulty) {
@@ -242,9 +234,9 @@ fn asks_of_games(request: &Request<'_>) -> bool
 fn asks_no_lines(request: &Request<'_>) -> bool
     ensures { result ≡ asks_no_lines request.now }
 {
-    let has_mode = request.index || request.rows.is_some() || request.others;
-    let has_form = request.pack || request.as_is || request.faulty;
-    has_mode || has_form || request.from_position || request.no_variations
+    let has_choice = request.index || request.others || request.faulty;
+    let has_form = request.pack || request.as_is;
+    has_choice || has_form || request.from_position || request.no_variations
 }
 
 /// Whether something is asked for that no game can be left out of by its tags, or of packs.
@@ -278,13 +270,20 @@ pub fn has_names(request: &Request<'_>) -> bool
     request.with_names || (request.files.len() > 1 && !request.no_names)
 }
 
+/// Whether entries are listed, each on a line with its mark or as a row.
+fn lists(request: &Request<'_>) -> bool
+    ensures { result ≡ lists request.now }
+{
+    request.list || request.rows.is_some()
+}
+
 /// What the run writes.
 fn mode_of(request: &Request<'_>) -> Mode
     ensures { result ≡ asked_mode request.now }
 {
-    if request.list && request.lines {
+    if lists(request) && request.lines {
         Mode::EachLine
-    } else if request.list || request.rows.is_some() {
+    } else if lists(request) {
         Mode::List
     } else if request.index {
         Mode::Index

@@ -25,7 +25,7 @@ ghost use Rattle.pgn_text.specs.Public.GameTexts.{tag_in};
 use crate::engine::exporting::{exports_all, push_faulty, put_selected, written_lines};
 use crate::entries::each_line::push_each_line;
 use crate::entries::listing::push_plies;
-use crate::entries::{GameContext, is_ruled_out, lists_none, push_entries};
+use crate::entries::{GameContext, Search, is_ruled_out, lists_none, push_entries};
 use crate::explain::move_notes::{GamePlace, push_game_note};
 use crate::explain::notes::{Origin, Spot, push_stop_note, push_too_long_note};
 use crate::explain::players::push_players;
@@ -205,7 +205,12 @@ fn push_listed<'a>(
     if context.settings.line.is_bare() && context.settings.criteria.is_none() {
         return push_counted(text, context, game);
     }
-    push_entries(text, context, game, false)
+    push_entries(
+        text,
+        context,
+        game,
+        Search::of_game(context.settings, false),
+    )
 }
 
 /// Appends the lines of the entries of a game that is sound, and whose main line has so many plies.
@@ -223,7 +228,7 @@ fn push_of_sound<'a>(
     if context.settings.line.is_bare() && context.settings.criteria.is_none() {
         return push_plies(text, context, plies);
     }
-    match push_entries(text, context, game, true) {
+    match push_entries(text, context, game, Search::of_game(context.settings, true)) {
         Ok(()) => Ok(()),
         Err(fault) => Err(fault.refused()),
     }

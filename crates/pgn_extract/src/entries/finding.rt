@@ -13,12 +13,13 @@ use crate::entries::line_maker::LineMaker;
 use crate::entries::sink::Sink;
 use crate::settings::Settings;
 
-/// What is looked for in a main line: plies within the bounds of settings that meet the criteria,
-/// or only the first of them; what is shown of each entry, and what its line begins with. The main
-/// line may be known to be sound.
+/// What is looked for in a main line: plies from a least one up to the bound of settings that meet
+/// the criteria, or only the first of them; what is shown of each entry, and what its line begins
+/// with. The main line may be known to be sound.
 #[derive(Drop)]
 pub(crate) struct Finder<'s> {
     pub(crate) settings: &'s Settings,
+    pub(crate) least: usize,
     pub(crate) first: bool,
     pub(crate) lines: LineMaker<'s>,
     pub(crate) mark: Vec<u8>,
@@ -42,7 +43,7 @@ impl<'s> Finder<'s> {
         if !is_open || ply > self.settings.max_ply as usize {
             return Ok(false);
         }
-        if ply < (self.settings.min_ply as usize) || !line.is_met() {
+        if ply < self.least || !line.is_met() {
             return Ok(true);
         }
         sink.put(&self.mark, line, &self.lines)?;

@@ -1,19 +1,21 @@
 //! How the lines of the entries of a game are made.
 ghost use Rattle.std.specs.Prelude.{◌≡◌, true, IfOk};
-ghost use Rattle.pgn_extract.specs.Private.Lines.{MakesLines, made_line, keeps_line};
+ghost use Rattle.pgn_extract.specs.Private.Lines.{MakesLines, keeps_line, line_made, made_line};
 ghost use Rattle.pgn_extract.specs.Private.RowGames.{IsGameIn, name_of, openings_of, is_text};
 ghost use Rattle.pgn_extract.specs.Public.Listing.{has_annotations};
 ghost use Rattle.pgn_text.specs.Public.GameTexts.{GameText};
 
 use crate::entries::row_game::RowGame;
 use crate::entries::row_maker::RowMaker;
+use crate::marks::LineId;
 use crate::settings::{EntryLine, Fields};
 use std::alloc::{AllocError, Global};
 
-/// What is shown of an entry: something after its mark and its ply, or a row.
+/// What is shown of an entry: something after its mark and its ply, where lines are listed first
+/// the number of its line, or a row.
 #[derive(Drop)]
 pub(crate) enum LineMaker<'s> {
-    Fields(Fields),
+    Fields(Fields, Option<LineId>),
     Rows(RowMaker<'s>),
 }
 
@@ -23,7 +25,7 @@ impl<'s> LineMaker<'s> {
         ensures { result ≡ keeps_line self.now }
     {
         match self {
-            LineMaker::Fields(_) => false,
+            LineMaker::Fields(..) => false,
             LineMaker::Rows(rows) => rows.needs_line(),
         }
     }
@@ -36,12 +38,13 @@ impl<'s> LineMaker<'s> {
     ) -> Result<Self, AllocError>
         requires { has_annotations line.now ≡ true → is_text game.source ≡ true }
         ensures { IfOk result (λ lines. (line.now ≡ made_line lines)
+            × (game.entry.line ≡ line_made lines)
             × ((text : GameText) → IsGameIn game.entry.source text
             → MakesLines lines (name_of game.entry) (openings_of game.entry.source) game.entry.id
             text)) }
     {
         match line {
-            EntryLine::Marked(fields) => Ok(LineMaker::Fields(*fields)),
+            EntryLine::Marked(fields) => Ok(LineMaker::Fields(*fields, game.line)),
             EntryLine::InColumns(row) => Ok(LineMaker::Rows(RowMaker::of_game(alloc, row, game)?)),
         }
     }

@@ -10,7 +10,7 @@ ghost use Rattle.pgn_text.specs.Public.GameTexts.{GameText, tag_in};
 ghost use Rattle.pgn_text.specs.Public.Strings.{IsContents};
 
 use crate::entries::GameContext;
-use crate::marks::GameId;
+use crate::marks::{GameId, LineId};
 use crate::packed::PackedFault;
 use crate::packed::kept_packed::record_opening;
 use crate::settings::Settings;
@@ -35,6 +35,8 @@ pub(crate) struct RowGame<'g, 'a> {
     pub(crate) name: Option<&'g [u8]>,
     /// Which game it is.
     pub(crate) id: GameId,
+    /// Which line of it, where each of its lines is listed.
+    pub(crate) line: Option<LineId>,
     /// Where its tags, its result and its opening are read.
     pub(crate) source: GameSource<'g, 'a>,
 }
@@ -50,10 +52,15 @@ fn given_openings(settings: &Settings) -> Option<&Openings>
 }
 
 impl<'g, 'a> RowGame<'g, 'a> {
-    /// A game in a text.
-    pub(crate) fn in_text(context: GameContext<'g>, game: &'g RawGame<'a>) -> Self
+    /// A game in a text, or a line of one as a game.
+    pub(crate) fn in_text(
+        context: GameContext<'g>,
+        line: Option<LineId>,
+        game: &'g RawGame<'a>,
+    ) -> Self
         ensures name { name_of result ≡ context.entry.settings.now.name }
         ensures id { result.id ≡ context.entry.own }
+        ensures line { result.line ≡ line }
         ensures openings { openings_of result.source ≡ context.entry.settings.now.openings }
         ensures source { IsGameIn result.source game.now }
         ensures text { is_text result.source ≡ true }
@@ -64,6 +71,7 @@ impl<'g, 'a> RowGame<'g, 'a> {
                 None => None,
             },
             id: context.own,
+            line,
             source: GameSource::Text(game, given_openings(context.settings)),
         }
     }
@@ -72,6 +80,7 @@ impl<'g, 'a> RowGame<'g, 'a> {
     pub(crate) fn in_pack(settings: &'g Settings, record: &'g RawRecord<'a>) -> Self
         ensures name { name_of result ≡ record.now.name }
         ensures id { result.id ≡ raw_id record.now }
+        ensures line { result.line ≡ None }
         ensures openings { openings_of result.source ≡ settings.now.openings }
         ensures source { EachOfRecord record.now (λ game replay packed.
             IsGameIn result.source game) }
@@ -82,6 +91,7 @@ impl<'g, 'a> RowGame<'g, 'a> {
                 number: record.number(),
                 offset: record.offset(),
             },
+            line: None,
             source: GameSource::Record(record, given_openings(settings)),
         }
     }

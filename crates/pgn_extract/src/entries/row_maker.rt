@@ -11,7 +11,7 @@ ghost use Rattle.pgn_extract.specs.Private.RowTexts.{IsShownWith};
 ghost use Rattle.pgn_extract.specs.Public.Annotations.{annotation_lists};
 ghost use Rattle.pgn_extract.specs.Public.Columns.{is_number_of_ply, shows_annotations};
 ghost use Rattle.pgn_extract.specs.Public.Rows.{IsGameCell, IsOpeningCell, IsTagCell};
-ghost use Rattle.pgn_extract.specs.Public.Rows.{place_of};
+ghost use Rattle.pgn_extract.specs.Public.Rows.{line_or_main, place_of, result_in};
 ghost use Rattle.pgn_extract.specs.Private.Finding.{IsOfGame};
 ghost use Rattle.pgn_game.specs.Public.Replays.{Replay};
 ghost use Rattle.pgn_text.specs.Public.GameTexts.{GameText, tag_in};
@@ -22,6 +22,7 @@ ghost use Rattle.pgn_game.specs.Public.Starts.{IsValueOf};
 use crate::entries::annotations::{Annotations, push_annotation_value};
 use crate::entries::line::Line;
 use crate::entries::row_game::{GameSource, RowGame};
+use crate::marks::LineId;
 use crate::output::texts::{push_mark, push_number};
 use crate::rows::column::{AnnotationColumn, Column, Format, GameColumn, PlyColumn, Row};
 use crate::rows::format::{end_row, push_gap, push_key, push_value};
@@ -45,12 +46,13 @@ pub(crate) struct RowPart {
     pub(crate) column: PartColumn,
 }
 
-/// The rows of a game: the columns, the annotations where a column shows them, the parts with a
-/// value of the ply each, and what stands after them.
+/// The rows of a game, or of a line of it: the columns, the annotations where a column shows them,
+/// the parts with a value of the ply each, and what stands after them.
 #[derive(Drop)]
 pub(crate) struct RowMaker<'s> {
     pub(crate) alloc: Global,
     pub(crate) row: &'s Row,
+    pub(crate) line: Option<LineId>,
     pub(crate) annotations: Annotations<'s>,
     pub(crate) parts: Vec<RowPart>,
     pub(crate) last: Vec<u8>,
@@ -108,6 +110,27 @@ fn put_opening_ply(
     }
 }
 
+/// The line of the game; the main line where lines are not listed.
+fn line_of(game: RowGame<'_, '_>) -> LineId
+    ensures { result ≡ line_or_main game.entry.line }
+{
+    match game.line {
+        Some(line) => line,
+        None => LineId { number: 0, from: 0 },
+    }
+}
+
+/// The result of the line of the game: a variation has none.
+fn result_of<'a>(game: RowGame<'_, 'a>) -> &'a [u8]
+    ensures { (text : GameText) → IsGameIn game.entry.source text
+        → result.now ≡ result_in (line_or_main game.entry.line) text.result }
+{
+    if line_of(game).number > 0 {
+        return b"*";
+    }
+    game.source.result()
+}
+
 /// Makes what a column shows of the game.
 fn put_game_value(
     own: &mut Vec<u8>,
@@ -118,7 +141,7 @@ fn put_game_value(
     ensures { OnOk result ((text : GameText) → IsGameIn game.entry.source text
         → (replay : Replay) → IsOfGame text replay → (ply : ℕ)
         → IsGameCell column (place_of (name_of game.entry) (openings_of game.entry.source)
-        game.entry.id text replay ply) own.new.items) }
+        game.entry.id game.entry.line text replay ply) own.new.items) }
 {
     own.clear();
     match column {
@@ -129,8 +152,10 @@ fn put_game_value(
         GameColumn::Game => push_number(own, game.id.number as usize),
         GameColumn::Offset => push_number(own, game.id.offset as usize),
         GameColumn::Id => push_mark(own, game.id),
-        GameColumn::Result => own.extend_from_slice(game.source.result()),
+        GameColumn::Result => own.extend_from_slice(result_of(game)),
         GameColumn::OpeningPly => put_opening_ply(own, alloc, game),
+        GameColumn::Line => push_number(own, line_of(game).number),
+        GameColumn::From => push_number(own, line_of(game).from),
     }
 }
 
@@ -210,10 +235,11 @@ impl<'s> RowMaker<'s> {
             → (text : GameText) → IsGameIn game.source text
             → lists_in self.old.annotations ≡ annotation_lists text.elements }
         ensures row { OnOk result (self.new.row.now ≡ self.old.row.now) }
+        ensures line { OnOk result (self.new.line ≡ self.old.line) }
         ensures annotations { OnOk result (self.new.annotations ≡ self.old.annotations) }
         ensures cell { OnOk result ((text : GameText) → IsGameIn game.entry.source text
             → AddsCell self.old self.new (name_of game.entry) (openings_of game.entry.source)
-            game.entry.id text column.now) }
+            game.entry.id game.entry.line text column.now) }
     {
         let format = self.row.format;
         push_key(&mut self.last, format, column)?;
@@ -240,6 +266,7 @@ impl<'s> RowMaker<'s> {
         requires { list_any shows_annotations row.now.columns.items ≡ true
             → is_text game.source ≡ true }
         ensures { IfOk result (λ maker. (maker.row.now ≡ row.now)
+            × (maker.line ≡ game.entry.line)
             × ((text : GameText) → IsGameIn game.entry.source text
             → MakesRows maker (name_of game.entry) (openings_of game.entry.source) game.entry.id
             text)) }
@@ -247,6 +274,7 @@ impl<'s> RowMaker<'s> {
         let mut maker = RowMaker {
             alloc,
             row,
+            line: game.line,
             annotations: annotations_for(alloc, row, game)?,
             parts: Vec::new(alloc),
             last: Vec::from_slice(alloc, row.format.front())?,

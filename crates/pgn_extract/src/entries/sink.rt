@@ -1,10 +1,11 @@
 //! What is done with the entries that are found.
-ghost use Rattle.std.specs.Prelude.{◌≡◌, ◌∷◌, ◌++◌, [], ℕ, List, true, OnOk, IfErr, IfSome, length};
+ghost use Rattle.std.specs.Prelude.{◌≡◌, ◌∷◌, ◌++◌, [], ℕ, List, None, true, OnOk, IfErr, IfSome};
+ghost use Rattle.std.specs.Prelude.{length};
 ghost use Rattle.std.specs.Prelude.{refl};
 ghost use Rattle.pgn_extract.specs.Public.Listing.{Entry};
 ghost use Rattle.pgn_extract.specs.Private.Lines.{is_bare};
 ghost use Rattle.pgn_extract.specs.Private.Lines.{Where, HasFault, marked_lines};
-ghost use Rattle.pgn_extract.specs.Private.Lines.{first_ply, made_line, IsEnoughFor};
+ghost use Rattle.pgn_extract.specs.Private.Lines.{first_ply, line_made, made_line, IsEnoughFor};
 ghost use Rattle.pgn_extract.specs.Private.Sinks.{PutsHere, first_more, first_none, lines_none};
 ghost use Rattle.pgn_extract.specs.Private.Sinks.{lines_more};
 ghost use Rattle.pgn_extract.specs.Private.Sinks.{grows_none, grows_more};
@@ -12,7 +13,7 @@ ghost use Rattle.pgn_extract.specs.Private.Sinks.{grows_none, grows_more};
 use crate::entries::fields::push_fields;
 use crate::entries::line::Line;
 use crate::entries::line_maker::LineMaker;
-use crate::output::texts::{end_line, push_ply};
+use crate::output::texts::{end_line, push_line_number, push_ply};
 
 /// What entries are handed to.
 pub(crate) trait Sink {
@@ -68,8 +69,9 @@ impl Sink for Vec<u8> {
         lines: &LineMaker<'_>,
     ) -> Result<(), L::Fault> {
         match lines {
-            LineMaker::Fields(fields) => {
+            LineMaker::Fields(fields, own) => {
                 push_ply(self, mark, line.ply())?;
+                push_line_number(self, *own)?;
                 push_fields(self, line, *fields)?;
                 end_line(self)?;
                 Ok(())
@@ -94,7 +96,7 @@ impl Sink for Option<usize> {
 
     ghost Grew = { λ old new. Unit {0} };
 
-    ghost Takes = { λ lines. is_bare (made_line lines) ≡ true };
+    ghost Takes = { λ lines. (is_bare (made_line lines) ≡ true) × (line_made lines ≡ None) };
 
     #[inline(always)]
     fn put<L: Line>(&mut self, _: &[u8], line: &L, _: &LineMaker<'_>) -> Result<(), L::Fault> {

@@ -6,8 +6,9 @@ ghost use Rattle.pgn_game.specs.Public.Replays.{fault_of};
 ghost use Rattle.pgn_extract.specs.Private.Finding.{named_mark};
 ghost use Rattle.pgn_extract.specs.Public.Index.{mark, titled, mark_line, fault_text};
 ghost use Rattle.pgn_extract.specs.Public.GameReports.{cause_text};
+ghost use Rattle.pgn_extract.specs.Public.Listing.{line_field};
 
-use crate::marks::GameId;
+use crate::marks::{GameId, LineId};
 use crate::output::file_name::FileName;
 use itoa::Buffer;
 use pgn_game::GameFault;
@@ -92,6 +93,18 @@ pub fn push_blank(text: &mut Vec<u8>) -> Result<(), AllocError>
 {
     text.push(b' ')?;
     Ok(())
+}
+
+/// Appends the number of a line of a game after a blank, where there is one.
+#[inline(always)]
+pub fn push_line_number(text: &mut Vec<u8>, line: Option<LineId>) -> Result<(), AllocError>
+    ensures { OnOk result (text.new.items ≡ text.old.items ++ line_field line) }
+{
+    let Some(line) = line else {
+        return Ok(());
+    };
+    push_blank(text)?;
+    push_number(text, line.number)
 }
 
 /// Ends a line.

@@ -37,6 +37,10 @@ pub enum GameColumn {
     Result,
     /// The ply at which the line of its opening ends; empty where it has no opening.
     OpeningPly,
+    /// The number of the line among the lines of the game, of which the main line has 0.
+    Line,
+    /// How many plies the line shares with the one that it leaves; the main line has 0.
+    From,
 }
 
 /// What a column shows of a position.
@@ -130,6 +134,8 @@ impl GameColumn {
             GameColumn::Id => b"@id",
             GameColumn::Result => b"@result",
             GameColumn::OpeningPly => b"@opening-ply",
+            GameColumn::Line => b"@line",
+            GameColumn::From => b"@from",
         }
     }
 
@@ -138,7 +144,7 @@ impl GameColumn {
         ensures { result ≡ is_number_of_game self }
     {
         match self {
-            GameColumn::Game | GameColumn::Offset => true,
+            GameColumn::Game | GameColumn::Offset | GameColumn::Line | GameColumn::From => true,
             GameColumn::File | GameColumn::Id | GameColumn::Result | GameColumn::OpeningPly =>
                 false,
         }
@@ -154,7 +160,9 @@ impl GameColumn {
             | GameColumn::Game
             | GameColumn::Offset
             | GameColumn::Id
-            | GameColumn::Result => false,
+            | GameColumn::Result
+            | GameColumn::Line
+            | GameColumn::From => false,
         }
     }
 }

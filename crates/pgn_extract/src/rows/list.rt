@@ -70,6 +70,8 @@ fn plain_game_column(name: &[u8]) -> Option<GameColumn>
         b"@offset" => Some(GameColumn::Offset),
         b"@id" => Some(GameColumn::Id),
         b"@result" => Some(GameColumn::Result),
+        b"@line" => Some(GameColumn::Line),
+        b"@from" => Some(GameColumn::From),
         _ => None,
     }
 }

@@ -1,6 +1,7 @@
 use Rattle.std.proofs.Common.{IfSome}
 use Rattle.pgn_extract.proofs.Common.{IfSome_then, on_ok_weaker, MatchResult-weaker, aim_of}
 use Rattle.pgn_extract.proofs.Common.{fault_of, AddsEntries, StopsAtFault}
+use Rattle.pgn_extract.specs.Private.Lines.{aim_at}
 use Rattle.pgn_extract.proofs.Finds.{on_result, stops_of}
 use Rattle.pgn_extract.proofs.Picks.{asks_given}
 use Rattle.pgn_extract.proofs.entries.Finders.{finder_adds}
@@ -25,10 +26,11 @@ returns-in_default c =
     let finder = c.in_ok-finder in
     let old = c.args.text.now.items in
     let new = c.find_asked.new.text.items in
-    on_result c.find_asked.result (AddsEntries (aim_of settings) id game old new) (λ fault.
+    let aim = aim_at (aim_of settings) c.args.search.line c.args.search.least in
+    on_result c.find_asked.result (AddsEntries aim id game old new) (λ fault.
     IfSome (fault_of fault) (StopsAtFault game old new))
     (on_ok_weaker c.find_asked.result
-    (finder_adds settings id game c.args.is_sound finder.finder finder.ensures old new)
+    (finder_adds settings id game c.args.search finder.finder finder.ensures old new)
     c.find_asked.ensures.found)
     c.find_asked.ensures.fault
 
@@ -40,10 +42,11 @@ returns-then-is_bare c =
     let finder = c.in_ok-finder in
     let old = c.args.text.now.items in
     let new = c.find_told.new.sink.items in
-    on_result c.find_told.result (AddsEntries (aim_of settings) id game old new) (λ fault.
+    let aim = aim_at (aim_of settings) c.args.search.line c.args.search.least in
+    on_result c.find_told.result (AddsEntries aim id game old new) (λ fault.
     IfSome (fault_of fault) (StopsAtFault game old new))
     (on_ok_weaker c.find_told.result
-    (finder_adds settings id game c.args.is_sound finder.finder finder.ensures old new)
+    (finder_adds settings id game c.args.search finder.finder finder.ensures old new)
     c.find_told.ensures.found)
     (MatchResult-weaker c.find_told.result c.find_told.ensures.fault (λ done none. tt)
     (λ fault met. IfSome_then _ met (stops_of game old new)))
@@ -56,10 +59,11 @@ returns-in_default-2 c =
     let finder = c.in_ok-finder in
     let old = c.args.text.now.items in
     let new = c.find_again.new.text.items in
-    on_result c.find_again.result (AddsEntries (aim_of settings) id game old new)
+    let aim = aim_at (aim_of settings) c.args.search.line c.args.search.least in
+    on_result c.find_again.result (AddsEntries aim id game old new)
     (λ fault. IfSome (fault_of fault) (StopsAtFault game old new))
     (on_ok_weaker c.find_again.result
-    (finder_adds settings id game c.args.is_sound finder.finder finder.ensures old new)
+    (finder_adds settings id game c.args.search finder.finder finder.ensures old new)
     c.find_again.ensures.found)
     c.find_again.ensures.fault
 
@@ -71,9 +75,10 @@ returns c =
     let finder = c.in_ok-finder in
     let old = c.args.text.now.items in
     let new = c.find_asked-2.new.text.items in
-    on_result c.find_asked-2.result (AddsEntries (aim_of settings) id game old new) (λ fault.
+    let aim = aim_at (aim_of settings) c.args.search.line c.args.search.least in
+    on_result c.find_asked-2.result (AddsEntries aim id game old new) (λ fault.
     IfSome (fault_of fault) (StopsAtFault game old new))
     (on_ok_weaker c.find_asked-2.result
-    (finder_adds settings id game c.args.is_sound finder.finder finder.ensures old new)
+    (finder_adds settings id game c.args.search finder.finder finder.ensures old new)
     c.find_asked-2.ensures.found)
     c.find_asked-2.ensures.fault

@@ -9,6 +9,7 @@ returns-in-OpeningPly c =
     let game = c.args.game in
     on_ok_weaker c.put_opening_ply.result
     (λ put text own replay of ply. subst (λ (column : GameColumn).
-    IsGameCell column (place_of (name_of game) (openings_of game.source) game.id text replay ply)
+    IsGameCell column
+    (place_of (name_of game) (openings_of game.source) game.id game.line text replay ply)
     c.put_opening_ply.new.own.items) (sym c.in-OpeningPly.is) (put text own replay of))
     c.put_opening_ply.ensures

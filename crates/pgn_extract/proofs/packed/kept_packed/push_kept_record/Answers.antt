@@ -1,4 +1,7 @@
-use Rattle.pgn_extract.proofs.Common.{refl, sym, subst, aim_of, raw_id}
+use Rattle.pgn_extract.proofs.Common.{refl, sym, subst, ◌∙◌, aim_of, raw_id}
+use Rattle.std.specs.Prelude.{Option}
+use Rattle.pgn_extract.specs.Public.Aims.{LineId}
+use Rattle.pgn_extract.specs.Private.Lines.{made_line}
 use Rattle.pgn_extract.specs.Private.Packed.{ListsRecord, aim_making}
 use Rattle.pgn_extract.specs.declared.settings.EntryLine.{EntryLine}
 use Rattle.pgn_extract.proofs.entries.LineMaking.{makes_named}
@@ -14,7 +17,7 @@ push_found-requires-clause-makes c game replay packed own =
     makes_named c.in_ok-lines.lines c.in_pack.result raw.name
     c.args.context.settings.now.openings (raw_id raw) game
     c.in_pack.ensures.name c.in_pack.ensures.openings c.in_pack.ensures.id
-    (c.in_ok-lines.ensures.1 game (c.in_pack.ensures.source game replay packed own))
+    (c.in_ok-lines.ensures.2 game (c.in_pack.ensures.source game replay packed own))
 
 pub push_found-requires-clause-shows : goal.push_found-requires-clause-shows
 push_found-requires-clause-shows c = enough_kept _
@@ -25,7 +28,13 @@ push_found-requires-clause-stands c =
 
 pub returns-clause-ok : goal.returns-clause-ok
 returns-clause-ok c =
+    let aim = aim_of c.args.context.settings.now in
+    let old = c.args.text.now.items in
+    let new = c.push_found.new.text.items in
+    let none = sym c.in_pack.ensures.line ∙ c.in_ok-lines.ensures.1 in
     subst (λ (line : EntryLine).
-    ListsRecord (record (aim_of c.args.context.settings.now) { line = line })
-    c.args.context.record.now c.args.text.now.items c.push_found.new.text.items)
-    (sym c.in_ok-lines.ensures.0) c.in_ok-push_found.ensures
+    ListsRecord (record aim { line = line }) c.args.context.record.now old new)
+    (sym c.in_ok-lines.ensures.0)
+    (subst (λ (n : Option LineId).
+    ListsRecord (record aim { line = made_line c.in_ok-lines.lines; of_line = n })
+    c.args.context.record.now old new) (sym none) c.in_ok-push_found.ensures)

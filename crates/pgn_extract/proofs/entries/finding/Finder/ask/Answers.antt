@@ -40,7 +40,8 @@ returns-clause-asked g c name openings id game before P at of start so_far =
     let mark = c.args.self.now.mark.items in
     let count = c.ply-ply.ensures aim game before P at in
     let put = c.in_ok-put.ensures.put in
-    let handed = put.1 aim game before P at id (record { line = refl; of_game = of }) in
+    let handed =
+    put.1 aim game before P at id (record { line = refl; of_line = refl; of_game = of }) in
     keeps_one P so_far put.0 c.if-not-is_open.false
     (is_wanted aim game before P c.is_met.result (c.is_met.ensures aim game before P at)
     c.if-not-is_met.false

@@ -15,6 +15,7 @@ returns-in_ok-put_tag-in-Tag-clause-cell c =
     let name = name_of c.args.game in
     let openings = openings_of c.args.game.source in
     let id = c.args.game.id in
+    let line = c.args.game.line in
     let column = c.args.column.now in
     let format = c.args.self.now.row.now.format in
     let cell = c.put_tag.new.own.items in
@@ -24,6 +25,7 @@ returns-in_ok-put_tag-in-Tag-clause-cell c =
     let new : Vec ℕ Global → RowMaker = λ last. record {
       alloc = old.alloc;
       row = old.row;
+      line = old.line;
       annotations = old.annotations;
       parts = old.parts;
       last = last;
@@ -33,11 +35,11 @@ returns-in_ok-put_tag-in-Tag-clause-cell c =
     λ text own. subst (λ n. IsTagCell (tag_in n text.tags) cell) c.deref.ensures.value
     (c.in_ok-put_tag-in-Tag.ensures text own) in
     on_ok_weaker c.push_value.result
-    (λ pushed text own. adds_known old (new c.push_value.new.text) name openings id text column
+    (λ pushed text own. adds_known old (new c.push_value.new.text) name openings id line text column
     cell mid refl
     c.in_ok-push_key.ensures
     (λ replay of ply. subst (λ (k : Column).
-    IsCell k (place_of name openings id text replay ply) cell) (sym c.in-Tag.is) (is text own))
+    IsCell k (place_of name openings id line text replay ply) cell) (sym c.in-Tag.is) (is text own))
     (value_text format false cell)
     (ap (λ n. key ++ value_text format n cell) (sym (ap is_number_column c.in-Tag.is)))
     (pushed ∙ ap (λ v. mid ++ value_text format false v) c.deref-in-Tag.ensures.value))
@@ -49,6 +51,7 @@ returns-in_ok-put_game_value-in-OfGame-clause-cell c =
     let name = name_of c.args.game in
     let openings = openings_of c.args.game.source in
     let id = c.args.game.id in
+    let line = c.args.game.line in
     let column = c.args.column.now in
     let format = c.args.self.now.row.now.format in
     let cell = c.put_game_value.new.own.items in
@@ -58,16 +61,17 @@ returns-in_ok-put_game_value-in-OfGame-clause-cell c =
     let new : Vec ℕ Global → RowMaker = λ last. record {
       alloc = old.alloc;
       row = old.row;
+      line = old.line;
       annotations = old.annotations;
       parts = old.parts;
       last = last;
     } in
     on_ok_weaker c.push_value-in-OfGame.result
     (λ pushed text own. adds_known old (new c.push_value-in-OfGame.new.text) name openings id
-    text column cell mid refl
+    line text column cell mid refl
     c.in_ok-push_key.ensures
     (λ replay of ply. subst (λ (k : Column).
-    IsCell k (place_of name openings id text replay ply) cell) (sym c.in-OfGame.is)
+    IsCell k (place_of name openings id line text replay ply) cell) (sym c.in-OfGame.is)
     (c.in_ok-put_game_value-in-OfGame.ensures text own replay of ply))
     (value_text format c.is_number.result cell)
     (ap (λ n. key ++ value_text format n cell)
@@ -81,19 +85,21 @@ returns-in-OfPly-clause-cell c =
     let name = name_of c.args.game in
     let openings = openings_of c.args.game.source in
     let id = c.args.game.id in
+    let line = c.args.game.line in
     let old = c.args.self.now in
     let mid : RowMaker = record {
       alloc = old.alloc;
       row = old.row;
+      line = old.line;
       annotations = old.annotations;
       parts = old.parts;
       last = c.push_key.new.text;
     } in
     on_ok_weaker c.end_part.result
     (λ ends text own. subst (λ (k : Column).
-    AddsCell old c.end_part.new.self name openings id text k)
+    AddsCell old c.end_part.new.self name openings id line text k)
     (sym c.in-OfPly.is)
-    (adds_shown old mid c.end_part.new.self name openings id text (kind.OfPly c.in-OfPly.shown)
+    (adds_shown old mid c.end_part.new.self name openings id line text (kind.OfPly c.in-OfPly.shown)
     refl refl
     (c.in_ok-push_key.ensures
     ∙ ap (λ (k : Column). old.last.items ++ key_text old.row.now.format k) c.in-OfPly.is)
@@ -105,10 +111,12 @@ returns-in-OfAnnotations-clause-cell c =
     let name = name_of c.args.game in
     let openings = openings_of c.args.game.source in
     let id = c.args.game.id in
+    let line = c.args.game.line in
     let old = c.args.self.now in
     let mid : RowMaker = record {
       alloc = old.alloc;
       row = old.row;
+      line = old.line;
       annotations = old.annotations;
       parts = old.parts;
       last = c.push_key.new.text;
@@ -117,9 +125,9 @@ returns-in-OfAnnotations-clause-cell c =
     ap shows_annotations c.in-OfAnnotations.is in
     on_ok_weaker c.end_part-in-OfAnnotations.result
     (λ ends text own. subst (λ (k : Column).
-    AddsCell old c.end_part-in-OfAnnotations.new.self name openings id text k)
+    AddsCell old c.end_part-in-OfAnnotations.new.self name openings id line text k)
     (sym c.in-OfAnnotations.is)
-    (adds_shown old mid c.end_part-in-OfAnnotations.new.self name openings id text
+    (adds_shown old mid c.end_part-in-OfAnnotations.new.self name openings id line text
     (kind.OfAnnotations c.in-OfAnnotations.shown) refl refl
     (c.in_ok-push_key.ensures
     ∙ ap (λ (k : Column). old.last.items ++ key_text old.row.now.format k) c.in-OfAnnotations.is)

@@ -5,6 +5,7 @@ pub returns : goal.returns
 returns c =
     let items = λ (v : Vec ℕ Global). v.items in record {
       row = refl;
+      line = refl;
       annotations = refl;
       part = record { before = c.replace-before.result; column = c.args.column };
       of_column = refl;

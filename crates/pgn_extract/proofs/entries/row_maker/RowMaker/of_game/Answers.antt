@@ -1,7 +1,8 @@
 use Rattle.std.specs.List.{list_any}
 use Rattle.std.proofs.lemmas.List.Folds.{list_any_at}
 use Rattle.pgn_extract.proofs.Common.{◌≡◌, ◌<◌, ◌+◌, ◌++◌, ◌∷◌, [], List, Bool, GameText}
-use Rattle.pgn_extract.proofs.Common.{length, refl, ℕ, true}
+use Rattle.pgn_extract.proofs.Common.{length, refl, ℕ, true, Option}
+use Rattle.pgn_extract.specs.Public.Aims.{LineId}
 use Rattle.pgn_extract.proofs.Common.{sym, ap, ◌∙◌, subst, arith, nat_tests, get_or, take}
 use Rattle.pgn_extract.proofs.Common.{take-length, if◌then◌else◌}
 use Rattle.pgn_text.specs.Public.Games.{Item}
@@ -49,6 +50,7 @@ loop-column-preserved c =
     let mid : RowMaker = record {
       alloc = old.alloc;
       row = old.row;
+      line = old.line;
       annotations = old.annotations;
       parts = old.parts;
       last = c.push_gap.new.text;
@@ -59,24 +61,26 @@ loop-column-preserved c =
     let name = name_of c.args.game in
     let openings = openings_of c.args.game.source in
     let id = c.args.game.id in
+    let line = c.args.game.line in
     let new = c.add_column.new.self in
     let lists = lists_in new.annotations in
     let same : new.annotations ≡ old.annotations = c.in_ok-add_column.ensures.annotations in
     let so_far : (text : GameText) → IsGameIn c.args.game.source text
     → MakesCells row.format lists (take i all) old.parts.items old.last.items name openings id
-    text =
+    line text =
     λ text own. subst (λ (ls : List (List Item)). MakesCells row.format ls (take i all)
-    old.parts.items old.last.items name openings id text) (ap lists_in (sym same))
+    old.parts.items old.last.items name openings id line text) (ap lists_in (sym same))
     (inv.made text own) in
     record {
       row = c.in_ok-add_column.ensures.row ∙ inv.row;
+      line = c.in_ok-add_column.ensures.line ∙ inv.line;
       known = λ shows text own. ap lists_in same ∙ inv.known shows text own;
       first = grind (arith, nat_tests);
       made = λ text own. subst (λ (ks : List Column).
-          MakesCells row.format lists ks new.parts.items new.last.items name openings id text)
+          MakesCells row.format lists ks new.parts.items new.last.items name openings id line text)
           (sym next)
           (makes_more row.format lists old.parts.items old.last.items mid new (take i all) column
-          name openings id text (so_far text own) (ap (λ (r : Row). r.format) inv.row)
+          name openings id line text (so_far text own) (ap (λ (r : Row). r.format) inv.row)
           (ap lists_in (sym same)) refl
           (c.in_ok-push_gap.ensures
           ∙ ap (λ (t : Bool). old.last.items ++ (if t then [] else gap row.format)) inv.first
@@ -100,17 +104,24 @@ returns c =
     let name = name_of c.args.game in
     let openings = openings_of c.args.game.source in
     let id = c.args.game.id in
+    let line = c.args.game.line in
     let ends = c.in_ok-extend_from_slice.ensures.items ∙ ap (λ b. last ++ b) c.back.ensures in
     let lists = lists_in c.loop-column.maker.annotations in
     let made : (game : GameText) → IsGameIn c.args.game.source game
-    → MakesRow row.format lists all parts text name openings id game =
-    λ game own. makes_all row.format lists all parts last text name openings id game
-    (subst (λ (ks : List Column). MakesCells row.format lists ks parts last name openings id game)
+    → MakesRow row.format lists all parts text name openings id line game =
+    λ game own. makes_all row.format lists all parts last text name openings id line game
+    (subst (λ (ks : List Column).
+    MakesCells row.format lists ks parts last name openings id line game)
     whole
     (inv.made game own))
     ends in (
       inv.row,
-      λ game own. subst (λ (r : Row).
-          MakesRow r.format lists r.columns.items parts text name openings id game) (sym inv.row)
-          (made game own),
+      inv.line,
+      λ game own. subst (λ (n : Option LineId).
+          MakesRow c.loop-column.maker.row.now.format lists
+          c.loop-column.maker.row.now.columns.items parts text name openings id n game)
+          (sym inv.line)
+          (subst (λ (r : Row).
+          MakesRow r.format lists r.columns.items parts text name openings id line game)
+          (sym inv.row) (made game own)),
     )

@@ -12,6 +12,7 @@ use Rattle.pgn_extract.proofs.entries.row_maker.RowMaker.of_game.Given as goal
 abbrev pub invariant-loop-column : goal.invariant-loop-column
 invariant-loop-column l = record {
   row : l.maker.row.now ≡ l.row;
+  line : l.maker.line ≡ l.game.line;
   first : l.is_first ≡ (l.column-index == 0);
   known : (list_any shows_annotations l.row.columns.items ≡ true
       → (text : GameText) → IsGameIn l.game.source text
@@ -19,5 +20,5 @@ invariant-loop-column l = record {
   made : ((text : GameText) → IsGameIn l.game.source text
       → MakesCells l.row.format (lists_in l.maker.annotations)
       (take l.column-index l.row.columns.items) l.maker.parts.items l.maker.last.items
-      (name_of l.game) (openings_of l.game.source) l.game.id text);
+      (name_of l.game) (openings_of l.game.source) l.game.id l.game.line text);
 }

@@ -1,6 +1,6 @@
 -- The first entry is kept, and no later one.
 use Rattle.std.specs.Prelude.{Option, None, Some, is_some, not}
-use Rattle.std.proofs.Common.{◌≡◌, ◌∷◌, ℕ, [], true, false, length, refl, ap, ◌∙◌}
+use Rattle.std.proofs.Common.{◌≡◌, ◌∷◌, ℕ, [], true, false, length, ap, ◌∙◌}
 use Rattle.pgn_extract.specs.Public.Listing.{AfterPly, Entry}
 use Rattle.pgn_extract.specs.Private.Lines.{first_ply, is_bare}
 use Rattle.pgn_extract.specs.Public.Rows.{place_of}
@@ -23,8 +23,9 @@ returns-clause-put g c = (
   AfterPly [],
   λ aim game before P at id makes. (
     λ replay own rest is.
-        nothing_shown aim.line (ap is_bare makes.line ∙ c.requires.takes)
-        (place_of aim.name aim.openings id game replay (length before)),
+        nothing_shown aim.line (ap is_bare makes.line ∙ c.requires.takes.0)
+        (place_of aim.name aim.openings id aim.of_line game replay (length before))
+        (makes.of_line ∙ c.requires.takes.1),
     elim c.if-is_none.branch [
       | then-is_none w ↦
           taken c.args.self.now _ w.ply.result _ (c.is_none.ensures ∙ ap not w.if-is_none.true)

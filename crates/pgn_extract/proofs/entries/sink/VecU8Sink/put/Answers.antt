@@ -1,7 +1,8 @@
 use Rattle.std.proofs.Common.{◌++◌, ◌∷◌, [], length, decimal, sym, ap, ◌∙◌, append-nil, subst}
+use Rattle.std.proofs.Common.{append_assoc}
 use Rattle.pgn_extract.proofs.Common.{on_ok_weaker}
 use Rattle.pgn_extract.specs.Private.Lines.{marked_line, IsEnoughFor}
-use Rattle.pgn_extract.specs.Public.Listing.{AfterPly, AsRow}
+use Rattle.pgn_extract.specs.Public.Listing.{AfterPly, AsRow, line_field}
 use Rattle.pgn_extract.specs.declared.entries.line_maker.LineMaker.{LineMaker}
 use Rattle.pgn_extract.proofs.Finds.{one_line}
 use Rattle.pgn_extract.proofs.entries.LineMaking.{shows_marked, shows_row, made_text}
@@ -11,21 +12,26 @@ pub returns-in_ok-end_line-in-Fields-clause-put : goal.returns-in_ok-end_line-in
 returns-in_ok-end_line-in-Fields-clause-put g c =
     let (text, shows, pushed) = c.in_ok-push_fields-in-Fields.ensures.shown in
     let start = c.args.self.now.items in
-    let mark = c.args.mark.now in (
-      AfterPly text,
+    let mark = c.args.mark.now in
+    let own = c.in-Fields.own in
+    let all = line_field own ++ text in
+    let begun = start ++ (mark ++ 32 ∷ decimal c.ply.result) in (
+      AfterPly all,
       λ aim game before P at id makes. (
-        shows_marked c.args.lines.now c.in-Fields.fields text aim id game before P c.in-Fields.is
-            makes (shows aim game before P at),
+        shows_marked c.args.lines.now c.in-Fields.fields text aim id game before P own
+            c.in-Fields.is makes (shows aim game before P at),
         c.in_ok-end_line-in-Fields.ensures
             ∙ ap (λ t. t ++ 10 ∷ []) (pushed
-            ∙ ap (λ t. t ++ text) c.in_ok-push_ply-in-Fields.ensures)
-            ∙ one_line start mark (decimal c.ply.result) text
+            ∙ ap (λ t. t ++ text) (c.in_ok-push_line_number-in-Fields.ensures
+            ∙ ap (λ t. t ++ line_field own) c.in_ok-push_ply-in-Fields.ensures)
+            ∙ append_assoc begun (line_field own) text)
+            ∙ one_line start mark (decimal c.ply.result) all
             ∙ ap (λ n. start
-            ++ marked_line mark (record { id = id; ply = n; shown = AfterPly text }))
+            ++ marked_line mark (record { id = id; ply = n; shown = AfterPly all }))
             (c.ply.ensures aim game before P at)
             ∙ ap (λ t. start ++ t)
             (sym (append-nil
-            (marked_line mark (record { id = id; ply = length before; shown = AfterPly text })))),
+            (marked_line mark (record { id = id; ply = length before; shown = AfterPly all })))),
       ),
     )
 

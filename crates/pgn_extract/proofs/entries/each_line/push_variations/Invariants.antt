@@ -1,19 +1,17 @@
-use Rattle.pgn_extract.proofs.Common.{◌≡◌, ◌++◌, ◌+◌, ◌<◌, ◌^◌, ℕ, List, [], length, GameId, aim_of}
+use Rattle.pgn_extract.proofs.Common.{◌≡◌, ◌++◌, ◌+◌, ◌<◌, ◌^◌, ℕ, List, [], length, aim_of}
 use Rattle.pgn_game.specs.Public.AllLines.{Line, spelled}
 use Rattle.pgn_game.specs.Public.LineGames.{LineGame, variations_in}
 use Rattle.pgn_extract.specs.Public.LineListing.{AreLineListings}
-use Rattle.pgn_extract.specs.Private.OwnEntries.{IsBareFinder}
-use Rattle.pgn_extract.proofs.entries.each_line.find_in_variations.Given as goal
+use Rattle.pgn_extract.proofs.entries.each_line.push_variations.Given as goal
 
 abbrev pub invariant-loop-left : goal.invariant-loop-left
 invariant-loop-left l = record {
-  done : (id : GameId) → IsBareFinder l.finder.settings.now id l.finder
-      → (line : Line) × (first : List LineGame) × (text : List ℕ)
+  done : (line : Line) × (first : List LineGame) × (own : List ℕ)
       × (l.fn.game.elements ≡ spelled line)
       × (variations_in [] [] line ≡ first ++ l.left.lines)
       × (l.count ≡ length first)
-      × AreLineListings (aim_of l.finder.settings.now) id l.fn.game 1 first text
-      × (l.sink.text.items ≡ l.fn.sink.text.items ++ text);
+      × AreLineListings (aim_of l.context.settings.now) l.context.own l.fn.game 1 first own
+      × (l.text.items ≡ l.fn.text.items ++ own);
   game : l.left.game ≡ l.fn.game;
   room : l.count + l.left.steps < 2 ^ 64;
 }
