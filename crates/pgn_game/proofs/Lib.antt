@@ -22,6 +22,7 @@ pub mod MoveTexts
 pub mod GameLineFacts
 pub mod TurnTextFacts
 pub mod PlyCodeFacts
+pub mod NumberedMen
 pub mod RecordFields
 pub mod HeadFacts
 mod TagOrder

@@ -11,32 +11,42 @@ use crate::turns::replayed::{GamePosition, Replayed};
 use chess::{Kind, Man, Move, Side, Square, Wing};
 use std::alloc::{AllocError, Global};
 
+const W: Side = Side::White;
+
+const B: Side = Side::Black;
+
+/// The sides and the kinds of men by their numbers, from 12 on of kings who castle: by tables, so
+/// that no jump depends on the number.
+static SIDES: [Side; 16] = [W, W, W, W, W, W, B, B, B, B, B, B, W, W, B, B];
+
+static KINDS: [Kind; 16] = [
+    Kind::King,
+    Kind::Queen,
+    Kind::Rook,
+    Kind::Bishop,
+    Kind::Knight,
+    Kind::Pawn,
+    Kind::King,
+    Kind::Queen,
+    Kind::Rook,
+    Kind::Bishop,
+    Kind::Knight,
+    Kind::Pawn,
+    Kind::King,
+    Kind::King,
+    Kind::King,
+    Kind::King,
+];
+
 /// The man with that number.
 #[inline(always)]
 pub fn numbered_man(number: u8) -> Man
     requires { number < 16 }
     ensures { result ≡ numbered_man number }
 {
-    if number < 12 {
-        let side = if number < 6 { Side::White } else { Side::Black };
-        let kind = match number % 6 {
-            0 => Kind::King,
-            1 => Kind::Queen,
-            2 => Kind::Rook,
-            3 => Kind::Bishop,
-            4 => Kind::Knight,
-            _ => Kind::Pawn,
-        };
-        return Man { side, kind };
-    }
-    let side = if number < 14 {
-        Side::White
-    } else {
-        Side::Black
-    };
     Man {
-        side,
-        kind: Kind::King,
+        side: SIDES[number as usize],
+        kind: KINDS[number as usize],
     }
 }
 
