@@ -64,9 +64,10 @@ static KINDS: [Option<Kind>; 256] = [
 /// The letters of the kinds, in upper case and in the order of `Kind`.
 static LETTERS: [u8; 6] = [b'K', b'Q', b'R', b'B', b'N', b'P'];
 
-/// The letter of a kind, in upper case: by a table, so that no jump depends on the kind.
+/// The letter of a kind, in upper case (PGN 8.2.3.2): by a table, so that no jump depends on the
+/// kind.
 #[inline(always)]
-pub(crate) fn kind_letter(kind: Kind) -> u8
+pub fn kind_letter(kind: Kind) -> u8
     ensures letter { result ≡ kind_letter kind }
     ensures ascii { result ≤ 82 }
 {

@@ -28,6 +28,7 @@ pub use board::{
     Bits, Board, CastlingRights, Direction, Kind, Mailbox, Man, Side, Square, SquareSet, Wing,
 };
 pub use fen::FenError;
+pub use letters::kind_letter;
 pub use move_text::{
     Refusal, SanError, named_from, play_san, play_word, play_word_san, resolve, san, why_unnamed,
 };

@@ -7,6 +7,7 @@ use Rattle.pgn_criteria.proofs.Common.{if◌then◌else◌, State, IsSan, IsLega
 use Rattle.pgn_criteria.proofs.Common.{man_at, kind_letter, file_letter, rank_digit, slice_get}
 use Rattle.pgn_criteria.proofs.Common.{Kind, King, Queen, Rook, Bishop, Knight, Pawn, Wing}
 use Rattle.pgn_criteria.proofs.Common.{without_check_signs, IsLike, codes_in, false≢true}
+use Rattle.pgn_criteria.proofs.Common.{append-nil, ◌-◌}
 use Rattle.pgn_criteria.proofs.Common.{get_or, Places, is_in, is_in-empty, IsSquaresOf}
 use Rattle.pgn_criteria.proofs.Common.{AreOnBoard, same_square, same_square-then}
 use Rattle.chess.specs.Public.Attacks.{Reaches}
@@ -23,7 +24,7 @@ use Rattle.pgn_criteria.specs.Private.CodedTexts.{IsAloneIn, IsCodedOf, body_of,
 use Rattle.pgn_criteria.specs.Private.CodedTexts.{Likes, pawn_body, piece_body, text_of}
 use Rattle.pgn_criteria.specs.Private.MoveEnds.{IsMoveLike, IsSomeLike}
 use Rattle.pgn_criteria.specs.declared.coded.CodedMove.{CodedMove}
-use Rattle.pgn_criteria.proofs.EndFacts.{above_kind, bare_text, no_mark}
+use Rattle.pgn_criteria.proofs.EndFacts.{above_kind, bare_text, last_part, no_mark}
 use Rattle.pgn_criteria.proofs.MoveFacts.{star_on}
 use Rattle.pgn_criteria.proofs.SeenPlyFacts.{first_code}
 use Rattle.pgn_criteria.proofs.StandFacts.{below, three}
@@ -345,6 +346,45 @@ tail_like coded (star ∷ more) cross file rank long starred takes on up castle 
           (sym (officer_text coded origin coded.m.castle coded.man.kind castle officer))
           (subst (λ b. IsLike (b ∷ more) (piece_body coded origin)) (sym starred)
           (star_front (kind_letter coded.man.kind ∷ origin) more tail here)),
+      λ so. refl,
+    )
+
+-- a star at the end stands for what is put behind
+star_back : (front x y : List ℕ) → IsLike (front ++ 42 ∷ []) x
+    → IsLike (front ++ 42 ∷ []) (x ++ y)
+star_back [] x y like = inl (refl, (x ++ y, [], sym (append-nil (x ++ y)), refl))
+star_back (b ∷ front) x y (inl (is, (some, rest, parts, like))) =
+    inl (
+      is,
+      (
+        some,
+        rest ++ y,
+        ap (λ t. t ++ y) parts ∙ append_assoc some rest y,
+        star_back front rest y like,
+      ),
+    )
+star_back (b ∷ front) x y (inr (rest, parts, like)) =
+    inr (rest ++ y, ap (λ t. t ++ y) parts, star_back front rest y like)
+
+pub head_like : (coded : CodedMove) (word : List ℕ) (letter : ℕ) → 1 ≤ length word
+    → get_or word (length word - 1) 0 ≡ 42 → letter ≡ kind_letter coded.man.kind
+    → coded.m.castle ≡ None → (coded.man.kind ≡ Pawn → ⊥)
+    → IsLike word (without_check_signs (letter ∷ [])) → (f r : Bool) → Likes coded word f r true
+head_like coded word letter long starred is castle officer like f r =
+    let origin = origin_of f r coded.m.from in
+    let tail = origin ++ ((if coded.takes then 120 ∷ [] else []) ++ square_text coded.m.to) in
+    let (front, parts) = last_part word long in
+    let whole : word ≡ front ++ 42 ∷ [] = parts ∙ ap (λ b. front ++ b ∷ []) starred in
+    let bare : without_check_signs (letter ∷ []) ≡ kind_letter coded.man.kind ∷ [] =
+    ap (λ b. without_check_signs (b ∷ [])) is
+    ∙ stays_first (kind_letter coded.man.kind) [] (above_kind coded.man.kind) in
+    let here : IsLike (front ++ 42 ∷ []) (kind_letter coded.man.kind ∷ []) =
+    subst (λ w. IsLike w (kind_letter coded.man.kind ∷ [])) whole
+    (subst (IsLike word) bare like) in (
+      λ t. subst (IsLike word)
+          (sym (officer_text coded origin coded.m.castle coded.man.kind castle officer))
+          (subst (λ w. IsLike w (piece_body coded origin)) (sym whole)
+          (star_back front (kind_letter coded.man.kind ∷ []) tail here)),
       λ so. refl,
     )
 

@@ -274,7 +274,7 @@ last_of : (b : ℕ) (word : List ℕ) → (front : List ℕ)
 last_of b [] = ([], refl)
 last_of b (c ∷ word) = let rest = last_of c word in (b ∷ rest.0, ap (λ x. b ∷ x) rest.1)
 
-last_part : (word : List ℕ) → 1 ≤ length word
+pub last_part : (word : List ℕ) → 1 ≤ length word
     → (front : List ℕ) × (word ≡ front ++ get_or word (length word - 1) 0 ∷ [])
 last_part [] some = absurd (omega (arith, some))
 last_part (b ∷ word) some =

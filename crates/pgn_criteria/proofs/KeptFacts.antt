@@ -187,6 +187,14 @@ module _ (First Second : ℕ → Type 0) (n k at : ℕ) (old told : List Bool) (
         )
   ]
 
+-- what is asked may be said in other words
+pub asked_all : {A B : Type 0} {was is : Bool} → A ↔ B → (IsTrue is ↔ (IsTrue was × A))
+    → IsTrue is ↔ (IsTrue was × B)
+asked_all same reports = (
+  λ t. let both = reports.0 t in (both.0, same.0 both.1),
+  λ both. reports.1 (both.0, same.1 both.1),
+)
+
 -- where each ply is asked both, those are left of which both are so
 pub kept_all : (First Second : ℕ → Type 0) (n k : ℕ) (old told : List Bool)
     → length old ≤ n → length old ≤ k → AreKept First Second n k old told → (ply : ℕ)

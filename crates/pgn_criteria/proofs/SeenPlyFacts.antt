@@ -16,7 +16,8 @@ use Rattle.pgn_criteria.specs.Private.SeenPlies.{Fits, IsToldTo, TellsSeen}
 use Rattle.pgn_criteria.specs.Private.Counted.{IsBesidePlies}
 use Rattle.pgn_criteria.specs.Private.Told.{AllAbout, AreTold, IsBeside, SaysAbout}
 use Rattle.pgn_criteria.specs.declared.played.About.TheVariants as about
-use Rattle.pgn_criteria.proofs.CodedLines.{played_count}
+use Rattle.std.specs.Prelude.{replicate, true}
+use Rattle.pgn_criteria.proofs.CodedLines.{codes_count, played_count}
 use Rattle.pgn_criteria.proofs.StandFacts.{three, below}
 use Rattle.pgn_criteria.proofs.ToldFacts.{told_within}
 use Rattle.pgn_criteria.proofs.TurnAbout.{all_parted}
@@ -147,6 +148,26 @@ module _ (replay : Replay) (ply : ℕ) where
         ),
       )
 
+-- where nothing is said of positions, each of them meets it
+fit_codes : (s : Sight) (codes : List PlyCode)
+    → TellsSeen [] s codes (replicate (suc (length codes)) true)
+fit_codes s [] = (true, refl, ((λ t. inl tt), (λ fits. refl)))
+fit_codes s (c ∷ codes) = (
+  true,
+  replicate (suc (length codes)) true,
+  refl,
+  ((λ t. inl tt), (λ fits. refl)),
+  fit_codes (stepped s c) codes,
+)
+
+pub all_fit : (s : Sight) (bytes : List ℕ) (told : List Bool)
+    → told ≡ replicate (length bytes / 3 + 1) true → TellsSeen [] s (codes_in bytes) told
+all_fit s bytes told is =
+    let count = codes_count bytes in
+    let same : suc (length (codes_in bytes)) ≡ length bytes / 3 + 1 = omega (arith, count) in
+    subst (TellsSeen [] s (codes_in bytes)) (ap (λ n. replicate n true) same ∙ sym is)
+    (fit_codes s (codes_in bytes))
+
 -- one more ply is told, and the last
 module _ (conditions : List (PositionCondition (List ℕ))) (start s : Sight) (all left : List ℕ)
     (told new : List Bool) (is : Bool) (to : IsToldTo conditions start all s left told)
@@ -174,7 +195,7 @@ module _ (conditions : List (PositionCondition (List ℕ))) (start s : Sight) (a
 -- ---- alternatives
 
 -- how many positions a line has that is played by codes
-line_size : (P : State) (moves : List Move) → length (positions_from P moves) ≡ length moves + 1
+pub line_size : (P : State) (moves : List Move) → length (positions_from P moves) ≡ length moves + 1
 line_size P [] = refl
 line_size P (m ∷ moves) = let more = line_size (after P m) moves in omega (arith, more)
 

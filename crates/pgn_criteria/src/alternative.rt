@@ -414,6 +414,13 @@ impl Alternative {
         self.position_marks()
     }
 
+    /// Whether none of the conditions speaks of positions.
+    pub(crate) fn is_free_of_positions(&self) -> bool
+        ensures { IsTrue result → self.now.positions ≡ [] }
+    {
+        self.plain.conditions.is_empty()
+    }
+
     /// Whether none of the conditions has `for` or `count`.
     pub(crate) fn is_free_of_spans(&self) -> bool
         ensures { IsTrue result ↔ (self.now.spans ≡ []) }

@@ -18,8 +18,7 @@ use crate::compare::compares;
 use crate::condition::{GameClaim, MoveClaim, Stated};
 use crate::headed::Headed;
 use crate::meets::is_of_heading;
-use crate::move_ends::kind_letter;
-use chess::Kind;
+use chess::{Kind, kind_letter};
 use pgn_game::pack::{numbered_castle, numbered_man};
 
 /// Whether the tags, the result and the number of the plies of the game meet the condition, if that

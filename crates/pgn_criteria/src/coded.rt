@@ -1,7 +1,7 @@
 //! Moves as the codes of their plies tell them, and whether their texts are like a word. No move is
 //! asked to be legal, and none is played.
-ghost use Rattle.std.specs.List.{slice_get};
-ghost use Rattle.std.specs.Prelude.{None, ◌≢◌};
+ghost use Rattle.std.specs.List.{list_any, slice_get};
+ghost use Rattle.std.specs.Prelude.{None, ◌≢◌, ◌==◌};
 ghost use Rattle.std.specs.Prelude.{◌≡◌, ◌↔◌, ◌++◌, ◌∷◌, ◌<◌, if◌then◌else◌, [], ℕ, List, IfSome};
 ghost use Rattle.std.specs.Prelude.{Bool, true, false, IsTrue};
 ghost use Rattle.chess.specs.Public.Moves.{IsLegal};
@@ -18,11 +18,11 @@ ghost use Rattle.pgn_criteria.specs.Private.CodedTexts.{IsCodedOf, IsPlain, Like
 ghost use Rattle.pgn_criteria.specs.Private.CodedTexts.{body_of, origin_of, pawn_body, piece_body};
 ghost use Rattle.pgn_criteria.specs.Private.MoveEnds.{IsMoveLike, IsSomeLike, RulesOut};
 
-use crate::move_ends::{kind_letter, may_begin_by, may_end_with};
+use crate::move_ends::{may_begin_by, may_end_with};
 use crate::moves::is_like;
 use crate::seen::Seen;
 use crate::walk::Walk;
-use chess::{Kind, Mailbox, Man, Move, Square, Wing};
+use chess::{Kind, Mailbox, Man, Move, Square, Wing, kind_letter};
 use pgn_game::pack::{numbered_castle, numbered_man};
 
 /// A move as the code of its ply and the men before it tell it.
@@ -155,6 +155,14 @@ fn may_be_like(coded: &CodedMove, word: &[u8]) -> bool
     }
 }
 
+/// Whether the word has the sign of a capture.
+#[inline(always)]
+fn has_cross(word: &[u8]) -> bool
+    ensures { result ≡ list_any (λ y. y == 120) word.now }
+{
+    word.iter().any(|byte| *byte == b'x')
+}
+
 /// Whether the text of the ply whose third byte this is may be like the word, by the sign of a
 /// capture.
 #[inline(always)]
@@ -162,7 +170,7 @@ fn may_take(walk: &Walk<Mailbox>, d: u8, word: &[u8]) -> bool
     ensures { (P : State) (m : Move) (a b : ℕ) → IsSightOf P walk.now → IsLegal P m
         → IsCode P m (code_of a b d) → RulesOut result P m (IsLike word.now) }
 {
-    walk.has_man(Square::of_index(d % 64)) || !word.contains(&b'x')
+    walk.has_man(Square::of_index(d % 64)) || !has_cross(word)
 }
 
 /// Whether the move is one in whose text nothing distinguishes the man: castling, or a pawn's move.
@@ -213,8 +221,26 @@ fn is_tail_like(coded: &CodedMove, word: &[u8]) -> bool
     is_like(word, tail.as_slice())
 }
 
+/// Whether the word ends with a star and is like the letter that the text of a piece's move begins
+/// with.
+#[inline(always)]
+fn is_head_like(coded: &CodedMove, word: &[u8]) -> bool
+    ensures { IsTrue result → coded.now.m.castle ≡ None → coded.now.man.kind ≢ Pawn → (f r : Bool)
+        → Likes coded.now word.now f r true }
+{
+    let [.., last] = word else {
+        return false;
+    };
+    if *last != b'*' {
+        return false;
+    }
+    let head = [kind_letter(coded.man.kind)];
+    is_like(word, head.as_slice())
+}
+
 /// Whether the text of the move is like the word. It is `None` where that depends on what
 /// distinguishes the man from others, which the Laws decide.
+#[inline(always)]
 fn told_text_like(walk: &Walk<Mailbox>, coded: &CodedMove, word: &[u8]) -> Option<bool>
     ensures { IfSome result (λ is. (P : State) (m : Move) (text : List ℕ) → IsSightOf P walk.now
         → IsCodedOf coded.now P m → IsSan P m text
@@ -224,6 +250,9 @@ fn told_text_like(walk: &Walk<Mailbox>, coded: &CodedMove, word: &[u8]) -> Optio
         return Some(is_text_like(coded, false, false, word));
     }
     if is_tail_like(coded, word) {
+        return Some(true);
+    }
+    if is_head_like(coded, word) {
         return Some(true);
     }
     let is = is_text_like(coded, false, false, word);
@@ -238,17 +267,14 @@ fn told_text_like(walk: &Walk<Mailbox>, coded: &CodedMove, word: &[u8]) -> Optio
 
 /// Whether the standard text, without its signs of check and mate, of the move that the three bytes
 /// tell is like the word. It is `None` where that is not told.
+#[inline(never)]
 fn told_like(walk: &Walk<Mailbox>, a: u8, b: u8, d: u8, word: &[u8]) -> Option<bool>
     ensures { IfSome result (λ is. (P : State) (m : Move) → IsSightOf P walk.now → IsLegal P m
         → IsCode P m (code_of a b d) → IsTrue is ↔ IsMoveLike P m word.now) }
 {
-    let coded = coded_move(walk, a, b, d);
-    if !may_be_like(&coded, word) {
-        return Some(false);
-    }
     chess::laws::a_text();
     walk.invariant();
-    told_text_like(walk, &coded, word)
+    told_text_like(walk, &coded_move(walk, a, b, d), word)
 }
 
 /// Whether a line that goes on by these codes has a next move, whose standard text without its
@@ -262,6 +288,10 @@ pub(crate) fn told_some_like(walk: &Walk<Mailbox>, left: &[u8], word: &[u8]) -> 
     match left {
         [a, b, d, ..] => {
             if !may_take(walk, *d, word) {
+                return Some(false);
+            }
+            // (the move is told once more where that may be so, so that here it needs no memory)
+            if !may_be_like(&coded_move(walk, *a, *b, *d), word) {
                 return Some(false);
             }
             told_like(walk, *a, *b, *d, word)

@@ -1,28 +1,13 @@
 //! What the text of a move may begin and end with, known from the move before its text is written.
 ghost use Rattle.std.specs.Prelude.{◌≡◌, Some};
-ghost use Rattle.chess.specs.Public.Letters.{kind_letter};
 ghost use Rattle.chess.specs.Public.Placements.{man_at};
 ghost use Rattle.chess.specs.Public.Positions.{State};
 ghost use Rattle.chess.specs.declared.board.man.Man.{Man};
 ghost use Rattle.pgn_criteria.specs.Private.MoveEnds.{BeginsWith, EndsWith, HasByte, RulesOut};
 ghost use Rattle.pgn_criteria.specs.Public.MoveTexts.{IsLike};
 
-use chess::{Kind, Move};
+use chess::{Kind, Move, kind_letter};
 use pgn_game::GamePosition;
-
-/// The letter of a kind of man (PGN 8.2.3.2).
-pub(crate) fn kind_letter(kind: Kind) -> u8
-    ensures { result ≡ kind_letter kind }
-{
-    match kind {
-        Kind::King => b'K',
-        Kind::Queen => b'Q',
-        Kind::Rook => b'R',
-        Kind::Bishop => b'B',
-        Kind::Knight => b'N',
-        Kind::Pawn => b'P',
-    }
-}
 
 /// Whether the text of the move of a man of that kind may begin with the byte: his letter, or the
 /// file of a pawn.

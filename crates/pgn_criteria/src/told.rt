@@ -106,8 +106,9 @@ pub(crate) fn add_told(met: &mut [bool], told: &[bool])
     ensures { (ply : ℕ) → ply < length met.old → IsTrue (get_or met.new ply false)
         ↔ (IsTrue (get_or met.old ply false) ⊎ IsTold told.now ply) }
 {
-    for ply in 0..met.len() {
-        met[ply] = met[ply] || ply < told.len() && told[ply];
+    // (no branch, so that the compiler takes many plies at once)
+    for ply in 0..met.len().min(told.len()) {
+        met[ply] = met[ply] | told[ply];
     }
 }
 

@@ -1,6 +1,6 @@
 //! The plies of a packed game that meet criteria, told on a walk over the codes of its plies.
 ghost use Rattle.std.specs.List.{slice_get};
-ghost use Rattle.std.specs.Prelude.{◌≡◌, ◌↔◌, ◌⊎◌, ◌+◌, ◌/◌, ◌<◌, ℕ, List, length, get_or};
+ghost use Rattle.std.specs.Prelude.{◌≡◌, ◌↔◌, ◌⊎◌, ◌+◌, ◌/◌, ◌<◌, ℕ, Bool, List, length, get_or};
 ghost use Rattle.std.specs.Prelude.{true, false, map, IsTrue, IfOk, IfSome};
 ghost use Rattle.chess.specs.Public.Placements.{Placement};
 ghost use Rattle.chess.specs.Public.Positions.{State};
@@ -75,6 +75,9 @@ fn seen_plies(
     ensures { IfOk result (λ told.
         TellsSeen alternative.now.positions start.now (codes_in plies.now) told.items) }
 {
+    if alternative.is_free_of_positions() {
+        return Ok(vec![in alloc; true; plies.len() / 3 + 1]?);
+    }
     if let Some(flags) = alternative.position_marks() {
         return marked_plies(alloc, alternative, MarkSet { flags }, start, plies);
     }
@@ -123,6 +126,7 @@ fn told_about(
 
 /// Whether that was so, and all conditions are that speak of the next move, or of the last one. It
 /// is `None` where that is not told.
+#[inline(always)]
 fn stays(
     was: bool,
     conditions: &[Stated<MoveClaim<Vec<u8>>>],
@@ -147,6 +151,37 @@ fn stays(
     Some(true)
 }
 
+/// Whether the claim speaks of that.
+fn speaks_of(claim: &MoveClaim<Vec<u8>>, about: About) -> bool
+    ensures { result ≡ false → (replay : Replay) (ply : ℕ) (denied : Bool)
+        → SaysAbout about replay ply denied (move_seen (λ text. text.items) claim.now) }
+{
+    match (about, claim) {
+        (About::Here, MoveClaim::Setup(_)) => true,
+        (About::Next, MoveClaim::Next(_)) => true,
+        (About::Last, MoveClaim::Played(_)) => true,
+        _ => false,
+    }
+}
+
+/// The conditions, or where none speaks of that, none of them.
+fn about_that(
+    conditions: &[Stated<MoveClaim<Vec<u8>>>],
+    about: About,
+) -> &[Stated<MoveClaim<Vec<u8>>>]
+    ensures { (replay : Replay) (ply : ℕ)
+        → AllAbout about replay ply (map (stated (move_seen (λ text. text.items))) result.now)
+        ↔ AllAbout about replay ply
+        (map (stated (move_seen (λ text. text.items))) conditions.now) }
+{
+    for condition in conditions {
+        if speaks_of(&condition.claim, about) {
+            return conditions;
+        }
+    }
+    &conditions[..0]
+}
+
 /// Leaves of the plies that are told those at which is so what the conditions say of the moves
 /// after and before them. Answers `false` where that is not told.
 fn keep_moves(
@@ -164,15 +199,17 @@ fn keep_moves(
     if conditions.is_empty() {
         return true;
     }
+    let on = about_that(conditions, About::Next);
+    let back = about_that(conditions, About::Last);
     let mut walk = start.by_cells();
     let mut left = plies;
     let mut ply = 0usize;
-    let Some(is) = stays(told[0], conditions, About::Last, &walk, &[]) else {
+    let Some(is) = stays(told[0], back, About::Last, &walk, &[]) else {
         return false;
     };
     told[0] = is;
     loop {
-        let Some(is) = stays(told[ply], conditions, About::Next, &walk, left) else {
+        let Some(is) = stays(told[ply], on, About::Next, &walk, left) else {
             return false;
         };
         told[ply] = is;
@@ -180,7 +217,7 @@ fn keep_moves(
             return true;
         };
         ply += 1;
-        let Some(is) = stays(told[ply], conditions, About::Last, &walk, left) else {
+        let Some(is) = stays(told[ply], back, About::Last, &walk, left) else {
             return false;
         };
         told[ply] = is;

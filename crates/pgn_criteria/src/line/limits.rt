@@ -12,7 +12,7 @@ ghost use Rattle.pgn_criteria.specs.declared.condition.PositionClaim.TheVariants
 
 use crate::material::{Limit, Limits};
 use crate::words::{after_key, split_first};
-use chess::Kind;
+use chess::{Kind, kind_letter};
 
 /// The limit of that number that begins the text, and what follows it.
 fn digit_limit(number: u8, text: &[u8]) -> (Limit, &[u8])
@@ -56,20 +56,6 @@ fn kind_of(letter: u8) -> Option<Kind>
     }
 }
 
-/// The letter of men of the kind.
-fn letter_of(kind: Kind) -> u8
-    ensures { result ≡ kind_letter kind }
-{
-    match kind {
-        Kind::King => b'K',
-        Kind::Queen => b'Q',
-        Kind::Rook => b'R',
-        Kind::Bishop => b'B',
-        Kind::Knight => b'N',
-        Kind::Pawn => b'P',
-    }
-}
-
 /// Whether the byte stands in the text.
 fn has_byte(byte: u8, text: &[u8]) -> bool
     ensures { result ≡ has_byte byte text.now }
@@ -99,7 +85,7 @@ fn are_entries(text: &[u8]) -> bool
 fn limit_in(text: &[u8], kind: Kind) -> Limit
     ensures { result ≡ limit_after (kind_letter kind) text.now }
 {
-    let letter = letter_of(kind);
+    let letter = kind_letter(kind);
     let mut rest = text;
     while let [first, after @ ..] = rest {
         if *first == letter {

@@ -19,4 +19,4 @@ returns-else-has_man c P m a b sight legal code out text san like =
     ∙ sym c.has_man.ensures ∙ c.if-has_man.false in
     quiet_text P m legal.pseudo_legal.from legal.pseudo_legal.to quiet text san
     (like_has 120 c.args.word.now (without_check_signs text) (λ star. omega (arith, star))
-    (sym c.contains.ensures.value ∙ of_not c.contains.result out) like)
+    (sym c.has_cross.ensures ∙ of_not c.has_cross.result out) like)

@@ -14,7 +14,7 @@ returns-in-Some c =
     (rw (← c.file-2.ensures.number) first) second
     (rw c.file.ensures.number refl) (rw c.rank.ensures.number refl)
     (promotion_filled c.in-Some.kind m.promote c.kind_letter.result c.in-Some.is
-    c.kind_letter.ensures)
+    c.kind_letter.ensures.letter)
 
 pub returns-in-None : goal.returns-in-None
 returns-in-None c =

@@ -6,7 +6,7 @@ pub returns : goal.returns
 returns c =
     piece_filled c.args.coded.now c.args.by_file c.args.by_rank c.kind_letter.result
     c.byte_if.result c.byte_if-2.result c.byte_if-3.result (96 + c.file-2.result)
-    (48 + c.rank-2.result) c.kind_letter.ensures
+    (48 + c.rank-2.result) c.kind_letter.ensures.letter
     (rw (← c.file.ensures.number) (c.byte_if.ensures (omega arith)))
     (rw (← c.rank.ensures.number) (c.byte_if-2.ensures (omega arith)))
     (c.byte_if-3.ensures (omega arith))

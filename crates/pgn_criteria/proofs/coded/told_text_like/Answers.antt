@@ -13,6 +13,12 @@ returns-then-is_tail_like c P m text sight of san =
     told_alike c.args.coded.now P m text c.args.word.now true of san
     (c.is_tail_like.ensures c.if-is_tail_like.true both.0 both.1)
 
+pub returns-then-is_head_like : goal.returns-then-is_head_like
+returns-then-is_head_like c P m text sight of san =
+    let both = c.is_bare.ensures.officer c.if-is_bare.false in
+    told_alike c.args.coded.now P m text c.args.word.now true of san
+    (c.is_head_like.ensures c.if-is_head_like.true both.0 both.1)
+
 pub returns-then-are_alike : goal.returns-then-are_alike
 returns-then-are_alike c P m text sight of san =
     told_alike c.args.coded.now P m text c.args.word.now c.is_text_like-is.result of san

@@ -12,7 +12,7 @@ returns-else-byte-kind_letter c P out text san ends =
     subst (λ p. Ends m None p b) c.in-Some.is
     (subst (λ w. Ends m w m.promote b) castle (ends_text P m text b san ends)) in
     elim is [
-      | inl letter ↦ c.if-byte-kind_letter.false (letter ∙ sym c.kind_letter.ensures)
+      | inl letter ↦ c.if-byte-kind_letter.false (letter ∙ sym c.kind_letter.ensures.letter)
       | inr rank ↦ let number = c.rank.ensures.number in grind (arith, nat_tests, out, rank, number)
     ]
 

@@ -5,7 +5,8 @@ use Rattle.std.proofs.lemmas.List.{length-drop, length-set}
 use Rattle.pgn_criteria.specs.Public.Walks.{IsSightOf}
 use Rattle.pgn_criteria.specs.Private.Told.{AllAbout}
 use Rattle.pgn_criteria.specs.declared.played.About.TheVariants.{Last, Next}
-use Rattle.pgn_criteria.proofs.KeptFacts.{kept_all, kept_first, kept_none, kept_second, next_about}
+use Rattle.pgn_criteria.proofs.KeptFacts.{asked_all, kept_all, kept_first, kept_none}
+use Rattle.pgn_criteria.proofs.KeptFacts.{kept_second, next_about}
 use Rattle.pgn_criteria.proofs.KeptFacts.{walked_none, walked_on}
 use Rattle.pgn_criteria.proofs.StandFacts.{rest_is}
 use Rattle.pgn_criteria.proofs.walked.keep_moves.Goals as goal
@@ -24,7 +25,9 @@ loop-is-init c =
             kept_second (λ k. AllAbout Next replay k asked) (λ k. AllAbout Last replay k asked) 0 0
                 0 told told c.in-Some.is' (omega (arith, size))
                 (kept_none (λ k. AllAbout Next replay k asked) (λ k. AllAbout Last replay k asked)
-                told) refl (c.in-Some.ensures P [] replay 0 seen tt refl refl),
+                told) refl
+                (asked_all (c.about_that-back.ensures replay 0)
+                (c.in-Some.ensures P [] replay 0 seen tt refl refl)),
           );
     }
 
@@ -45,8 +48,9 @@ returns-in_default-left c is P replay sight by ply =
     (at + 1) c.args.told.now (slice_set told at c.in-Some-stays.is') all all
     (kept_first (λ k. AllAbout Next replay k asked) (λ k. AllAbout Last replay k asked) at (at + 1)
     at c.args.told.now told c.in-Some-stays.is' (omega (arith, size, same, place)) old.1 refl
+    (asked_all (c.about_that-on.ensures replay at)
     (c.in-Some-stays.ensures way.position way.moves replay at way.sight way.legal way.are
-    (next_about replay c.loop-is.walk c.loop-is.left.now at way))) ply in (
+    (next_about replay c.loop-is.walk c.loop-is.left.now at way)))) ply in (
       λ t. let kept = both.0 t in (kept.0, (kept.1, kept.2)),
       λ so. both.1 (so.0, so.1.0, so.1.1),
     )
@@ -76,13 +80,15 @@ loop-is-preserved c =
           kept_first (λ k. AllAbout Next replay k asked) (λ k. AllAbout Last replay k asked) at
           (at + 1) at c.args.told.now told c.in-Some-stays.is' (omega (arith, size, same, place))
           old.1 refl
+          (asked_all (c.about_that-on.ensures replay at)
           (c.in-Some-stays.ensures way.position way.moves replay at way.sight way.legal way.are
-          (next_about replay c.loop-is.walk left at way)) in (
+          (next_about replay c.loop-is.walk left at way))) in (
             rw c.step.ensures on.1,
             kept_second (λ k. AllAbout Next replay k asked) (λ k. AllAbout Last replay k asked)
                 (at + 1) (at + 1) (at + 1) c.args.told.now first c.in-Some-stays-2.is'
                 (omega (arith, size, same, place, long, kept)) next refl
+                (asked_all (c.about_that-back.ensures replay (at + 1))
                 (c.in-Some-stays-2.ensures way.position way.moves replay (at + 1) way.sight
-                way.legal way.are on.0),
+                way.legal way.are on.0)),
           );
     }

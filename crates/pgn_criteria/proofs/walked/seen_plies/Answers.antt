@@ -1,8 +1,14 @@
 use Rattle.pgn_criteria.proofs.Common.{refl, arith, subst, codes_in}
 use Rattle.pgn_criteria.specs.Private.SeenPlies.{TellsSeen}
-use Rattle.pgn_criteria.proofs.SeenPlyFacts.{told_last, told_next}
+use Rattle.pgn_criteria.proofs.SeenPlyFacts.{all_fit, told_last, told_next}
 use Rattle.pgn_criteria.proofs.StandFacts.{rest_is}
 use Rattle.pgn_criteria.proofs.walked.seen_plies.Goals as goal
+
+pub returns-then-is_free_of_positions : goal.returns-then-is_free_of_positions
+returns-then-is_free_of_positions c =
+    let none = c.is_free_of_positions.ensures c.if-is_free_of_positions.true in
+    rw none (all_fit c.args.start.now c.args.plies.now _
+    (c.in_ok-vec.ensures.items_if_clones_equal (λ y same. same)))
 
 pub loop-told-init : goal.loop-told-init
 loop-told-init c more tells =
