@@ -92,7 +92,10 @@ pub fn count_main_moves(elements: &[Element<'_>]) -> usize
     let mut plies = 0;
     let mut depth = 0usize;
     for element in elements {
-        plies += usize::from(depth == 0 && matches!(element, Element::Move(_)));
+        if matches!(element, Element::Move(_)) {
+            plies += usize::from(depth == 0);
+            continue;
+        }
         depth += usize::from(matches!(element, Element::Open));
         depth = depth.saturating_sub(usize::from(matches!(element, Element::Close)));
     }
