@@ -91,13 +91,13 @@ module _ {A : Type 0} (view : A → Conditions) (asked : List A) (before : List 
       (λ replay starts. here replay starts i one at)
 
   -- the last
-  pub columns_end : (replay : Replay)
-      → replay ≡ (record { positions = before ++ P ∷ []; played = played; turns = [] })
-      → AreBits asked (λ a. FitsAt replay (view a) (length before)) own
+  pub columns_end : (replay : Replay) → replay.positions ≡ before ++ P ∷ []
+      → replay.played ≡ played → AreBits asked (λ a. FitsAt replay (view a) (length before)) own
       → EachColumn asked (λ a told. AreTold (FitsAt replay (view a)) told) new
-  columns_end replay ends here i one at =
+  columns_end replay positions moves here i one at =
       (told_end before played P even (view one) (column i fits) (column i new) (has_bit own i)
-      (so_far i one at) (column_more i fits new own items) replay ends (here i one at)).1
+      (so_far i one at) (column_more i fits new own items) replay positions moves
+      (here i one at)).1
 
 -- ---- what each of the alternatives is
 

@@ -232,22 +232,17 @@ module _ (before : List State) (played : List OneMove) (P : State)
   )
 
   -- a replay that ends there
-  pub ends_next : IsAbout about.Next (record {
-    positions = before ++ P ∷ [];
-    played = played;
-    turns = [];
-  }) (length before) P None
-  ends_next = (
-    at_seam before P [],
-    slice_get_past played (length before) (omega (arith, even)),
-  )
+  module _ (replay : Replay) (positions : replay.positions ≡ before ++ P ∷ [])
+      (moves : replay.played ≡ played) where
+    pub ends_next : IsAbout about.Next replay (length before) P None
+    ends_next = (
+      ap (λ ps. slice_get ps (length before)) positions ∙ at_seam before P [],
+      ap (λ ms. slice_get ms (length before)) moves
+          ∙ slice_get_past played (length before) (omega (arith, even)),
+    )
 
-  pub ends_from : StartsWith before played (record {
-    positions = before ++ P ∷ [];
-    played = played;
-    turns = [];
-  })
-  ends_from = (P ∷ [], [], refl, sym (append-nil played))
+    pub ends_from : StartsWith before played replay
+    ends_from = (P ∷ [], [], positions, moves ∙ sym (append-nil played))
 
   -- what is told of one more ply
   module _ (asked : Conditions) (told new : List Bool) (is : Bool)
@@ -265,15 +260,13 @@ module _ (before : List State) (played : List OneMove) (P : State)
         (StartsWith (before ++ P ∷ []) (played ++ m ∷ [])) told new is so_far items
         (λ replay starts. (goes_from m replay starts, here replay starts)))
 
-    pub told_end : (replay : Replay)
-        → replay ≡ (record { positions = before ++ P ∷ []; played = played; turns = [] })
-        → (IsTrue is ↔ FitsAt replay asked (length before))
+    pub told_end : (replay : Replay) → replay.positions ≡ before ++ P ∷ []
+        → replay.played ≡ played → (IsTrue is ↔ FitsAt replay asked (length before))
         → (length new ≡ length replay.positions) × AreTold (FitsAt replay asked) new
-    told_end replay ends here =
-        let starts : StartsWith before played replay = subst (StartsWith before played) (sym ends)
-        ends_from in
+    told_end replay positions moves here =
+        let starts = ends_from replay positions moves in
         let size : length replay.positions ≡ length before + 1 =
-        ap (λ r. length (Replay.positions r)) ends ∙ length-append before (P ∷ []) in
+        ap length positions ∙ length-append before (P ∷ []) in
         let all = told_more asked (length before) (StartsWith before played) (λ r. r ≡ replay) told
         new is so_far items (λ r same. (
           subst (StartsWith before played) (sym same) starts,

@@ -15,7 +15,7 @@ ghost use Rattle.pgn_criteria.specs.Private.Stages.{AreLegal, AreGood, AllOfGame
 ghost use Rattle.pgn_criteria.specs.Private.Stages.{AllAskWithin, AllClaims, AreFreeOfMoves};
 ghost use Rattle.pgn_criteria.specs.Private.Stages.{AllOfPly};
 ghost use Rattle.pgn_criteria.specs.Private.Stages.{AllSaid, AllOfSeen, AreFixed, AreMirrored};
-ghost use Rattle.pgn_criteria.specs.Private.Stages.{OfPattern, AllOfPatterns, AllOfStage};
+ghost use Rattle.pgn_criteria.specs.Private.Stages.{OfPattern, AllOfPatterns};
 ghost use Rattle.pgn_criteria.specs.Private.Stages.{AllOfRest, AreNoCounts, SpansStand};
 ghost use Rattle.pgn_criteria.specs.Private.Stages.{position_seen, seen, stage_of};
 ghost use Rattle.pgn_criteria.specs.Public.Prefilters.{IsPlayedBy, NowhereSeen, codes_in};

@@ -2,7 +2,7 @@
 //! first moves tell.
 ghost use Rattle.std.specs.Prelude.{◌≡◌, ◌↔◌, ℕ, IsTrue, IfOk, length, map};
 ghost use Rattle.pgn_game.specs.Public.Replays.{Replay};
-ghost use Rattle.pgn_criteria.specs.Public.Meeting.{Meets, heading_of};
+ghost use Rattle.pgn_criteria.specs.Public.Meeting.{Meets};
 ghost use Rattle.pgn_criteria.specs.Private.Counted.{AllOfBegun, AskWords, AsksWords, SaysOfBegun};
 ghost use Rattle.pgn_criteria.specs.Private.Stages.{AllClaims, AllOfGame, AreLegal, EachIs};
 ghost use Rattle.pgn_criteria.specs.Private.Stages.{FitTheSame, IsGood, game_seen, stated};
@@ -15,7 +15,6 @@ use crate::meets::{Criteria, larger};
 use crate::moves::fits_moves;
 use crate::words::count_words;
 use pgn_game::Replayed;
-use pgn_text::RawGame;
 use std::alloc::{AllocError, Global};
 
 /// Whether the condition is so of a game of so many plies that begins as this replay does.
@@ -97,20 +96,21 @@ impl Criteria {
 
     /// The alternatives of which what they say of the game is so: it has so many plies, and begins
     /// as this replay does.
-    pub(crate) fn left_of_begun<'a>(
+    pub(crate) fn left_of_begun<'a, H: Headed<'a>>(
         &'a self,
         alloc: Global,
-        game: &RawGame<'a>,
+        game: &H,
         plies: usize,
         beginning: &Replayed,
     ) -> Result<Vec<&'a Alternative>, AllocError>
-        requires { AreLegal beginning.now }
+        requires valid { H.valid game.now }
+        requires legal { AreLegal beginning.now }
         ensures { IfOk result (λ left. (most : ℕ) (replay : Replay)
             → EachIs (AskWords most) self.now → length replay.played ≡ plies
             → FitTheSame most beginning.now replay
-            → EachIs (AllOfGame (heading_of game.now) replay) (map (λ a. a.now) left.items)
-            × ((ply : ℕ) → Meets (heading_of game.now) replay ply (map (λ a. a.now) left.items)
-            ↔ Meets (heading_of game.now) replay ply self.now)) }
+            → EachIs (AllOfGame (H.heading game.now) replay) (map (λ a. a.now) left.items)
+            × ((ply : ℕ) → Meets (H.heading game.now) replay ply (map (λ a. a.now) left.items)
+            ↔ Meets (H.heading game.now) replay ply self.now)) }
     {
         let mut left = Vec::new(alloc);
         for alternative in &self.alternatives {

@@ -1,10 +1,6 @@
 //! The plies of a game that is replayed which meet criteria, found at once.
-ghost use Rattle.std.specs.Prelude.{◌≡◌, ◌∷◌, ◌++◌, ◌+◌, [], ℕ, List, IfOk, length};
-ghost use Rattle.chess.specs.Public.Positions.{State};
-ghost use Rattle.pgn_text.specs.Public.GameTexts.{GameText, tag_in};
-ghost use Rattle.pgn_game.specs.Public.CodeLines.{IsLegalLine};
-ghost use Rattle.pgn_game.specs.Public.PackedGames.{PackedGame, IsPacked, FitsRecord};
-ghost use Rattle.pgn_game.specs.Public.PackReading.{IsRawOfGame, raw_of};
+ghost use Rattle.std.specs.Prelude.{◌≡◌, ◌∷◌, ◌++◌, ◌+◌, [], List, IfOk, length};
+ghost use Rattle.pgn_text.specs.Public.GameTexts.{tag_in};
 ghost use Rattle.pgn_game.specs.Public.Replays.{Replay, IsSomeReplay};
 ghost use Rattle.pgn_game.specs.Public.Starts.{fen_tag};
 ghost use Rattle.pgn_criteria.specs.Public.Conditions.{Conditions};
@@ -16,7 +12,6 @@ use crate::headed::Headed;
 use crate::meets::Criteria;
 use crate::spans::add_plies;
 use pgn_game::Replayed;
-use pgn_game::pack::RawRecord;
 use pgn_text::RawGame;
 use std::alloc::{AllocError, Global};
 
@@ -87,25 +82,5 @@ impl Criteria {
     {
         pgn_game::laws::one_legal_move();
         met_by(&self.alternatives, alloc, game, replayed)
-    }
-
-    /// The same of a packed game: for each ply of its line, from 0 to its last, whether its
-    /// position meets the criteria.
-    pub fn met_packed<'a>(
-        &'a self,
-        alloc: Global,
-        raw: &RawRecord<'a>,
-        replayed: &Replayed,
-    ) -> Result<Vec<bool>, AllocError>
-        requires shows { IsRawOfGame raw.now }
-        requires legal { (start : State) × IsLegalLine start replayed.now }
-        ensures each { IfOk result (λ met.
-            length met.items ≡ length replayed.now.positions) }
-        ensures met { IfOk result (λ met. (game : GameText) (replay : Replay) (packed : PackedGame)
-            → IsPacked packed.name packed.number packed.offset game replay packed
-            → FitsRecord packed → raw_of packed ≡ raw.now
-            → AreMet (heading_of game) replayed.now self.now met.items) }
-    {
-        met_by(&self.alternatives, alloc, raw, replayed)
     }
 }

@@ -119,7 +119,7 @@ fn left_after<'a, H: Headed<'a>>(
 }
 
 /// The bytes of so many first plies, or of all where there are no more.
-fn front_of(plies: &[u8], most: usize) -> &[u8]
+pub(crate) fn front_of(plies: &[u8], most: usize) -> &[u8]
     ensures { result.now ≡ take (3 * most) plies.now }
 {
     let size = most.saturating_mul(3);

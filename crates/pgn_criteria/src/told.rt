@@ -23,7 +23,7 @@ use std::alloc::{AllocError, Global};
 
 /// Adds one more number, with a bit for each alternative: whether what it says of the position, and
 /// of the moves before and after it, is so.
-fn add_bits(
+pub(crate) fn add_bits(
     fits: &mut Vec<u64>,
     alternatives: &[&Alternative],
     turn: Turn<'_>,
@@ -113,7 +113,33 @@ pub(crate) fn add_told(met: &mut [bool], told: &[bool])
 }
 
 /// Adds the plies at which some of the alternatives is met, of which what they say of the game is
-/// so; or answers the fault of the main line.
+/// so: of each ply of its main line these are the bits of the alternatives.
+pub(crate) fn add_columns(
+    met: &mut [bool],
+    alternatives: &[&Alternative],
+    alloc: Global,
+    fits: &[u64],
+) -> Result<(), AllocError>
+    requires few { length alternatives.now ≤ 64 }
+    ensures { OnOk result ((replay : Replay)
+        → EachColumn alternatives.now (λ a told. AreTold (FitsAt replay a.now) told) fits.now
+        → (heading : Heading) (before : List Conditions)
+        → EachIs (AllOfGame heading replay) (map (λ a. a.now) alternatives.now)
+        → AreMet heading replay before met.old
+        → AreMet heading replay (before ++ map (λ a. a.now) alternatives.now) met.new) }
+{
+    let mut place = 0usize;
+    for alternative in alternatives {
+        let mut told = column_of(alloc, fits, place)?;
+        keep_spans(&mut told, alternative);
+        add_told(met, &told);
+        place += 1;
+    }
+    Ok(())
+}
+
+/// Adds the plies of the game at which some of the alternatives is met, of which what they say of
+/// the game is so; or answers the fault of the main line.
 pub(crate) fn add_met<'a>(
     met: &mut [bool],
     alternatives: &[&Alternative],
@@ -132,12 +158,6 @@ pub(crate) fn add_met<'a>(
         IfSome (fault_of fault) (IsFault Main (tag_in fen_tag game.now.tags) game.now.elements)) }
 {
     let fits = bits_of_plies(alternatives, alloc, game, met.len())?;
-    let mut place = 0usize;
-    for alternative in alternatives {
-        let mut told = column_of(alloc, &fits, place)?;
-        keep_spans(&mut told, alternative);
-        add_told(met, &told);
-        place += 1;
-    }
+    add_columns(met, alternatives, alloc, &fits)?;
     Ok(())
 }

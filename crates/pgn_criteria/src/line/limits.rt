@@ -1,5 +1,5 @@
 //! Conditions on the material.
-ghost use Rattle.std.specs.Prelude.{◌≡◌, ◌≢◌, ◌↔◌, ◌≤◌, ◌<◌, [], ℕ, List, length, IsTrue};
+ghost use Rattle.std.specs.Prelude.{◌≡◌, ◌↔◌, ◌≤◌, ◌<◌, length, IsTrue};
 ghost use Rattle.std.specs.Prelude.{MatchOption, Option};
 ghost use Rattle.chess.specs.Public.Fen.{has_byte};
 ghost use Rattle.chess.specs.Public.Letters.{kind_letter};

@@ -10,7 +10,7 @@ use Rattle.pgn_game.specs.declared.openings.Opening.{Opening}
 use Rattle.pgn_extract.specs.Public.Rows.{IsOpeningBy}
 use Rattle.pgn_game.specs.Public.CodeLines.{AreLegalMoves, IsLegalLine}
 use Rattle.pgn_game.proofs.OneReplay.{line_head}
-use Rattle.pgn_extract.specs.Private.KeptPacked.{IsStartOf, IsKeptOf}
+use Rattle.pgn_extract.specs.Private.KeptPacked.{IsStartOf}
 use Rattle.pgn_extract.proofs.Common.{slice_get, IsReplay}
 use Rattle.pgn_extract.specs.Private.KeptLines.{replay_of}
 use Rattle.pgn_extract.proofs.MoveCells.{first_position}
@@ -63,7 +63,7 @@ module _ {raw : RawRecord} {game : GameText} {replay : Replay} {packed : PackedG
       )
 
   -- so a replay of the bytes is that of the game
-  same_replay : (kept : Replay) → IsCodedReplay start raw.plies kept → replay ≡ kept
+  pub same_replay : (kept : Replay) → IsCodedReplay start raw.plies kept → replay ≡ kept
   same_replay kept coded =
       let played : replay.played ≡ kept.played = coded.only replay.played coded_line in
       let positions : replay.positions ≡ kept.positions =
@@ -71,14 +71,6 @@ module _ {raw : RawRecord} {game : GameText} {replay : Replay} {packed : PackedG
       ∙ ap (positions_from start) played ∙ sym coded.line.positions in
       let turns : replay.turns ≡ kept.turns = own.is_replay.turns ∙ sym coded.turns in
       λ i. record { positions = positions i; played = played i; turns = turns i }
-
-pub kept_of : (raw : RawRecord) (start : State) (kept : Replay) → IsStartOf raw start
-    → IsCodedReplay start raw.plies kept → IsKeptOf raw kept
-kept_of raw start kept is coded = record {
-  start = start;
-  line = coded.line;
-  same = λ game replay packed own. same_replay own start (is game replay packed own) kept coded;
-}
 
 -- where the bytes spell no line, no game has the record
 pub none_of : (raw : RawRecord) (start : State) → IsStartOf raw start

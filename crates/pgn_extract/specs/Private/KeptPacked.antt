@@ -1,10 +1,7 @@
 -- Private words: the entries of a packed game whose line is replayed and kept.
-use Rattle.std.specs.Prelude.{◌≡◌}
 use Rattle.chess.specs.Public.Positions.{State}
 use Rattle.pgn_text.specs.Public.GameTexts.{tag_in}
-use Rattle.pgn_game.specs.Public.CodeLines.{IsLegalLine}
 use Rattle.pgn_game.specs.Public.PackReading.{RawRecord}
-use Rattle.pgn_game.specs.Public.Replays.{Replay}
 use Rattle.pgn_game.specs.Public.Starts.{fen_tag, IsStart}
 use Rattle.pgn_extract.specs.Private.Packed.{EachOfRecord}
 
@@ -12,9 +9,3 @@ use Rattle.pgn_extract.specs.Private.Packed.{EachOfRecord}
 abbrev pub IsStartOf : RawRecord → State → Type 0
 IsStartOf raw start =
     EachOfRecord raw (λ game replay packed. IsStart (tag_in fen_tag game.tags) start)
-
--- a line of legal moves is kept, and it is the main line of each game that has the record
-pub record IsKeptOf (raw : RawRecord) (kept : Replay) : Type 0 where
-  pub start : State
-  pub line : IsLegalLine start kept
-  pub same : EachOfRecord raw (λ game replay packed. replay ≡ kept)

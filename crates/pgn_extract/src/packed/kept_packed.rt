@@ -6,7 +6,7 @@ ghost use Rattle.pgn_text.specs.Public.GameTexts.{tag_in};
 ghost use Rattle.pgn_game.specs.Public.Starts.{fen_tag};
 ghost use Rattle.pgn_game.specs.Public.PackReading.{IsRawOfGame};
 ghost use Rattle.pgn_extract.specs.Public.Aims.{Aim, aim_of};
-ghost use Rattle.pgn_extract.specs.Private.KeptPacked.{IsStartOf, IsKeptOf};
+ghost use Rattle.pgn_extract.specs.Private.KeptPacked.{IsStartOf};
 ghost use Rattle.pgn_extract.specs.Public.Listing.{has_annotations};
 ghost use Rattle.pgn_extract.specs.Public.Rows.{IsOpeningBy};
 ghost use Rattle.pgn_extract.specs.Private.Packed.{EachOfRecord, HasNoText, ListsRecord};
@@ -22,27 +22,10 @@ use crate::packed::turned::next_of;
 use crate::packed::{PackedFault, RecordContext, met_by_codes, push_found, search_of, start_fault};
 use chess::Move;
 use pgn_criteria::Criteria;
-use pgn_game::pack::{CodesError, RawRecord, replay_codes};
-use pgn_game::{GamePosition, Opening, Openings, Replayed, given_position};
+use pgn_game::pack::{CodesError, RawRecord};
+use pgn_game::{GamePosition, Opening, Openings, given_position};
 use pgn_text::is_contents;
 use std::alloc::Global;
-
-/// Replays the line of the record from the position.
-fn replay_from(
-    alloc: Global,
-    raw: &RawRecord<'_>,
-    start: GamePosition,
-) -> Result<Replayed, PackedFault>
-    requires { IsStartOf raw.now start }
-    ensures ok { IfOk result (IsKeptOf raw.now) }
-    ensures err { IfErr result (λ fault. fault ≡ PackedFault.NoGame → HasNoText raw.now) }
-{
-    match replay_codes(alloc, start, raw.plies()) {
-        Ok(replayed) => Ok(replayed),
-        Err(CodesError::NoLine) => Err(PackedFault::NoGame),
-        Err(CodesError::OutOfMemory) => Err(PackedFault::OutOfMemory),
-    }
-}
 
 /// The position that the contents of the record's FEN tag spell.
 fn start_given(
@@ -89,17 +72,6 @@ pub(crate) fn record_opening(
 {
     match start_of(alloc, raw) {
         Ok(start) => Ok(openings.opening_of_codes(start, raw.plies())),
-        Err(fault) => Err(fault),
-    }
-}
-
-/// Replays the line of the record from where its game starts.
-fn replay_record(alloc: Global, raw: &RawRecord<'_>) -> Result<Replayed, PackedFault>
-    ensures ok { IfOk result (IsKeptOf raw.now) }
-    ensures err { IfErr result (λ fault. fault ≡ PackedFault.NoGame → HasNoText raw.now) }
-{
-    match start_of(alloc, raw) {
-        Ok(start) => replay_from(alloc, raw, start),
         Err(fault) => Err(fault),
     }
 }
@@ -157,8 +129,8 @@ fn keep_record<Q: Question>(
     }
 }
 
-/// For each ply of a packed game, whether it meets the criteria. All positions of its line are kept
-/// meanwhile where the codes of its plies do not tell.
+/// For each ply of a packed game, whether it meets the criteria. Its line is played where the codes
+/// of its plies do not tell.
 fn met_of<'a>(
     context: RecordContext<'a, '_, 'a>,
     criteria: &'a Criteria,
@@ -175,12 +147,15 @@ fn met_of<'a>(
         Err(fault) => return Err(fault),
     }
     let RecordContext { alloc, record, .. } = context;
-    let replayed = match replay_record(alloc, record) {
-        Ok(replayed) => replayed,
+    let start = match start_of(alloc, record) {
+        Ok(start) => start,
         Err(fault) => return Err(fault),
     };
-    let met = criteria.met_packed(alloc, record, &replayed)?;
-    Ok(met)
+    match criteria.met_coded(alloc, record, &start) {
+        Ok(met) => Ok(met),
+        Err(CodesError::NoLine) => Err(PackedFault::NoGame),
+        Err(CodesError::OutOfMemory) => Err(PackedFault::OutOfMemory),
+    }
 }
 
 /// The line of the record with what is known of each of its positions by the criteria.

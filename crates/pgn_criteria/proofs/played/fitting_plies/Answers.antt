@@ -51,12 +51,12 @@ returns-then-not-branch c =
     subst (λ (a : Conditions). AllClaims IsSetup a.moves) c.alternative.view_is
     (rw c.deref.ensures.value at (c.are_setups-is_of_positions.ensures.0 c.if-is_of_positions.true))
     in
-    let here = (ends_next old.before old.played line.position even).0 in
+    let here = (ends_next old.before old.played line.position even replay refl refl).0 in
     let before = c.fits_before-is_met.ensures replay _ (rw c.position-in-loop-fits.ensures here)
-    (old.reached replay (ends_from old.before old.played line.position even)) in
+    (old.reached replay (ends_from old.before old.played line.position even replay refl refl)) in
     let told = told_end old.before old.played line.position even own c.loop-fits.fits.items
     c.add_ply.new.fits.items c.fits_before-is_met.result old.told c.in_ok-add_ply.ensures replay
-    refl
+    refl refl
     (still_fits replay own _ c.fits_before-is_met.result setups before) in
     (replay, played_all old.to ended.words, told.0, told.1)
 
@@ -100,12 +100,12 @@ returns-then-is_none c =
     let ended = rw none at c.in_ok-next.ensures.went in
     let replay : Replay =
     record { positions = old.before ++ line.position ∷ []; played = old.played; turns = [] } in
-    let next = ends_next old.before old.played line.position even in
+    let next = ends_next old.before old.played line.position even replay refl refl in
     let before = c.fits_before-is_met.ensures replay _ (rw c.position-in-loop-fits.ensures next.0)
-    (old.reached replay (ends_from old.before old.played line.position even)) in
+    (old.reached replay (ends_from old.before old.played line.position even replay refl refl)) in
     let (is, items, fits) = c.in_ok-add_turn.ensures in
     let told = told_end old.before old.played line.position even own c.loop-fits.fits.items
-    c.add_turn.new.fits.items is old.told items replay refl
+    c.add_turn.new.fits.items is old.told items replay refl refl
     (fits replay _ (rw (c.in_ok-next.ensures.before, none) next) before) in
     (replay, played_all old.to ended.words, told.0, told.1)
 

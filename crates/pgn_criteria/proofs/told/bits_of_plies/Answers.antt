@@ -39,12 +39,13 @@ returns-then-is_none c =
     let ended = rw none at c.in_ok-next.ensures.went in
     let replay : Replay =
     record { positions = old.passed ++ line.position ∷ []; played = old.played; turns = [] } in
-    let next = ends_next old.passed old.played line.position even in
+    let next = ends_next old.passed old.played line.position even replay refl refl in
     let (own, items, bits) = c.in_ok-add_bits.ensures in
     let turn : IsTurn replay (length old.passed) c.loop-fits.before c.loop-fits.last
     c.advance_from.new.before c.in_ok-next.next =
     record {
-      led = old.led replay (ends_from old.passed old.played line.position even);
+      led = old.led replay
+          (ends_from old.passed old.played line.position even replay refl refl);
       here = rw c.in_ok-next.ensures.before next.0;
       goes = rw none next.1;
     } in (
@@ -53,7 +54,7 @@ returns-then-is_none c =
       ap length items ∙ length-append c.loop-fits.fits.items (own ∷ [])
           ∙ ap (λ n. n + 1) old.size ∙ sym (length-append old.passed (line.position ∷ [])),
       columns_end (λ a. a.now) c.args.alternatives.now old.passed old.played line.position even
-          c.loop-fits.fits.items c.add_bits.new.fits.items own old.told items replay refl
+          c.loop-fits.fits.items c.add_bits.new.fits.items own old.told items replay refl refl
           (bits replay (length old.passed) turn),
     )
 

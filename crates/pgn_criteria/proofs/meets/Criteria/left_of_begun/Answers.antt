@@ -1,7 +1,7 @@
 use Rattle.std.proofs.lemmas.List.{append-nil}
 use Rattle.pgn_criteria.proofs.Common.{◌≡◌, ◌↔◌, ◌++◌, ◌∷◌, ◌+◌, [], ℕ, length, drop, map, ap, ◌∙◌}
 use Rattle.pgn_criteria.proofs.Common.{arith, sym, subst, map-append, append_assoc, drop-length}
-use Rattle.pgn_criteria.proofs.Common.{IsTrue, Conditions, State, SomeHold, heading_of}
+use Rattle.pgn_criteria.proofs.Common.{IsTrue, Conditions, State, SomeHold}
 use Rattle.pgn_criteria.proofs.ColumnFacts.{each_more}
 use Rattle.pgn_criteria.proofs.CountedFacts.{begun_of_all}
 use Rattle.pgn_criteria.proofs.MeetFacts.{good_from, alternatives_from}
@@ -13,8 +13,8 @@ use Rattle.pgn_criteria.proofs.meets.Criteria.left_of_begun.Goals.{else-are_of_b
 use Rattle.pgn_criteria.proofs.meets.Criteria.left_of_begun.Goals as goal
 
 pub loop-alternative-preserved : goal.loop-alternative-preserved
-loop-alternative-preserved c =
-    let heading = heading_of c.args.game.now in
+loop-alternative-preserved g c =
+    let heading = g.H.Headed.heading c.args.game.now in
     let plies = c.args.plies in
     let all = c.deref-alternative-items.result.now in
     let i = c.loop-alternative.alternative-index in
@@ -66,8 +66,8 @@ loop-alternative-preserved c =
     }
 
 pub returns : goal.returns
-returns c most replay asks size fits =
-    let heading = heading_of c.args.game.now in
+returns g c most replay asks size fits =
+    let heading = g.H.Headed.heading c.args.game.now in
     let all = c.deref-alternative-items.result.now in
     let left = map (λ a. a.now) c.loop-alternative.left.items in
     let end : c.loop-alternative.alternative-index ≡ length all = omega arith in

@@ -1,5 +1,5 @@
 use Rattle.std.proofs.lemmas.Result.{MatchResult-weaker}
-use Rattle.pgn_criteria.proofs.Common.{◌↔◌, ◌∙◌, ℕ, ap, sym, subst, length, map, Meets}
+use Rattle.pgn_criteria.proofs.Common.{◌↔◌, ◌∙◌, ℕ, ap, refl, sym, subst, length, map, Meets}
 use Rattle.pgn_criteria.proofs.Common.{tag_in, fen_tag, heading_of}
 use Rattle.pgn_game.specs.Public.MainLines.{main_words}
 use Rattle.pgn_game.specs.declared.replays.replayer.Lines.TheVariants.{Main}
@@ -11,9 +11,14 @@ use Rattle.pgn_criteria.specs.Private.Stages.{AllOfGame, EachIs}
 use Rattle.pgn_criteria.proofs.meets.Criteria.met_of_game.Goals as goal
 
 pub left_of_begun-requires : goal.left_of_begun-requires
-left_of_begun-requires c =
+left_of_begun-requires c k = (
+  (refl, tt),
+  (
+    tt,
     beginning_legal (tag_in fen_tag c.args.game.now.tags) c.args.game.now.elements _
-    c.in_ok-beginning.beginning c.in_ok-beginning.ensures
+        c.in_ok-beginning.beginning c.in_ok-beginning.ensures,
+  ),
+)
 
 pub returns : goal.returns
 returns c =

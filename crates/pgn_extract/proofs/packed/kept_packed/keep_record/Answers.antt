@@ -8,10 +8,10 @@ use Rattle.pgn_extract.specs.Private.KeptPacked.{IsStartOf}
 use Rattle.pgn_extract.proofs.Finds.{none_yet}
 use Rattle.pgn_extract.proofs.entries.KeptLines.{begins_kept}
 use Rattle.pgn_extract.proofs.entries.KeptMoves.{first_more, tells_none}
-use Rattle.pgn_extract.proofs.packed.CodedMoves.{coded_all, coded_legal, coded_none}
-use Rattle.pgn_extract.proofs.packed.CodedMoves.{coded_on, coded_positions, coded_stuck}
+use Rattle.pgn_criteria.proofs.CodedPlays.{coded_all, coded_legal, coded_none}
+use Rattle.pgn_criteria.proofs.CodedPlays.{coded_on, coded_positions, coded_stuck}
 use Rattle.pgn_extract.proofs.packed.CodedMoves.{coded_tells}
-use Rattle.pgn_extract.proofs.packed.KeptPackedFacts.{kept_of, none_of}
+use Rattle.pgn_extract.proofs.packed.KeptPackedFacts.{none_of, same_replay}
 use Rattle.pgn_extract.proofs.packed.kept_packed.keep_record.Goals as goal
 
 pub loop-first-init : goal.loop-first-init
@@ -65,8 +65,8 @@ returns-in_default-clause-ok g c aim asks game replay packed own =
     let ends : IsNextCoded here c.loop-first.left.now None =
     subst (IsNextCoded here c.loop-first.left.now) c.in_default.is c.in-Ok-next_of.ensures.ok in
     let kept = replay_of start played in
-    let keeps = kept_of raw start kept old.starts (coded_all old.to ends) in
-    let same = keeps.same game replay packed own in
+    let same =
+    same_replay own start (old.starts game replay packed own) kept (coded_all old.to ends) in
     let is : IsReplay Main (tag_in fen_tag game.tags) game.elements kept =
     subst (λ (x : Replay). IsReplay Main (tag_in fen_tag game.tags) game.elements x) same
     own.is_replay in

@@ -4,7 +4,7 @@ use Rattle.pgn_extract.specs.Private.KeptLines.{AreFirst}
 use Rattle.pgn_extract.specs.Private.KeptPacked.{IsStartOf}
 use Rattle.pgn_extract.specs.Private.Packed.{EachOfRecord}
 use Rattle.pgn_extract.proofs.entries.KeptMoves.{TellsFirst}
-use Rattle.pgn_extract.proofs.packed.CodedMoves.{IsCodedTo}
+use Rattle.pgn_criteria.proofs.CodedPlays.{IsCodedTo}
 use Rattle.pgn_extract.proofs.packed.kept_packed.keep_record.Given as goal
 
 abbrev pub invariant-loop-first : goal.invariant-loop-first
