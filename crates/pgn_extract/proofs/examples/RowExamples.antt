@@ -1,6 +1,10 @@
 -- Worked examples of rows: cells, strings and members as they are written, names and numbers.
 use Rattle.std.proofs.Common.{◌≡◌, ◌≤◌, ◌++◌, ℕ, List, [], ◌∷◌, true, false, inl, inr, refl}
 use Rattle.std.proofs.Common.{ap, arith, drop, length, Bor}
+use Rattle.std.specs.Prelude.{max}
+use Rattle.pgn_game.specs.Public.LineGames.{LineGame}
+use Rattle.pgn_extract.specs.Public.Aims.{Aim}
+use Rattle.pgn_extract.specs.Public.LineListing.{aim_in, line_id, listed_items}
 use Rattle.pgn_extract.specs.Public.Listing.{line_field}
 use Rattle.std.specs.Prelude.{bytes_eq, codes, decimal, Option, Some, None, ◌==◌}
 use Rattle.std.specs.List.{slice_get}
@@ -304,3 +308,27 @@ not_empty word (is, some, own, bad) = some refl
 too_many_first : (before : List (List ℕ)) → length before ≡ 64
     → IsWrongAfter before [] err.Empty → ⊥
 too_many_first before many (few, is) = absurd (omega (arith, many, few))
+
+-- ---- lines of games
+
+-- a variation for the fifth move of its game
+abbrev late : LineGame
+late = record {
+  inside = true;
+  before = codes "e4" ∷ codes "e5" ∷ codes "Nf3" ∷ codes "Nc6" ∷ [];
+  own = MoveText (codes "Bc4") ∷ [];
+}
+
+third_line : line_id 3 late ≡ record { number = 3; from = 4 }
+third_line = refl
+
+-- its entries begin with its own first ply
+own_entries : (aim : Aim) → aim.min_ply ≡ 2 → (aim_in aim 3 late).min_ply ≡ 5
+own_entries aim is = ap (λ least. max least 5) is
+
+-- the main line is the game's, a variation its own
+of_main_line : listed_items 0 [] (VariationOpen ∷ []) ≡ []
+of_main_line = refl
+
+of_variation : listed_items 3 [] (VariationOpen ∷ []) ≡ VariationOpen ∷ []
+of_variation = refl
