@@ -349,7 +349,7 @@ tail_like coded (star ∷ more) cross file rank long starred takes on up castle 
       λ so. refl,
     )
 
--- a star at the end stands for what is put behind
+-- a star at the end stands for what is put after it
 star_back : (front x y : List ℕ) → IsLike (front ++ 42 ∷ []) x
     → IsLike (front ++ 42 ∷ []) (x ++ y)
 star_back [] x y like = inl (refl, (x ++ y, [], sym (append-nil (x ++ y)), refl))
