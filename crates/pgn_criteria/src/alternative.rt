@@ -416,7 +416,7 @@ impl Alternative {
 
     /// Whether none of the conditions speaks of positions.
     pub(crate) fn is_free_of_positions(&self) -> bool
-        ensures { IsTrue result → self.now.positions ≡ [] }
+        ensures { IsTrue result ↔ (self.now.positions ≡ []) }
     {
         self.plain.conditions.is_empty()
     }

@@ -326,6 +326,10 @@ third_line = refl
 own_entries : (aim : Aim) → aim.min_ply ≡ 2 → (aim_in aim 3 late).min_ply ≡ 5
 own_entries aim is = ap (λ least. max least 5) is
 
+-- or with the least ply that is asked for, where that comes later
+later_entries : (aim : Aim) → aim.min_ply ≡ 9 → (aim_in aim 3 late).min_ply ≡ 9
+later_entries aim is = ap (λ least. max least 5) is
+
 -- the main line is the game's, a variation its own
 of_main_line : listed_items 0 [] (VariationOpen ∷ []) ≡ []
 of_main_line = refl

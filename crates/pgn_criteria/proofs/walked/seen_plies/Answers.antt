@@ -6,7 +6,7 @@ use Rattle.pgn_criteria.proofs.walked.seen_plies.Goals as goal
 
 pub returns-then-is_free_of_positions : goal.returns-then-is_free_of_positions
 returns-then-is_free_of_positions c =
-    let none = c.is_free_of_positions.ensures c.if-is_free_of_positions.true in
+    let none = c.is_free_of_positions.ensures.0 c.if-is_free_of_positions.true in
     rw none (all_fit c.args.start.now c.args.plies.now _
     (c.in_ok-vec.ensures.items_if_clones_equal (λ y same. same)))
 
